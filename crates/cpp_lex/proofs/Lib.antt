@@ -1,0 +1,13 @@
+pub mod Fronts
+pub mod Ends
+pub mod Joins
+pub mod Readings
+pub mod Values
+pub mod Laws
+pub mod IntEnds
+pub mod NumberLemmas
+pub mod QuotedEnds
+pub mod PunctEnds
+pub mod LineStarts
+pub mod PieceLemmas
+pub mod TokenLists

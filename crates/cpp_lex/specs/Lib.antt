@@ -1,0 +1,12 @@
+pub mod Bytes
+pub mod Numbers
+pub mod Words
+pub mod Ints
+pub mod Quoted
+pub mod Puncts
+pub mod Skipped
+pub mod Readings
+pub mod Kinds
+pub mod Pieces
+pub mod Tokens
+pub mod Growth

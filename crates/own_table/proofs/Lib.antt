@@ -1,0 +1,4 @@
+pub mod Sets
+pub mod Heaps
+pub mod Lists
+pub mod Tables

@@ -1,0 +1,5 @@
+pub mod Bits
+pub mod Records
+pub mod Words
+pub mod Stripes
+pub mod Table

@@ -1,0 +1,56 @@
+//! The words that one thread holds, of which the least is taken out first.
+ghost use Rattle.std.specs.Prelude.{◌≡◌, ◌==◌, ◌+◌, ◌<◌, ◌≤◌, ℕ, if◌then◌else◌, IfNone, IfSome, IfOk, OnOk};
+ghost use Rattle.std.specs.BinaryHeap.{IsHeap, heap_items, heap_len, heap_capacity};
+ghost use Rattle.std.proofs.Props.{props};
+ghost use Rattle.own_table.specs.Words.{by_least, times_in};
+
+use std::alloc::{AllocError, Global};
+use std::cmp::Reverse;
+use std::collections::BinaryHeap;
+
+/// A heap of words.
+#[derive(Drop)]
+pub(crate) struct HeldWords {
+    pub(crate) words: BinaryHeap<Reverse<u64>>,
+    ghost ordered: { IsHeap by_least (heap_items words) } by { Prim.hlevel props },
+}
+
+impl HeldWords {
+    pub(crate) fn new(alloc: Global) -> HeldWords
+        ensures { (w : ℕ) → times_in (heap_items result.words) w ≡ 0 }
+    {
+        HeldWords {
+            words: BinaryHeap::new(alloc),
+        }
+    }
+
+    /// Makes room for one word more.
+    pub(crate) fn reserve(&mut self) -> Result<(), AllocError>
+        ensures same { heap_items self.new.words ≡ heap_items self.old.words }
+        ensures room { OnOk result (heap_len self.new.words < heap_capacity self.new.words) }
+    {
+        self.words.reserve(1)
+    }
+
+    pub(crate) fn add(&mut self, word: u64)
+        requires room { heap_len self.old.words < heap_capacity self.old.words }
+        ensures { (w : ℕ) → times_in (heap_items self.new.words) w
+            ≡ times_in (heap_items self.old.words) w + (if word == w then 1 else 0) }
+    {
+        let _ = self.words.push(Reverse(word));
+    }
+
+    /// Takes out the least word.
+    pub(crate) fn take_least(&mut self) -> Option<u64>
+        ensures none { IfNone result ((w : ℕ) → times_in (heap_items self.old.words) w ≡ 0) }
+        ensures same { IfNone result (heap_items self.new.words ≡ heap_items self.old.words) }
+        ensures one { IfSome result (λ word. (w : ℕ) → times_in (heap_items self.old.words) w
+            ≡ times_in (heap_items self.new.words) w + (if word == w then 1 else 0)) }
+        ensures least { IfSome result (λ word. (w : ℕ) → w < word → times_in (heap_items self.old.words) w ≡ 0) }
+    {
+        let Some(Reverse(word)) = self.words.pop() else {
+            return None;
+        };
+        Some(word)
+    }
+}

@@ -1,0 +1,18 @@
+//! Which thread holds which word of memory, for reading or for writing.
+//!
+//! A thread takes the words that its transaction accesses and releases them one by one, the least first. All that a
+//! caller sees of a table is a relation of thread, word and mode: `hold_of` of `specs/Table.antt`.
+#![tactic(auto)]
+
+mod bits;
+mod held;
+pub mod hold;
+mod stripe;
+mod stripes;
+mod table;
+#[cfg(test)]
+mod tests;
+mod words;
+
+pub use hold::{HoldRec, Mode};
+pub use table::Holders;

@@ -1,0 +1,10 @@
+pub mod Words
+pub mod Bytes
+pub mod Runs
+pub mod Local
+pub mod Reaching
+pub mod Unique
+pub mod Lift
+pub mod Worlds
+pub mod Compose
+pub mod Agree

@@ -1,0 +1,5 @@
+use Rattle.tx_events.proofs.Worlds.{commits}
+use Rattle.tx_events.proofs.examples.a_block_commits.Goals as goal
+
+pub returns : goal.returns
+returns c = commits

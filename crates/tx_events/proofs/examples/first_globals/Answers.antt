@@ -1,0 +1,5 @@
+use Rattle.tx_events.proofs.Worlds.{globals}
+use Rattle.tx_events.proofs.examples.first_globals.Goals as goal
+
+pub returns : goal.returns
+returns c = globals

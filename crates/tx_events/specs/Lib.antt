@@ -1,0 +1,10 @@
+pub mod Thread
+pub mod Memory
+pub mod Alone
+pub mod World
+pub mod Same
+pub mod Simulation
+pub mod Laws
+pub mod Script
+pub mod ScriptLaws
+pub mod Examples

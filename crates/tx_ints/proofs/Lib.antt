@@ -1,0 +1,10 @@
+pub mod Modulo
+pub mod Masks
+pub mod Values
+pub mod Products
+pub mod Quotients
+pub mod Shifts
+pub mod Bits
+pub mod ConversionLaws
+pub mod WordLaws
+pub mod OperatorLaws

@@ -1,0 +1,3 @@
+pub mod BitParts
+pub mod Slots
+pub mod Memories

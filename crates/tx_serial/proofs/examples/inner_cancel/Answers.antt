@@ -1,0 +1,5 @@
+use Rattle.tx_serial.proofs.Worked.{inner_cancelled_is}
+use Rattle.tx_serial.proofs.examples.inner_cancel.Goals as goal
+
+pub returns : goal.returns
+returns c = inner_cancelled_is

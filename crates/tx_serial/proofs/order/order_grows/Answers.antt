@@ -1,0 +1,5 @@
+use Rattle.tx_serial.proofs.Grows.{order_grows}
+use Rattle.tx_serial.proofs.order.order_grows.Goals as goal
+
+pub returns : goal.returns
+returns g c = λ p answer t m l goes. order_grows g.A.Actor.thread p answer t m l goes

@@ -1,0 +1,5 @@
+use Rattle.tx_serial.proofs.Picks.{again}
+use Rattle.tx_serial.proofs.runs.equal_replay.Goals as goal
+
+pub returns : goal.returns
+returns g c = λ p bound first answer recorded picked result. again g.A.Actor.thread p bound first answer recorded picked result

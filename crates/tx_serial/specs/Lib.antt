@@ -1,0 +1,12 @@
+pub mod Machine
+pub mod Turn
+pub mod Shows
+pub mod Sound
+pub mod Kinds
+pub mod Examples
+pub mod Run
+pub mod Circle
+pub mod Order
+pub mod Trace
+pub mod Laws
+pub mod Bound

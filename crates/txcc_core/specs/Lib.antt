@@ -1,0 +1,11 @@
+pub mod Syntax
+pub mod Grammar
+pub mod Found
+pub mod SourceRun
+pub mod Below
+pub mod Code
+pub mod Machine
+pub mod Words
+pub mod Report
+pub mod TopCall
+pub mod Writes

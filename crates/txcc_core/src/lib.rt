@@ -1,0 +1,21 @@
+//! The compiler, the machine and the top call of txcc, for programs of assignments, output and atomic blocks.
+#![tactic(auto)]
+
+mod answer;
+mod code;
+mod emit;
+mod laws;
+mod machine;
+mod names;
+mod parser;
+mod report;
+mod terms;
+#[cfg(test)]
+mod tests;
+mod top;
+mod tree;
+mod words;
+
+pub use answer::{Answer, End, Ran, Refusal, Status, Trap};
+pub use laws::{one_form, one_replay, one_tree};
+pub use top::txcc;

@@ -1,0 +1,4 @@
+mod IndexLists
+mod Lists
+mod Places
+mod PutBack

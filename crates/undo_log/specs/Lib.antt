@@ -1,0 +1,4 @@
+pub mod Index
+pub mod IndexView
+pub mod Notes
+pub mod View
