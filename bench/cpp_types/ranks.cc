@@ -21,6 +21,23 @@ CONVERTS(C*, const A*); REFUSES(A*, C*); CONVERTS(const C&, C); CONVERTS(C&, B);
 CONVERTS(int&, int&); CONVERTS(int&, const volatile int&); REFUSES(const int&, int&); REFUSES(volatile int&, const int&);
 REFUSES(int, int&); CONVERTS(int, const int&); REFUSES(int, const volatile int&); CONVERTS(int&, const long&); REFUSES(int&, long&);
 CONVERTS(int (&)[3], const int (&)[3]); REFUSES(int (&)[3], int (&)[4]); CONVERTS(C&, A&); CONVERTS(C, const A&); REFUSES(C, A&);
+// each rank once more with an example and a counterexample
+CONVERTS(char, int); CONVERTS(signed char, int); CONVERTS(unsigned char, int); CONVERTS(short, int);
+CONVERTS(char, unsigned); CONVERTS(long, int); CONVERTS(int, bool); CONVERTS(E, bool); REFUSES(S, bool);
+CONVERTS(int, int); CONVERTS(decltype(nullptr), decltype(nullptr)); CONVERTS(E, E);
+CONVERTS(int*, volatile int*); REFUSES(volatile int*, const int*); REFUSES(int*, long*);
+CONVERTS(F*, F*); CONVERTS(decltype(nullptr), F*); REFUSES(bool, int*);
+CONVERTS(B*, A*); REFUSES(const B*, A*); REFUSES(A&, C&);
+CONVERTS(F&, F&); CONVERTS(int (&)[3], const int*); CONVERTS(int (&)[4][3], int (*)[3]); REFUSES(int (&)[4][3], int**); CONVERTS(int (&)[3], bool);
+CONVERTS(int*&, const int* const&); REFUSES(int*&, const int*&);
+void zero(F*); void check() { zero(0); }
+// classes of lambdas that capture, so that none becomes a pointer to a function
+int one, two; auto of(int n) { return [n] { return n; }; } auto with(int n) { return [n] { return n + 1; }; }
+using L = decltype(of(1)); using M = decltype(with(1));
+CONVERTS(L&, L); CONVERTS(L&, const L&); CONVERTS(L, const L&); REFUSES(L, L&); REFUSES(L, M); REFUSES(L, int); REFUSES(L, A); CONVERTS(L*, const L*); REFUSES(L*, M*);
+// an exception as a class of its own for each type
+template <class T> struct X { T value; };
+CONVERTS(X<int>&, X<int>); CONVERTS(X<int>, const X<int>&); CONVERTS(X<int>&, X<int>&); REFUSES(const X<int>&, X<int>&); REFUSES(X<int>, X<long>); REFUSES(X<int>, int); REFUSES(X<C>&, const X<A>&);
 // which overload is chosen: 1 for the first, 2 for the second, 0 for neither
 template <int N> struct Is { char c[N]; };
 #define CHOICE(NAME, P, Q) Is<1> NAME(P); Is<2> NAME(Q)

@@ -1,0 +1,4 @@
+pub mod Examples
+pub mod Frames
+pub mod Layout
+pub mod Measured

@@ -1,0 +1,19 @@
+//! Where things lie in memory: sizes, offsets and addresses.
+#![tactic(auto)]
+
+pub mod addresses;
+mod alignments;
+pub mod extents;
+pub mod frames;
+pub mod laws;
+mod measures;
+pub mod objects;
+mod pointers;
+mod rows;
+#[cfg(test)]
+mod tests;
+
+pub use addresses::{fn_addr, vtable_addr};
+pub use extents::SizeAlign;
+pub use frames::{FrameFault, FrameRec, frame};
+pub use objects::{TooLarge, offset, size_align};
