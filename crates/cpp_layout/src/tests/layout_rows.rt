@@ -9,14 +9,7 @@ use std::test::Fail;
 
 // A class's base, whether it has a virtual function, and its members; its size, its alignment and
 // the offsets of its members. The size is 0 where the class is too large.
-type Row = (
-    Option<u32>,
-    bool,
-    [&'static [u8]; 3],
-    u32,
-    u32,
-    [u32; 3],
-);
+type Row = (Option<u32>, bool, [&'static [u8]; 3], u32, u32, [u32; 3]);
 
 static ROWS: [Row; 23] = [
     // A

@@ -42,8 +42,17 @@ fn nested_classes_are_measured_at_once(rt: HostRuntime) -> Result<(), Fail> {
         size: 1_048_576,
         align: 1,
     };
-    assert_eq!(rt; measure(&plain(Shape::Class(10)), &classes), Some(Ok(greatest)));
-    assert_eq!(rt; measure(&plain(Shape::Class(11)), &classes), Some(Err(TooLarge)));
-    assert_eq!(rt; measure(&plain(Shape::Class(40)), &classes), Some(Err(TooLarge)));
+    assert_eq!(rt;
+        measure(&plain(Shape::Class(10)), &classes),
+        Some(Ok(greatest))
+    );
+    assert_eq!(rt;
+        measure(&plain(Shape::Class(11)), &classes),
+        Some(Err(TooLarge))
+    );
+    assert_eq!(rt;
+        measure(&plain(Shape::Class(40)), &classes),
+        Some(Err(TooLarge))
+    );
     Ok(())
 }
