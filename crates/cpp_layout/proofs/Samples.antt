@@ -1,11 +1,11 @@
 -- What the tests' own questions say of a list of classes.
-use Rattle.std.proofs.Common.{◌≡◌, ◌∙◌, ◌≤◌, ◌<◌, ◌+◌, ℕ, zero, suc, false, length, get_or, List, [], ◌∷◌, map, drop, Some, None, slice_get, ap, subst, sym}
+use Rattle.std.proofs.Common.{◌≡◌, ◌∙◌, ◌≤◌, ◌<◌, ◌+◌, ℕ, zero, suc, false, length, get_or, List, [], ◌∷◌, map, drop, Some, slice_get, ap, subst, sym}
 use Rattle.std.proofs.lemmas.List.{drop_more}
 use Rattle.std.specs.Option.{option_and_then}
 use Rattle.cpp_types.specs.declared.types.Ty.{Ty}
-use Rattle.cpp_types.specs.Typ.{Typ, typ, Form, class, typ_of, shape_form}
+use Rattle.cpp_types.specs.Typ.{Typ, typ, class, typ_of, shape_form}
 use Rattle.cpp_types.specs.Conversion.{form_of}
-use Rattle.cpp_types.specs.Class.{Class, held_form, completion_of}
+use Rattle.cpp_types.specs.Class.{Class}
 use Rattle.cpp_layout.specs.declared.extents.SizeAlign.{SizeAlign}
 use Rattle.cpp_layout.specs.Layout.{class_extent, extent_of}
 use Rattle.cpp_layout.specs.Frames.{AllComplete}
