@@ -1,0 +1,5 @@
+use Rattle.cpp_parse_expr.proofs.Paths.{Handed}
+use Rattle.cpp_parse_expr.proofs.depth.depths.Given as goal
+
+abbrev pub invariant-nodes : goal.invariant-nodes
+invariant-nodes l = Handed l.nodes l.fn.root.0 l.fn.depth l.fn.first l.id l.depths.items

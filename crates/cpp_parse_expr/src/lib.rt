@@ -1,0 +1,13 @@
+//! Reads types, declarators and expressions.
+#![tactic(auto)]
+
+mod declarators;
+mod depth;
+mod expressions;
+mod lambdas;
+mod parse;
+#[cfg(test)]
+mod tests;
+mod types;
+
+pub use parse::{BodyRange, ExprForm, ExprOut, ParseFault, parse_expr};

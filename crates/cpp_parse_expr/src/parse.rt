@@ -1,0 +1,283 @@
+//! The one call of this crate.
+
+ghost use Rattle.std.specs.Prelude.{◌≡◌, ◌≤◌, ◌<◌, ◌-◌, ◌^◌, ℕ, IfOk, None, Some, length, map, take, slice_get, slice_index};
+ghost use Rattle.cpp_syntax.specs.Source.{place_at};
+ghost use Rattle.cpp_syntax.specs.Parsed.{Parsed};
+ghost use Rattle.cpp_syntax.specs.declared.places.OpenBody.{OpenBody as OpenBodyRecord};
+ghost use Rattle.cpp_parse_expr.specs.Parse.{form_of, open_bodies, Parses, ReadsText, Measures, IsRead};
+
+use crate::declarators::{
+    declarator, function_qualifiers, parameter_clause, parameter_declaration, type_id,
+};
+use crate::depth::{depths, first_deeper, heights};
+use crate::expressions::{assignment_expression, conditional_expression, expression};
+use crate::types::type_specifier_seq;
+use cpp_ast::{At, NodeId, Nodes};
+use cpp_syntax::{Builder, Naming, OpenBody, Parts, TypeNames};
+use std::alloc::{AllocError, Global};
+use std::mem;
+use thiserror::Error;
+
+/// How many calls may be nested. Each bracket, operator before an operand and operator between operands nests one.
+const ROOM: u32 = 1_000;
+
+/// A form of the grammar that is read alone.
+#[derive(Clone, Copy, Debug, PartialEq, Eq)]
+pub enum ExprForm {
+    /// An expression with its commas.
+    Expr,
+    /// An expression without commas outside its brackets.
+    Assign,
+    /// An expression without commas and assignments outside its brackets.
+    Cond,
+    /// A type without a declarator.
+    TypeHead,
+    /// A type with a declarator that names nothing.
+    TypeId,
+    /// A declarator with a name.
+    Declarator,
+    /// A parameter.
+    Param,
+    /// Parameters with commas, without their parentheses.
+    Params,
+    /// What follows parameters.
+    Quals,
+}
+
+/// The body of a lambda, which is handed back unread.
+#[derive(Clone, Copy, Debug, PartialEq, Eq)]
+pub struct BodyRange {
+    /// The lambda.
+    pub lam: NodeId,
+    /// The depth of the lambda.
+    pub depth: u32,
+    /// The place of the first token between its braces.
+    pub from: u32,
+    /// The place of its closing brace.
+    pub to: u32,
+}
+
+/// The text of a form.
+#[derive(Debug, Drop)]
+pub struct ExprOut {
+    /// The root of its tree.
+    pub root: NodeId,
+    /// The place behind its last token.
+    pub next: u32,
+    /// The bodies of its lambdas, in the order in which the lambdas end.
+    pub bodies: Vec<BodyRange>,
+}
+
+/// Why no text was answered.
+#[derive(Debug, Drop, Error)]
+pub enum ParseFault {
+    /// No text of the form begins there; the token up to which one could go on.
+    #[error("token {token} does not go on")]
+    Syntax { token: u32 },
+    /// The text nests too deep; the token where its first node beyond the limit stands.
+    #[error("token {token} is nested too deep")]
+    Nesting { token: u32 },
+    /// No memory was left, or the text nests deeper than calls may be nested.
+    #[error("out of memory")]
+    Memory,
+}
+
+/// What a form was read as.
+#[derive(Drop)]
+enum Reading {
+    /// Its longest text.
+    Text {
+        root: NodeId,
+        next: u32,
+        bodies: Vec<OpenBody>,
+    },
+    /// There is none; the token up to which there could be one.
+    Nothing {
+        token: u32,
+    },
+}
+
+/// What is answered of a form, but for want of memory.
+#[derive(Drop)]
+enum Outcome {
+    Parsed(ExprOut),
+    Refused { token: u32 },
+    TooDeep { token: u32 },
+}
+
+/// The longest text of a form that begins at a place, whose root has a depth.
+///
+/// Its tree is that of the grammar ([`cpp_syntax`]), and its nodes are added behind those that are there. A lambda's body
+/// is any run of tokens between matching braces, and is handed back as such. After a fault the nodes are as before.
+pub fn parse_expr(
+    alloc: Global,
+    form: ExprForm,
+    from: u32,
+    types: &TypeNames,
+    depth: u32,
+    limit: u32,
+    nodes: &mut Nodes,
+) -> Result<ExprOut, ParseFault>
+    requires { from ≤ length types.now.symbols }
+    ensures { Parses types.now (form_of form) from depth limit nodes.old nodes.new result }
+{
+    let before = nodes.len();
+    match parse_text(alloc, form, from, types, depth, limit, nodes) {
+        Ok(Outcome::Parsed(out)) => Ok(out),
+        Ok(Outcome::Refused { token }) => {
+            nodes.truncate(before);
+            Err(ParseFault::Syntax { token })
+        }
+        Ok(Outcome::TooDeep { token }) => {
+            nodes.truncate(before);
+            Err(ParseFault::Nesting { token })
+        }
+        Err(_) => {
+            nodes.truncate(before);
+            Err(ParseFault::Memory)
+        }
+    }
+}
+
+/// Reads the longest text of a form, and measures it. Further nodes may be left where it fails.
+fn parse_text(
+    alloc: Global,
+    form: ExprForm,
+    from: u32,
+    types: &TypeNames,
+    depth: u32,
+    limit: u32,
+    nodes: &mut Nodes,
+) -> Result<Outcome, AllocError>
+    requires { from ≤ length types.now.symbols }
+    ensures { Measures types.now (form_of form) from depth limit nodes.old nodes.new result }
+{
+    let first = nodes.len();
+    match read_text(alloc, form, from, types, nodes)? {
+        Reading::Nothing { token } => Ok(Outcome::Refused { token }),
+        Reading::Text { root, next, bodies } => measure(
+            alloc, form, from, types, depth, limit, nodes, first, root, next, bodies,
+        ),
+    }
+}
+
+/// Reads the longest text of a form.
+fn read_text(
+    alloc: Global,
+    form: ExprForm,
+    from: u32,
+    types: &TypeNames,
+    nodes: &mut Nodes,
+) -> Result<Reading, AllocError>
+    requires { from ≤ length types.now.symbols }
+    ensures { ReadsText types.now (form_of form) from nodes.old nodes.new result }
+{
+    let len = types.len();
+    let mut out = Builder::over(alloc, mem::replace(nodes, Nodes::new(alloc)));
+    let read = read_form(form, types, from as usize, &mut out);
+    let token = out.reached().max(from as usize).min(len) as u32;
+    let Parts {
+        nodes: grown,
+        roots,
+        bodies,
+    } = out.into_parts();
+    *nodes = grown;
+    match read {
+        Ok(Some(next)) => Ok(Reading::Text {
+            root: roots[0],
+            next: next as u32,
+            bodies,
+        }),
+        Ok(None) => Ok(Reading::Nothing { token }),
+        Err(error) => Err(error),
+    }
+}
+
+/// Reads the longest text of a form into a builder.
+fn read_form(
+    form: ExprForm,
+    types: &TypeNames,
+    at: usize,
+    out: &mut Builder,
+) -> Result<Option<usize>, AllocError>
+    requires { at ≤ length types.now.symbols }
+    ensures { Parsed types.now (form_of form) at out.old out.new result }
+{
+    match form {
+        ExprForm::Expr => expression(types, at, ROOM, out),
+        ExprForm::Assign => assignment_expression(types, at, ROOM, out),
+        ExprForm::Cond => conditional_expression(types, at, ROOM, out),
+        ExprForm::TypeHead => type_specifier_seq(types, at, ROOM, out),
+        ExprForm::TypeId => type_id(types, at, ROOM, out),
+        ExprForm::Declarator => declarator(types, at, Naming::Named, ROOM, out),
+        ExprForm::Param => parameter_declaration(types, at, ROOM, out),
+        ExprForm::Params => Ok(Some(parameter_clause(types, at, ROOM, out)?)),
+        ExprForm::Quals => Ok(Some(function_qualifiers(types, at, out)?)),
+    }
+}
+
+/// Answers a text that was read, if it does not nest too deep.
+fn measure(
+    alloc: Global,
+    form: ExprForm,
+    from: u32,
+    types: &TypeNames,
+    depth: u32,
+    limit: u32,
+    nodes: &Nodes,
+    first: u32,
+    root: NodeId,
+    next: u32,
+    bodies: Vec<OpenBody>,
+) -> Result<Outcome, AllocError>
+    requires first { first ≤ length nodes.now }
+    requires read { IsRead types.now (form_of form) from (take first nodes.now) nodes.now root next bodies.items }
+    ensures { Measures types.now (form_of form) from depth limit (take first nodes.now) nodes.now result }
+{
+    let heights = heights(alloc, nodes, first)?;
+    if let Some(deep) = first_deeper(nodes, root, depth, limit, first, &heights) {
+        let token = token_at(types, nodes.node(deep).at);
+        return Ok(Outcome::TooDeep { token });
+    }
+    let depths = depths(alloc, nodes, root, depth, first)?;
+    let bodies = with_depths(alloc, &bodies, &depths, first)?;
+    Ok(Outcome::Parsed(ExprOut { root, next, bodies }))
+}
+
+/// The first token that has a place, or the number of tokens where none has.
+fn token_at(types: &TypeNames, place: At) -> u32
+    ensures inside { result ≤ length types.now.symbols }
+    ensures place { (k : ℕ) → k ≤ length types.now.symbols → place_at types.now k ≡ place → place_at types.now result ≡ place }
+{
+    'tokens: for k in 0..types.len() {
+        if types.place(k) == place {
+            return k as u32;
+        }
+    }
+    types.len() as u32
+}
+
+/// Bodies with the depths of their lambdas.
+fn with_depths(
+    alloc: Global,
+    bodies: &[OpenBody],
+    depths: &[u64],
+    first: u32,
+) -> Result<Vec<BodyRange>, AllocError>
+    requires there { (k : ℕ) (body : OpenBodyRecord) → slice_get bodies.now k ≡ Some body → (first ≤ body.lam.0) × (body.lam.0 - first < length depths.now) }
+    requires shallow { (k : ℕ) (body : OpenBodyRecord) → slice_get bodies.now k ≡ Some body → slice_index depths.now (body.lam.0 - first) < 2 ^ 32 }
+    ensures bodies { IfOk result (λ ranges. open_bodies ranges.items ≡ bodies.now) }
+    ensures depths { IfOk result (λ ranges. map (λ range. range.depth) ranges.items ≡ map (λ body. slice_index depths.now (body.lam.0 - first)) bodies.now) }
+{
+    let mut ranges = Vec::new(alloc);
+    'bodies: for body in bodies {
+        let depth = depths[(body.lam.0 - first) as usize] as u32;
+        ranges.push(BodyRange {
+            lam: body.lam,
+            depth,
+            from: body.from,
+            to: body.to,
+        })?;
+    }
+    Ok(ranges)
+}

@@ -1,0 +1,25 @@
+-- The tokens of a unit as the grammar sees them.
+use Rattle.std.specs.Prelude.{ℕ, ◌+◌, Bool, true, false, List, [], ◌∷◌, ◌&&◌, ◌||◌, codes, length, map, take, slice_get, slice_index_or, get_or, Option, Some, None, if◌then◌else◌, zero, suc}
+use Rattle.std.specs.List.{list_any}
+use Rattle.std.specs.Str.{bytes_eq}
+use Rattle.cpp_lex.specs.Tokens.{Lexeme}
+use Rattle.cpp_lex.specs.declared.TokKind.{TokKind}
+use Rattle.cpp_lex.specs.declared.TokKind.TheVariants as token
+use Rattle.cpp_ast.specs.declared.arena.At.{At}
+use Rattle.cpp_syntax.specs.declared.symbol.Symbol.{Symbol}
+use Rattle.cpp_syntax.specs.declared.symbol.Symbol.TheVariants as symbol
+
+-- The tokens of a source: what each is to the grammar, where each begins, the byte behind the last, and the number of the source.
+pub record Source : Type 0 where
+  pub number : ℕ
+  pub symbols : List Symbol
+  pub begins : List ℕ
+  pub ends : ℕ
+
+-- the symbol at a place
+abbrev pub symbol_at : Source → ℕ → Symbol
+symbol_at source a = slice_index_or source.symbols a symbol.End
+
+-- the place in the text of the token at a place, or of what is behind the last
+abbrev pub place_at : Source → ℕ → At
+place_at source a = record { source = source.number; offset = slice_index_or source.begins a source.ends }

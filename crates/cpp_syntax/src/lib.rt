@@ -1,0 +1,32 @@
+//! The grammar of a C++14 unit: its forms, what derives from each, and what readers of its texts stand on.
+//!
+//! `specs/Grammar.antt` is the grammar, `specs/Texts.antt` says what derives. `TypeNames` is what the grammar sees of the
+//! tokens of a unit and of their shapes, and `Builder` keeps the trees that a reader of texts makes.
+#![tactic(auto)]
+
+mod arena;
+mod at;
+pub mod builder;
+mod classes;
+mod groups;
+pub mod laws;
+pub mod names;
+pub mod naming;
+mod outline;
+mod parameters;
+mod partners;
+pub mod places;
+pub mod read;
+mod shaped_declarations;
+mod shaped_declarators;
+pub mod shapes;
+pub mod symbol;
+#[cfg(test)]
+mod tests;
+mod type_words;
+
+pub use builder::{Builder, Parts};
+pub use names::TypeNames;
+pub use naming::Naming;
+pub use places::{Checkpoint, DeclaredName, OpenBody};
+pub use symbol::Symbol;

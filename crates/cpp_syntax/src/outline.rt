@@ -1,0 +1,143 @@
+//! The tokens of a unit as the grammar sees them, without what takes a reading of shapes.
+
+ghost use Rattle.std.specs.Prelude.{◌≡◌, true, false, ◌≤◌, ◌<◌, ◌↔◌, ℕ, length, map, IfOk, IsTrue};
+ghost use Rattle.cpp_lex.specs.Tokens.{Lexeme, lexeme_of, lexemes_of};
+ghost use Rattle.cpp_syntax.specs.Source.{Source, symbol_at, place_at};
+ghost use Rattle.cpp_syntax.specs.Classes.{source_of, end_of};
+ghost use Rattle.cpp_syntax.specs.Symbols.{is_end};
+ghost use Rattle.cpp_syntax.specs.Balance.{IsPartner};
+
+use crate::classes::symbols;
+use crate::partners::partners;
+use crate::symbol::Symbol;
+use cpp_ast::At;
+use cpp_lex::{Token, Tokens};
+use std::alloc::{AllocError, Global};
+use std::marker::Model;
+
+/// The tokens of a unit as the grammar sees them: what each is, where it begins, and which bracket closes which.
+#[derive(Drop)]
+pub(crate) struct Outline {
+    /// The number of the source.
+    source: u32,
+    symbols: Vec<Symbol>,
+    begins: Vec<u32>,
+    ends: u32,
+    /// For each bracket that one closes the place of that one, and for each other token its own place.
+    partners: Vec<u32>,
+}
+
+impl Model for Outline {
+    ghost use Rattle.cpp_syntax.specs.Source.{Source};
+
+    ghost Value = { Source };
+
+    ghost use Rattle.cpp_syntax.specs.Balance.{IsTable};
+
+    ghost view = { λ n. record { number = n.source; symbols = n.symbols.items; begins = n.begins.items; ends = n.ends } };
+
+    ghost invariant = { λ n. IsTable n.symbols.items n.begins.items n.partners.items };
+}
+
+impl Outline {
+    /// What is kept of the tokens of a unit.
+    pub fn of(alloc: Global, source: u32, tokens: &Tokens) -> Result<Outline, AllocError>
+        requires { length tokens.now.items.items ≤ 1048576 }
+        ensures { IfOk result (λ names. names ≡ source_of source (lexemes_of tokens.now)) }
+    {
+        let items = tokens.items.as_slice();
+        let symbols = symbols(alloc, items)?;
+        let partners = partners(alloc, &symbols)?;
+        Ok(Outline {
+            source,
+            begins: begins(alloc, items)?,
+            ends: end(items),
+            symbols,
+            partners,
+        })
+    }
+
+    /// How many tokens there are.
+    pub fn len(&self) -> usize
+        ensures len { result ≡ length self.now.symbols }
+        ensures few { result ≤ 1048576 }
+    {
+        self.symbols.len()
+    }
+
+    /// Whether there are none.
+    pub fn is_empty(&self) -> bool
+        ensures { IsTrue result ↔ (length self.now.symbols ≡ 0) }
+    {
+        self.symbols.is_empty()
+    }
+
+    /// The symbol at a place, or `End` behind the last.
+    pub fn symbol(&self, at: usize) -> Symbol
+        ensures symbol { result ≡ symbol_at self.now at }
+        ensures inside { is_end result ≡ false → at < length self.now.symbols }
+        ensures few { length self.now.symbols ≤ 1048576 }
+    {
+        match self.symbols.get(at) {
+            Some(symbol) => *symbol,
+            None => Symbol::End,
+        }
+    }
+
+    /// Whether this symbol stands at a place.
+    pub fn is_at(&self, at: usize, symbol: Symbol) -> bool
+        ensures yes { result ≡ true → symbol_at self.now at ≡ symbol }
+        ensures no { result ≡ false → symbol_at self.now at ≡ symbol → ⊥ }
+        ensures inside { result ≡ true → is_end symbol ≡ false → at < length self.now.symbols }
+        ensures few { length self.now.symbols ≤ 1048576 }
+    {
+        self.symbol(at).is(symbol)
+    }
+
+    /// The place in the text of the token at a place, or of what is behind the last.
+    pub fn place(&self, at: usize) -> At
+        ensures place { result ≡ place_at self.now at }
+        ensures few { length self.now.symbols ≤ 1048576 }
+    {
+        let offset = match self.begins.get(at) {
+            Some(begin) => *begin,
+            None => self.ends,
+        };
+        At {
+            source: self.source,
+            offset,
+        }
+    }
+
+    /// The place of the bracket that closes the one at a place, with balanced tokens between. There is none where no
+    /// opening bracket stands, or none that is closed so.
+    pub fn partner(&self, at: usize) -> Option<usize>
+        ensures { IsPartner self.now.symbols at result }
+    {
+        match self.partners.get(at) {
+            Some(partner) if *partner as usize > at => Some(*partner as usize),
+            _ => None,
+        }
+    }
+}
+
+/// Where each token begins.
+fn begins(alloc: Global, tokens: &[Token]) -> Result<Vec<u32>, AllocError>
+    ensures { IfOk result (λ begins. begins.items ≡ map (λ (t : Lexeme). t.from) (map lexeme_of tokens.now)) }
+{
+    let mut begins = Vec::with_capacity(alloc, tokens.len())?;
+    for token in tokens {
+        begins.push(token.from)?;
+    }
+    Ok(begins)
+}
+
+/// The byte behind the last token, or 0.
+fn end(tokens: &[Token]) -> u32
+    ensures { result ≡ end_of (map lexeme_of tokens.now) }
+{
+    match tokens.last() {
+        Some(token) => token.to,
+        None => 0,
+    }
+}

@@ -1,0 +1,203 @@
+// What tokens are to the grammar, and trees that are built.
+
+use crate::read::{around, leaf, node, node_at_name};
+use crate::{Builder, Symbol, TypeNames};
+use cpp_ast::{At, NodeId, NodeKind, Nodes};
+use cpp_lex::lex;
+use std::test::Fail;
+
+// A name stands for a type behind the place where it becomes that, and for nothing before.
+#[test]
+fn names_become_types(rt: HostRuntime) -> Result<(), Fail> {
+    let alloc = rt.alloc();
+    let tokens = lex(
+        alloc,
+        b"T a; struct T { T b; }; enum class std { }; std::abort std.x",
+    )?;
+    assert!(rt; tokens.items.len() <= 1_048_576);
+    let types = TypeNames::of(alloc, 7, &tokens)?;
+    let symbols = [
+        Symbol::Other,
+        Symbol::Name,
+        Symbol::Semicolon,
+        Symbol::Struct,
+        Symbol::Name,
+        Symbol::OpenBrace,
+        Symbol::TypeName,
+        Symbol::Name,
+        Symbol::Semicolon,
+        Symbol::CloseBrace,
+        Symbol::Semicolon,
+        Symbol::Enum,
+        Symbol::Class,
+        Symbol::Name,
+        Symbol::OpenBrace,
+        Symbol::CloseBrace,
+        Symbol::Semicolon,
+        Symbol::TypeName,
+        Symbol::ColonColon,
+        Symbol::Abort,
+        Symbol::TypeName,
+        Symbol::Dot,
+        Symbol::Name,
+        Symbol::End,
+        Symbol::End,
+    ];
+    for at in 0..symbols.len() {
+        assert_eq!(rt; types.symbol(at), symbols[at]);
+    }
+    assert_eq!(rt; types.len(), 23);
+    assert_eq!(rt;
+        types.place(1),
+        At {
+            source: 7,
+            offset: 2
+        }
+    );
+    assert_eq!(rt;
+        types.place(23),
+        At {
+            source: 7,
+            offset: 60
+        }
+    );
+    Ok(())
+}
+
+// Each spelling that is not a name of the program.
+#[test]
+fn spellings_are_symbols(rt: HostRuntime) -> Result<(), Fail> {
+    let alloc = rt.alloc();
+    let tokens = lex(
+        alloc,
+        b"0 00 'a' \"s\" std:: std final asm ->* >>= atomic_cancel",
+    )?;
+    assert!(rt; tokens.items.len() <= 1_048_576);
+    let types = TypeNames::of(alloc, 0, &tokens)?;
+    let symbols = [
+        Symbol::Zero,
+        Symbol::Integer,
+        Symbol::Character,
+        Symbol::String,
+        Symbol::Std,
+        Symbol::ColonColon,
+        Symbol::Name,
+        Symbol::Final,
+        Symbol::Other,
+        Symbol::Other,
+        Symbol::ShiftRightEqual,
+        Symbol::AtomicCancel,
+    ];
+    for at in 0..symbols.len() {
+        assert_eq!(rt; types.symbol(at), symbols[at]);
+    }
+    Ok(())
+}
+
+// A bracket that does not close the last open one leaves all open ones without a partner.
+#[test]
+fn brackets_have_partners(rt: HostRuntime) -> Result<(), Fail> {
+    let alloc = rt.alloc();
+    let tokens = lex(alloc, b"( [ a ] { } ) ( [ ( ) ) { ] }")?;
+    assert!(rt; tokens.items.len() <= 1_048_576);
+    let types = TypeNames::of(alloc, 0, &tokens)?;
+    let partners = [
+        Some(6),
+        Some(3),
+        None,
+        None,
+        Some(5),
+        None,
+        None,
+        None,
+        None,
+        Some(10),
+        None,
+        None,
+        None,
+        None,
+        None,
+    ];
+    for at in 0..partners.len() {
+        assert_eq!(rt; types.partner(at), partners[at]);
+    }
+    Ok(())
+}
+
+fn at(offset: u32) -> At {
+    At { source: 0, offset }
+}
+
+// `a[1]`, and behind it a lambda, which is cut off again.
+#[test]
+fn trees_are_built(rt: HostRuntime) -> Result<(), Fail> {
+    let alloc = rt.alloc();
+    let mut out = Builder::over(alloc, Nodes::new(alloc));
+    let start = out.checkpoint();
+    out.leaf(NodeKind::UnqualifiedId, at(0), Some(0))?;
+    out.leaf(NodeKind::IntegerLiteral, at(2), Some(2))?;
+    assert_eq!(rt; out.first_place(start.trees, at(9)), at(0));
+    out.node(start.trees, NodeKind::Subscript, at(0), Some(1))?;
+    let mark = out.checkpoint();
+    assert_eq!(rt; mark.trees, 1);
+    out.leaf(NodeKind::LambdaIntroducer, at(7), Some(5))?;
+    out.lambda(mark.trees, at(7), 5, 8, 8)?;
+    out.cut(mark);
+    assert_eq!(rt; out.declared(0), None);
+    let parts = out.into_parts();
+    assert_eq!(rt; parts.roots.len(), 1);
+    assert_eq!(rt; parts.bodies.len(), 0);
+    Ok(())
+}
+
+// `int x[2]` as a declaration: its place is where the name begins.
+#[test]
+fn nodes_have_places(rt: HostRuntime) -> Result<(), Fail> {
+    let alloc = rt.alloc();
+    let tokens = lex(alloc, b"int x[2]")?;
+    let types = TypeNames::of(alloc, 0, &tokens)?;
+    let mut out = Builder::over(alloc, Nodes::new(alloc));
+    let start = out.checkpoint();
+    assert_eq!(rt;
+        leaf(&types, 0, NodeKind::SimpleTypeSpecifier, &mut out)?,
+        1
+    );
+    node(&types, 0, NodeKind::TypeSpecifierSeq, None, start, &mut out)?;
+    let name = out.checkpoint();
+    leaf(&types, 1, NodeKind::DeclaratorId, &mut out)?;
+    leaf(&types, 3, NodeKind::IntegerLiteral, &mut out)?;
+    around(&types, 2, NodeKind::ArrayDeclarator, 2, name, &mut out)?;
+    node_at_name(
+        &types,
+        0,
+        NodeKind::ParameterDeclaration,
+        None,
+        start,
+        &mut out,
+    )?;
+    assert_eq!(rt; out.first_place(0, at(9)), at(4));
+    Ok(())
+}
+
+// What is seen of shapes: a cast, a type in parentheses, parameters, a declaration.
+#[test]
+fn shapes_are_seen(rt: HostRuntime) -> Result<(), Fail> {
+    let alloc = rt.alloc();
+    let tokens = lex(
+        alloc,
+        b"class T; (T)-1 (x)-1 (T*)) x(T a, int) y(1) T x(a), z = (1, 2); T(x)+1;",
+    )?;
+    let types = TypeNames::of(alloc, 0, &tokens)?;
+    assert!(rt; types.sees_cast(3, 9)?);
+    assert!(rt; !types.sees_cast(8, 9)?);
+    assert!(rt; types.sees_type_in_parentheses(13, 9)?);
+    assert!(rt; !types.sees_cast(13, 9)?);
+    assert!(rt; types.sees_parameters(19));
+    assert!(rt; !types.sees_parameters(26));
+    assert!(rt; types.sees_declaration(29, 9)?);
+    assert!(rt; !types.sees_declaration(44, 9)?);
+    assert!(rt; types.begins_name(18));
+    assert_eq!(rt; types.behind_type_words(23), 24);
+    assert_eq!(rt; types.thrown_type(0), None);
+    Ok(())
+}
