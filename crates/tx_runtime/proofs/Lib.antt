@@ -1,0 +1,3 @@
+pub mod SaveLists
+pub mod Logs
+pub mod Slots

@@ -1,0 +1,7 @@
+//! Turns of modelled threads.
+#![tactic(auto)]
+
+mod engine;
+mod input;
+mod lock;
+mod thread;
