@@ -170,3 +170,10 @@ again_local state saved holders t s x y copy actor waits log e f i j =
     ap (λ z. record l { state = z; tx = OpenTx y.birth (saved y.kept) (saves_of log) }) i
     ∙ (ap (λ z. record l { state = saved copy; tx = OpenTx y.birth (saved y.kept) z }) j
     ∙ ap (λ z. record l { state = saved copy; tx = OpenTx z.birth (saved z.kept) (no_save ∷ []) }) (sym same))
+
+-- the same thread with another actor in the same state, and another log that shows the same
+pub ready_local : {A K S : Type 0} (state : A → S) (saved : K → S) (holders : Holders) (t : ℕ) (s : ThreadSlot A K) (actor : A) (log : Log) → state actor ≡ state s.actor → notes_of log ≡ notes_of s.log → marks_of log ≡ marks_of s.log
+  → local_of state saved holders t (record s { actor = actor; log = log }) ≡ local_of state saved holders t s
+ready_local state saved holders t s actor log e n m =
+    ap (λ z. record (local_of state saved holders t s) { state = z; tx = tx_of saved s.tx (saves_of log) }) e
+    ∙ ap (λ z. record (local_of state saved holders t s) { tx = tx_of saved s.tx z }) (log_same s.log log n m)

@@ -1,3 +1,5 @@
 pub mod Saves
-pub mod View
 pub mod Threads
+pub mod View
+pub mod Blocks
+pub mod Here

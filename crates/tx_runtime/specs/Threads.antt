@@ -1,10 +1,11 @@
 -- What a started thread of the runtime shows of itself.
-use Rattle.std.specs.Prelude.{ℕ, ◌≡◌, ◌<◌, Bool, true, false, ◌&&◌, ◌||◌, is_some, List, [], ◌∷◌, Option, Some, None, slice_get}
+use Rattle.std.specs.Prelude.{ℕ, ◌≡◌, ◌<◌, ◌≤◌, length, Bool, true, false, ◌&&◌, ◌||◌, is_some, List, [], ◌∷◌, Option, Some, None, slice_get}
+use Rattle.std.specs.List.{list_all}
 use Rattle.tx_events.specs.Memory.{Place, can_access}
 use Rattle.own_table.specs.declared.hold.Mode.{Mode}
 use Rattle.own_table.specs.declared.hold.Mode.TheVariants.{Read, Write}
 use Rattle.own_table.specs.declared.table.Holders.{Holders}
-use Rattle.own_table.specs.Table.{hold_of}
+use Rattle.own_table.specs.Table.{hold_of, thread_limit}
 use Rattle.undo_log.specs.Notes.{can_put_back}
 use Rattle.undo_log.specs.View.{notes_of, marks_of}
 use Rattle.tx_serial.specs.Machine.{Save, Tx, NoTx, OpenTx, GivingUp, Closing, Local, Waits, no_waits}
@@ -75,3 +76,31 @@ has_saves (Some x) = undoes x.stage
 -- each note is of a word of the memory, all notes are of a savepoint, and none is left where no transaction can be put back
 abbrev pub is_sound : {A K : Type 0} → Place → ThreadSlot A K → Bool
 is_sound p s = can_put_back p (notes_of s.log) && begins_at (notes_of s.log) (marks_of s.log) && (has_saves s.tx || is_nil (marks_of s.log))
+
+abbrev pub local_in : {A K S : Type 0} → (A → S) → (K → S) → Holders → ℕ → Option (ThreadSlot A K) → Option (Local S)
+local_in state saved holders t None = None
+local_in state saved holders t (Some s) = Some (local_of state saved holders t s)
+
+-- the started threads by their numbers
+unfoldable pub threads_of : {A K S : Type 0} → (A → S) → (K → S) → Holders → List (ThreadSlot A K) → ℕ → Option (Local S)
+threads_of state saved holders threads t = local_in state saved holders t (slice_get threads t)
+
+abbrev pub waits_in : {A K : Type 0} → Option (ThreadSlot A K) → Waits
+waits_in None = no_waits
+waits_in (Some s) = waits_of s.waits
+
+-- the waits by thread numbers
+unfoldable pub waits_by : {A K : Type 0} → List (ThreadSlot A K) → ℕ → Waits
+waits_by threads t = waits_in (slice_get threads t)
+
+-- The parts of a runtime fit together: as many threads as the table has numbers for may be started; a number without a
+-- thread holds nothing; each held word is a word of the memory; and each thread is sound.
+pub record IsWhole {A K : Type 0} (p : Place) (limit : ℕ) (holders : Holders) (threads : List (ThreadSlot A K)) : Type 0 where
+  pub fits : limit ≡ p.limit
+  pub few : limit ≤ 64
+  pub numbers : thread_limit holders ≡ limit
+  pub started : length threads ≤ limit
+  pub some : 0 < length threads
+  pub free : (u x : ℕ) → length threads ≤ u → hold_of holders u x ≡ None
+  pub words : (u x : ℕ) → held_in holders u x ≡ true → can_access p x 8 ≡ true
+  pub sound : list_all (is_sound p) threads ≡ true

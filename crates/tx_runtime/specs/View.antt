@@ -1,5 +1,5 @@
 -- The machine that a runtime shows.
-use Rattle.std.specs.Prelude.{ℕ, ◌≡◌, ◌<◌, ◌≤◌, Bool, true, false, is_some, List, Option, Some, None, slice_get, slice_index_or, length, vec_len, vec_capacity, drop}
+use Rattle.std.specs.Prelude.{ℕ, ◌≡◌, ◌<◌, ◌≤◌, Bool, true, false, is_some, List, [], ◌∷◌, ◌++◌, Option, Some, None, slice_get, length, drop}
 use Rattle.std.specs.List.{list_all}
 use Rattle.tx_events.specs.Memory.{Place, can_access}
 use Rattle.tx_events.specs.World.{Lock}
@@ -13,23 +13,7 @@ use Rattle.tx_runtime.specs.declared.thread.ThreadSlot.{ThreadSlot}
 use Rattle.tx_runtime.specs.declared.engine.Engine.{Engine}
 use Rattle.tx_runtime.specs.declared.lock.SyncLock.{SyncLock}
 use Rattle.tx_runtime.specs.declared.input.Input.{Input}
-use Rattle.tx_runtime.specs.Threads.{local_of, waits_of, is_sound}
-
-abbrev pub local_in : {A K S : Type 0} → (A → S) → (K → S) → Holders → ℕ → Option (ThreadSlot A K) → Option (Local S)
-local_in state saved holders t None = None
-local_in state saved holders t (Some s) = Some (local_of state saved holders t s)
-
--- the started threads by their numbers
-unfoldable pub threads_of : {A K S : Type 0} → (A → S) → (K → S) → Holders → List (ThreadSlot A K) → ℕ → Option (Local S)
-threads_of state saved holders threads t = local_in state saved holders t (slice_get threads t)
-
-abbrev pub waits_in : {A K : Type 0} → Option (ThreadSlot A K) → Waits
-waits_in None = no_waits
-waits_in (Some s) = waits_of s.waits
-
--- the waits by thread numbers
-unfoldable pub waits_by : {A K : Type 0} → List (ThreadSlot A K) → ℕ → Waits
-waits_by threads t = waits_in (slice_get threads t)
+use Rattle.tx_runtime.specs.Threads.{local_of, waits_of, threads_of, waits_by}
 
 abbrev pub lock_of : SyncLock → Lock
 lock_of lock = record { holder = lock.holder; depth = lock.depth }
@@ -50,3 +34,7 @@ machine_in state saved e = record {
   order = e.order.items;
   end = e.end;
 }
+
+-- what is mapped, and how many threads may be started
+abbrev pub place_in : {A K : Type 0} → Engine A K → Place
+place_in e = place_of e.memory

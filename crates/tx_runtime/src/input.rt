@@ -17,17 +17,23 @@ impl Input {
         Input { bytes, taken: 0 }
     }
 
-    /// Takes the next byte: -1 where none is left.
-    pub(crate) fn take(&mut self) -> i32
-        ensures byte { result ≡ byte_of (left_of self.old) }
-        ensures left { left_of self.new ≡ input_after (left_of self.old) }
+    /// The next byte, or -1 where none is left.
+    pub(crate) fn next(&self) -> i32
+        ensures { result ≡ byte_of (left_of self.now) }
     {
         if self.taken < self.bytes.len() {
-            let byte = self.bytes[self.taken];
-            self.taken += 1;
-            i32::from(byte)
+            i32::from(self.bytes[self.taken])
         } else {
             -1
+        }
+    }
+
+    /// Takes the next byte, if one is left.
+    pub(crate) fn advance(&mut self)
+        ensures { left_of self.new ≡ input_after (left_of self.old) }
+    {
+        if self.taken < self.bytes.len() {
+            self.taken += 1;
         }
     }
 }

@@ -1,7 +1,9 @@
 //! Turns of modelled threads.
 #![tactic(auto)]
 
+mod access;
 mod engine;
 mod input;
 mod lock;
+mod outside;
 mod thread;

@@ -141,26 +141,19 @@ impl<A: Actor> ThreadSlot<A, A::Saved> {
         ensures waits { self.new.waits ≡ self.old.waits }
         ensures sound { (p : Place) → is_sound p self.new ≡ is_sound p self.old }
         ensures room { OnOk result (A.has_room self.new.actor) }
-        ensures log { self.new.log ≡ self.old.log }
-        ensures tx { self.new.tx ≡ self.old.tx }
-        ensures ended { self.new.ended ≡ self.old.ended }
-        ensures state { A.state self.new.actor ≡ A.state self.old.actor }
     {
         self.actor.ready()
     }
 
-    /// Makes room for one note of the word or one savepoint more.
-    pub(crate) fn ready_log(&mut self, word: u64) -> Result<(), AllocError>
+    /// Makes room for one step, and for one note of the word or one savepoint more.
+    pub(crate) fn ready_to_note(&mut self, word: u64) -> Result<(), AllocError>
         ensures local { (holders : Holders) (t : ℕ) → local_of A.state A.saved_state holders t self.new ≡ local_of A.state A.saved_state holders t self.old }
         ensures waits { self.new.waits ≡ self.old.waits }
         ensures sound { (p : Place) → is_sound p self.new ≡ is_sound p self.old }
-        ensures room { OnOk result (HasRoom self.new.log) }
-        ensures marks { marks_of self.new.log ≡ marks_of self.old.log }
-        ensures actor { self.new.actor ≡ self.old.actor }
-        ensures tx { self.new.tx ≡ self.old.tx }
-        ensures ended { self.new.ended ≡ self.old.ended }
+        ensures room { OnOk result (A.has_room self.new.actor × HasRoom self.new.log) }
     {
-        self.log.reserve(word)
+        self.log.reserve(word)?;
+        self.actor.ready()
     }
 
     /// Goes on after the next event, which was answered so. Its waits are over.
@@ -175,6 +168,20 @@ impl<A: Actor> ThreadSlot<A, A::Saved> {
     {
         self.actor.take(reply);
         self.waits = WaitCount::none();
+    }
+
+    /// Goes on after `Done`: the thread has ended.
+    pub(crate) fn finish(&mut self)
+        requires room { A.has_room self.old.actor }
+        requires answers { Answers (A.thread.next (A.state self.old.actor)) Nothing }
+        ensures local { (holders : Holders) (t : ℕ) → local_of A.state A.saved_state holders t self.new
+            ≡ record (local_of A.state A.saved_state holders t self.old) {
+                state = A.thread.after (A.state self.old.actor) Nothing; ended = true } }
+        ensures waits { waits_of self.new.waits ≡ no_waits }
+        ensures sound { (p : Place) → is_sound p self.new ≡ is_sound p self.old }
+    {
+        self.go_on(Reply::Nothing);
+        self.ended = true;
     }
 
     /// Waits one turn more for the word, against that least birth.
