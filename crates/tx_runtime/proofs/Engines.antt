@@ -12,12 +12,18 @@ use Rattle.std.proofs.lemmas.Option.{slice_get_past, slice_get_read, slice_get-g
 use Rattle.tx_events.specs.Memory.{Place, can_access, update}
 use Rattle.own_table.specs.declared.table.Holders.{Holders}
 use Rattle.own_table.specs.Table.{hold_of, thread_limit}
-use Rattle.tx_serial.specs.Machine.{Machine, Local, Waits, no_waits}
-use Rattle.tx_serial.specs.Turn.{steps}
+use Rattle.tx_serial.specs.Machine.{Machine, Local, Waits, no_waits, wait_more, birth_of}
+use Rattle.tx_serial.specs.Turn.{Turned, steps, waited}
+use Rattle.tx_events.specs.declared.TurnKind.{TurnKind}
+use Rattle.tx_events.specs.declared.TurnKind.TheVariants.{Waited}
 use Rattle.tx_runtime.specs.declared.engine.Engine.{Engine}
 use Rattle.tx_runtime.specs.View.{machine_in}
 use Rattle.tx_runtime.specs.declared.thread.ThreadSlot.{ThreadSlot}
 use Rattle.tx_runtime.specs.Threads.{local_of, local_in, threads_of, waits_of, waits_in, waits_by, held_in, wrote_in, is_write, is_sound, IsWhole}
+
+-- a turn of this kind
+abbrev pub kinded : {S : Type 0} → TurnKind → Machine S → Turned S
+kinded k m = record { machine = m; kind = k }
 
 pub get_set : {X : Type 0} (xs : List X) (i : ℕ) (v : X) (t : ℕ) → i < length xs → slice_get (set xs i v) t ≡ cond (t == i) (Some v) (slice_get xs t)
 get_set {X} xs i v t h =
@@ -167,3 +173,21 @@ module _ {A K S : Type 0} (state : A → S) (saved : K → S) where
     | [] ↦ λ k. absurd (omega (arith, k))
     | x ∷ xs ↦ λ k. (local_of state saved e.holders t (get_or (x ∷ xs) t x), ap (local_in state saved e.holders t) (slice_get-get_or (x ∷ xs) t x k))
   ] h
+
+pub waits_at_slot : {A K : Type 0} (xs : List (ThreadSlot A K)) (t : ℕ) (s : ThreadSlot A K) → t < length xs → s ≡ get_or xs t s → waits_by xs t ≡ waits_of s.waits
+unfolding waits_by
+waits_at_slot xs t s h here = ap waits_in (read_at xs t s h here)
+
+module _ {A K S : Type 0} (state : A → S) (saved : K → S) where
+  -- thread t waits one turn more
+  pub waited_row : (m : Machine S) (holders : Holders) (xs : List (ThreadSlot A K)) (t x b u : ℕ) (s r : ThreadSlot A K)
+    → m.threads ≡ threads_of state saved holders xs → m.waits ≡ waits_by xs → m.started ≡ length xs → t < length xs → s ≡ get_or xs t s
+    → local_of state saved holders t r ≡ local_of state saved holders t s → waits_of r.waits ≡ wait_more (waits_of s.waits) x b → b ≡ birth_of (m.threads u)
+    → ◌≡◌ {A = Turned S} (record { machine = record m { threads = threads_of state saved holders (set xs t r); waits = waits_by (set xs t r); started = length (set xs t r) }; kind = Waited x u }) (waited t m x u)
+  waited_row m holders xs t x b u s r mt mw ms h here same w least =
+      let ws = m.waits in
+      ap (kinded (Waited x u)) (changed m (threads_of state saved holders (set xs t r)) m.threads (waits_by (set xs t r)) (update ws t (wait_more (ws t) x b)) (length (set xs t r))
+        (same_thread state saved holders xs t s r h here same ∙ sym mt)
+        (one_waits xs t r (wait_more (ws t) x b) h (w ∙ ap (λ z. wait_more z x b) (sym (waits_at_slot xs t s h here) ∙ ap (λ z. z t) (sym mw))) ∙ ap (λ z. update z t (wait_more (ws t) x b)) (sym mw))
+        (length-set xs t r ∙ sym ms))
+      ∙ ap (λ z. kinded (Waited x u) (record m { waits = update ws t (wait_more (ws t) x z) })) least

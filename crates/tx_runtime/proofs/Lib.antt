@@ -4,3 +4,6 @@ pub mod Slots
 pub mod Engines
 pub mod Turned
 pub mod Rows
+pub mod Blocking
+pub mod Fits
+pub mod OutRows

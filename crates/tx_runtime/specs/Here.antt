@@ -1,5 +1,5 @@
 -- Where a thread stands that takes a turn.
-use Rattle.std.specs.Prelude.{ℕ, ◌≡◌, ◌<◌, Bool, true, false, List, Option, Some, None, slice_get}
+use Rattle.std.specs.Prelude.{ℕ, ℤ, pos, ◌≡◌, ◌<◌, Bool, true, false, List, Option, Some, None, slice_get}
 use Rattle.choosers.specs.declared.Clash.{Clash}
 use Rattle.choosers.specs.declared.Choice.{Choice}
 use Rattle.tx_events.specs.declared.Event.{Event}
@@ -7,6 +7,7 @@ use Rattle.tx_events.specs.declared.TurnKind.{TurnKind}
 use Rattle.tx_events.specs.Memory.{Place}
 use Rattle.tx_events.specs.Thread.{Thread}
 use Rattle.tx_serial.specs.Machine.{Machine, Local, Save, NoTx, OpenTx}
+use Rattle.tx_events.specs.World.{target}
 use Rattle.tx_serial.specs.Turn.{turn}
 use Rattle.undo_log.specs.View.{HasRoom}
 use Rattle.tx_runtime.specs.declared.engine.Engine.{Engine}
@@ -51,3 +52,9 @@ IsReadyToNote {A} {K} room t threads = (s : ThreadSlot A K) → slice_get thread
 -- The turn of thread t led from old to new and was of this kind, whatever the policy would have answered.
 abbrev pub Turns : {A K S : Type 0} → (A → S) → (K → S) → Thread S → ℕ → Engine A K → TurnKind → Engine A K → Type 0
 Turns state saved a t old kind new = (answer : Clash → Choice) → record { machine = machine_in state saved new; kind = kind } ≡ turn a (place_in old) answer t (machine_in state saved old)
+
+-- the thread of that number may be joined by thread t, and was started
+pub record IsJoined {S : Type 0} (t : ℕ) (id : ℤ) (m : Machine S) (n : ℕ) : Type 0 where
+  pub number : id ≡ pos n
+  pub started : n < m.started
+  pub target : target t id m.threads ≡ m.threads n

@@ -125,6 +125,16 @@ impl<A: Actor> ThreadSlot<A, A::Saved> {
         }
     }
 
+    /// Whether its transaction is open or gives up.
+    pub(crate) fn is_live(&self) -> bool
+        ensures { result ≡ has_saves self.now.tx }
+    {
+        match &self.tx {
+            Some(tx) => tx.stage != Stage::Releasing,
+            None => false,
+        }
+    }
+
     /// The birth of its transaction, or 0.
     pub(crate) fn birth(&self) -> u64
         ensures { result ≡ birth_in self.now.tx }
@@ -305,10 +315,9 @@ impl<A: Actor> ThreadSlot<A, A::Saved> {
                 state = A.thread.after (A.state self.old.actor) Nothing;
                 tx = OpenTx birth (A.thread.after (A.state self.old.actor) Nothing) (no_save ∷ []) }) }
         ensures waits { OnOk result (waits_of self.new.waits ≡ no_waits) }
-        ensures sound { OnOk result ((p : Place) → is_sound p self.new ≡ true) }
+        ensures sound { (p : Place) → is_sound p self.old ≡ true → is_sound p self.new ≡ true }
         ensures same { OnErr result ((holders : Holders) (t : ℕ) → local_of A.state A.saved_state holders t self.new ≡ local_of A.state A.saved_state holders t self.old) }
         ensures same_waits { OnErr result (self.new.waits ≡ self.old.waits) }
-        ensures same_sound { OnErr result ((p : Place) → is_sound p self.new ≡ is_sound p self.old) }
     {
         let before = self.actor.save()?;
         self.actor.take(Reply::Nothing);

@@ -1,4 +1,4 @@
-use Rattle.std.proofs.Common.{◌≡◌, ℕ, ◌<◌, ◌+◌, List, length, drop, get_or, ap, sym, ◌∙◌, add-one, drop-cons}
+use Rattle.std.proofs.Common.{arith, ◌≡◌, ℕ, ◌<◌, ◌+◌, List, length, drop, get_or, ap, sym, ◌∙◌, add-one, drop-cons}
 use Rattle.tx_events.specs.World.{input_after}
 use Rattle.tx_runtime.proofs.input.Input.advance.Goals as goal
 
@@ -6,4 +6,4 @@ one_less : (xs : List ℕ) (n : ℕ) → n < length xs → drop (n + 1) xs ≡ i
 one_less xs n h = ap (λ k. drop k xs) (add-one n) ∙ ap input_after (sym (drop-cons xs n 0 h))
 
 pub returns-then-self-len : goal.returns-then-self-len
-returns-then-self-len c = one_less c.args.self.now.bytes.items c.args.self.now.taken ?
+returns-then-self-len c = one_less c.args.self.now.bytes.items c.args.self.now.taken (omega (arith, c.if-self-len.true, c.len.ensures))
