@@ -1,25 +1,27 @@
 -- The threads after a change of one of them.
-use Rattle.std.proofs.Common.{ℕ, zero, suc, ◌≡◌, ◌==◌, ◌<◌, ◌≤◌, Bool, true, false, cond, Option, Some, None, List, [], ◌∷◌, length, get_or, refl, ap, sym, ◌∙◌, subst, inl, inr, arith}
-use Rattle.std.specs.Prelude.{slice_get, ◌&&◌, is_some, Result, Ok, Err, OnOk}
+use Rattle.std.proofs.Common.{ℕ, zero, suc, ◌≡◌, ◌==◌, ◌<◌, ◌≤◌, Bool, true, false, cond, Option, Some, None, List, [], ◌∷◌, ◌++◌, ◌+◌, length, get_or, refl, ap, sym, ◌∙◌, subst, inl, inr, arith}
+use Rattle.std.specs.Prelude.{nat_lt, slice_get, ◌&&◌, is_some, Result, Ok, Err, OnOk, OnErr}
 use Rattle.undo_log.specs.View.{HasRoom}
 use Rattle.tx_runtime.specs.Here.{IsReady, IsReadyToNote}
 use Rattle.std.specs.List.{list_all}
 use Rattle.std.proofs.Math.ListN.{set, length-set}
 use Rattle.std.proofs.Math.Path.{fun_ext}
-use Rattle.std.proofs.lemmas.Bool.{eqb-true, eqb-false, cases_lt, eq-eqb, and_parts, false≢true}
+use Rattle.std.proofs.lemmas.Bool.{eqb-true, eqb-false, cases_lt, cases_eq, eq-eqb, ne_eqb, ltb-true, lt-ltb, and_parts, false≢true}
 use Rattle.std.proofs.lemmas.List.{get_or-set_same, get_or-set_other}
+use Rattle.std.proofs.lemmas.List.Folds.{list_all-append}
 use Rattle.std.proofs.lemmas.Option.{slice_get_past, slice_get_read, slice_get-get_or, same_Some}
 use Rattle.tx_events.specs.Memory.{Place, can_access, update}
 use Rattle.own_table.specs.declared.table.Holders.{Holders}
 use Rattle.own_table.specs.Table.{hold_of, thread_limit}
 use Rattle.tx_serial.specs.Machine.{Machine, Local, Waits, no_waits, wait_more, birth_of}
-use Rattle.tx_serial.specs.Turn.{Turned, steps, waited}
+use Rattle.tx_serial.specs.Turn.{Turned, steps, waited, bare}
+use Rattle.tx_runtime.specs.Saves.{saves_of}
 use Rattle.tx_events.specs.declared.TurnKind.{TurnKind}
 use Rattle.tx_events.specs.declared.TurnKind.TheVariants.{Waited}
 use Rattle.tx_runtime.specs.declared.engine.Engine.{Engine}
 use Rattle.tx_runtime.specs.View.{machine_in}
 use Rattle.tx_runtime.specs.declared.thread.ThreadSlot.{ThreadSlot}
-use Rattle.tx_runtime.specs.Threads.{local_of, local_in, threads_of, waits_of, waits_in, waits_by, held_in, wrote_in, is_write, is_sound, IsWhole}
+use Rattle.tx_runtime.specs.Threads.{local_of, tx_of, local_in, threads_of, waits_of, waits_in, waits_by, held_in, wrote_in, is_write, is_sound, IsWhole}
 
 -- a turn of this kind
 abbrev pub kinded : {S : Type 0} → TurnKind → Machine S → Turned S
@@ -191,3 +193,96 @@ module _ {A K S : Type 0} (state : A → S) (saved : K → S) where
         (one_waits xs t r (wait_more (ws t) x b) h (w ∙ ap (λ z. wait_more z x b) (sym (waits_at_slot xs t s h here) ∙ ap (λ z. z t) (sym mw))) ∙ ap (λ z. update z t (wait_more (ws t) x b)) (sym mw))
         (length-set xs t r ∙ sym ms))
       ∙ ap (λ z. kinded (Waited x u) (record m { waits = update ws t (wait_more (ws t) x z) })) least
+
+-- a new thread at the end
+
+same_number : (u n : ℕ) → (suc u == suc n) ≡ (u == n)
+same_number u n = elim (cases_eq u n) [
+  | inl e ↦ eq-eqb (suc u) (suc n) (ap suc e) ∙ sym (eq-eqb u n e)
+  | inr d ↦ ne_eqb (suc u) (suc n) (λ e. d (omega (arith, e))) ∙ sym (ne_eqb u n d)
+]
+
+get_push : {X : Type 0} (xs : List X) (v : X) (u : ℕ) → slice_get (xs ++ v ∷ []) u ≡ cond (u == length xs) (Some v) (slice_get xs u)
+get_push [] v zero = refl
+get_push {X} [] v (suc u) = ap (λ b. cond {A = Option X} b (Some v) None) (sym (ne_eqb (suc u) 0 (λ e. absurd (omega (arith, e)))))
+get_push {X} (x ∷ xs) v zero = ap (λ b. cond {A = Option X} b (Some v) (Some x)) (sym (ne_eqb 0 (suc (length xs)) (λ e. absurd (omega (arith, e)))))
+get_push {X} (x ∷ xs) v (suc u) = get_push xs v u ∙ ap (λ b. cond {A = Option X} b (Some v) (slice_get xs u)) (sym (same_number u (length xs)))
+
+length_push : {X : Type 0} (xs : List X) (v : X) → length (xs ++ v ∷ []) ≡ length xs + 1
+length_push [] v = refl
+length_push (x ∷ xs) v = let rest = length_push xs v in omega (arith, rest)
+
+pub whole_push : {A K : Type 0} (p : Place) (limit : ℕ) (holders : Holders) (xs ys : List (ThreadSlot A K)) (s : ThreadSlot A K) → ys ≡ xs ++ s ∷ [] → IsWhole p limit holders xs → length xs < limit → is_sound p s ≡ true → IsWhole p limit holders ys
+whole_push p limit holders xs ys s e w h k =
+    let n : length ys ≡ length xs + 1 = ap length e ∙ length_push xs s in
+    record {
+      fits = w.fits;
+      few = w.few;
+      numbers = w.numbers;
+      started = omega (arith, n, h);
+      some = omega (arith, n);
+      free = λ u x l. w.free u x (omega (arith, n, l));
+      words = w.words;
+      sound = ap (list_all (is_sound p)) e ∙ (list_all-append (is_sound p) xs (s ∷ []) ∙ (ap (λ b. b && list_all (is_sound p) (s ∷ [])) w.sound ∙ ap (λ b. b && true) k));
+    }
+
+pub ready_push : {A K : Type 0} (room : A → Type 0) (xs ys : List (ThreadSlot A K)) (s : ThreadSlot A K) (t : ℕ) → ys ≡ xs ++ s ∷ [] → t < length xs → IsReady room t xs → IsReady room t ys
+ready_push room xs ys s t e h k r at =
+    k r (sym (ap (λ zs. slice_get zs t) e ∙ (get_push xs s t ∙ ap (λ b. cond b (Some s) (slice_get xs t)) (ne_eqb t (length xs) (λ q. absurd (omega (arith, q, h)))))) ∙ at)
+
+module _ {A K S : Type 0} (state : A → S) (saved : K → S) where
+  bare_local : (holders : Holders) (n : ℕ) (s : ThreadSlot A K) (child : S) → ((x : ℕ) → hold_of holders n x ≡ None) → state s.actor ≡ child → s.ended ≡ false → s.tx ≡ None → local_of state saved holders n s ≡ bare child
+  bare_local holders n s child free e f h =
+      ap (λ z. record (local_of state saved holders n s) { state = z }) e
+      ∙ (ap (λ z. record (local_of state saved holders n s) { state = child; ended = z }) f
+      ∙ (ap (λ z. record (local_of state saved holders n s) { state = child; ended = false; tx = tx_of saved z (saves_of s.log) }) h
+      ∙ (ap (λ z. record (bare child) { held = z; wrote = wrote_in holders n }) (fun_ext (λ x. ap is_some (free x)))
+      ∙ ap (λ z. record (bare child) { wrote = z }) (fun_ext (λ x. ap is_write (free x))))))
+
+  pub threads_push : (holders : Holders) (xs ys : List (ThreadSlot A K)) (s : ThreadSlot A K) (child : S) → ys ≡ xs ++ s ∷ [] → ((x : ℕ) → hold_of holders (length xs) x ≡ None) → state s.actor ≡ child → s.ended ≡ false → s.tx ≡ None
+    → threads_of state saved holders ys ≡ update (threads_of state saved holders xs) (length xs) (Some (bare child))
+  unfolding threads_of
+  threads_push holders xs ys s child q free e f h = fun_ext (λ u.
+      ap (λ zs. local_in state saved holders u (slice_get zs u)) q
+      ∙ (ap (local_in state saved holders u) (get_push xs s u)
+      ∙ elim (u == length xs) as (λ b. (u == length xs) ≡ b → local_in state saved holders u (cond b (Some s) (slice_get xs u)) ≡ cond b (Some (bare child)) (local_in state saved holders u (slice_get xs u))) [
+        | true ↦ λ k. ap (λ v. Some (local_of state saved holders v s)) (eqb-true u (length xs) k) ∙ ap Some (bare_local holders (length xs) s child free e f h)
+        | false ↦ λ k. refl
+      ] refl))
+
+pub waits_push : {A K : Type 0} (xs ys : List (ThreadSlot A K)) (s : ThreadSlot A K) → ys ≡ xs ++ s ∷ [] → waits_of s.waits ≡ no_waits → waits_by ys ≡ waits_by xs
+unfolding waits_by
+waits_push xs ys s q e = fun_ext (λ u.
+    ap (λ zs. waits_in (slice_get zs u)) q
+    ∙ (ap waits_in (get_push xs s u)
+    ∙ elim (u == length xs) as (λ b. (u == length xs) ≡ b → waits_in (cond b (Some s) (slice_get xs u)) ≡ waits_in (slice_get xs u)) [
+      | true ↦ λ k. e ∙ sym (ap (λ v. waits_in (slice_get xs v)) (eqb-true u (length xs) k) ∙ ap waits_in (slice_get_past xs (length xs) (omega arith)))
+      | false ↦ λ k. refl
+    ] refl))
+
+pub length_pushed : {X : Type 0} (xs ys : List X) (s : X) → ys ≡ xs ++ s ∷ [] → length ys ≡ length xs + 1
+length_pushed xs ys s e = ap length e ∙ length_push xs s
+
+pub not_less : (n k : ℕ) → k ≤ n → nat_lt n k ≡ false
+not_less n k h = elim (nat_lt n k) as (λ b. nat_lt n k ≡ b → b ≡ false) [
+  | true ↦ λ e. let l = ltb-true n k e in absurd (omega (arith, l, h))
+  | false ↦ λ e. refl
+] refl
+
+pub less : (n k : ℕ) → n < k → nat_lt n k ≡ true
+less n k h = lt-ltb n k h
+
+pub no_thread : {A K S : Type 0} (state : A → S) (saved : K → S) (holders : Holders) (xs : List (ThreadSlot A K)) (n : ℕ) → length xs ≤ n → threads_of state saved holders xs n ≡ None
+unfolding threads_of
+no_thread state saved holders xs n h = ap (local_in state saved holders n) (slice_get_past xs n h)
+
+pub push_at : {A K S : Type 0} (state : A → S) (saved : K → S) (holders : Holders) (xs ys : List (ThreadSlot A K)) (s : ThreadSlot A K) (t : ℕ) → ys ≡ xs ++ s ∷ [] → t < length xs → threads_of state saved holders ys t ≡ threads_of state saved holders xs t
+unfolding threads_of
+push_at state saved holders xs ys s t e h =
+    ap (λ zs. local_in state saved holders t (slice_get zs t)) e
+    ∙ (ap (local_in state saved holders t) (get_push xs s t)
+    ∙ ap (λ b. local_in state saved holders t (cond b (Some s) (slice_get xs t))) (ne_eqb t (length xs) (λ q. absurd (omega (arith, q, h)))))
+
+pub on_err : {T E P : Type 0} (r : Result T E) → P → OnErr r P
+on_err (Ok x) h = tt
+on_err (Err e) h = h

@@ -89,3 +89,10 @@ no_target {X} t (pos n) threads h = elim ((n == 0) || (n == t)) as (λ b. ((n ==
   | true ↦ λ e. refl
   | false ↦ λ e. h n refl e
 ] refl
+
+pub spawn_done : {S : Type 0} (a : Thread S) (p : Place) (t : ℕ) (m : Machine S) (l : Local S) (f n : ℕ) (x i : ℤ) (child : S) → nat_lt m.started p.limit ≡ true → i ≡ pos m.started → child ≡ a.child l.state m.started f x
+  → ran (spawns t m (record l { state = a.after l.state (Id i) }) child) ≡ out_does a p t m l (Spawn f x)
+spawn_done a p t m l f n x i child e j k =
+    ap (λ z. ran (spawns t m (record l { state = a.after l.state (Id z) }) child)) j
+    ∙ (ap (λ z. ran (spawns t m (record l { state = a.after l.state (Id (pos m.started)) }) z)) k
+    ∙ ap (λ b. cond b (ran (spawns t m (record l { state = a.after l.state (Id (pos m.started)) }) (a.child l.state m.started f x))) (halts t m (Trapped TooManyThreads))) (sym e))

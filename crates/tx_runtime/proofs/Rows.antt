@@ -1,10 +1,11 @@
 -- Machines after the steps of a row.
-use Rattle.std.proofs.Common.{ℕ, ◌≡◌, Bool, true, false, Option, Some, None, List, [], ◌∷◌, ◌++◌, refl, ap, sym, ◌∙◌}
+use Rattle.std.proofs.Common.{ℕ, ◌≡◌, Bool, true, false, Option, Some, None, List, [], ◌∷◌, ◌++◌, ◌+◌, refl, ap, sym, ◌∙◌}
 use Rattle.tx_events.specs.declared.TurnKind.TheVariants.{Ran}
 use Rattle.tx_events.specs.declared.TurnKind.{TurnKind}
 use Rattle.tx_events.specs.World.{Lock, input_after}
-use Rattle.tx_serial.specs.Machine.{Machine, Local}
-use Rattle.tx_serial.specs.Turn.{Turned, told, steps, ran}
+use Rattle.tx_serial.specs.Machine.{Machine, Local, Waits, OpenTx, no_save}
+use Rattle.tx_events.specs.Memory.{update}
+use Rattle.tx_serial.specs.Turn.{Turned, told, steps, ran, bare, spawns, begins}
 
 abbrev given : {S : Type 0} → Machine S → TurnKind → Turned S
 given m k = record { machine = m; kind = k }
@@ -32,3 +33,20 @@ pub store_row : {S : Type 0} (t : ℕ) (q m new : Machine S) (l : Local S) (orde
   → record { machine = new; kind = Ran } ≡ ran (record (told t (steps t m l)) { memory = after })
 store_row t q m new l order memory after e o f h =
     ap ran (h ∙ (ap (λ z. steps t (record q { order = z; memory = memory }) l) o ∙ (ap (λ z. steps t (record q { order = q.order ++ t ∷ []; memory = z }) l) f ∙ ap (λ z. record (told t (steps t z l)) { memory = after }) e)))
+
+pub spawn_row : {S : Type 0} (t : ℕ) (n m new : Machine S) (l : Local S) (child : S) (order : List ℕ) (threads : ℕ → Option (Local S)) (waits : ℕ → Waits) (k : ℕ)
+  → n ≡ m → order ≡ n.order ++ t ∷ [] → threads ≡ update n.threads n.started (Some (bare child)) → waits ≡ n.waits → k ≡ n.started + 1
+  → new ≡ steps t (record n { order = order; threads = threads; waits = waits; started = k }) l → ◌≡◌ {A = Turned S} (record { machine = new; kind = Ran }) (ran (spawns t m l child))
+spawn_row t n m new l child order threads waits k e o f w s h =
+    ap ran (h
+    ∙ (ap (λ z. steps t (record n { order = z; threads = threads; waits = waits; started = k }) l) o
+    ∙ (ap (λ z. steps t (record (told t n) { threads = z; waits = waits; started = k }) l) f
+    ∙ (ap (λ z. steps t (record (told t n) { threads = update n.threads n.started (Some (bare child)); waits = z; started = k }) l) w
+    ∙ (ap (λ z. steps t (record (told t n) { threads = update n.threads n.started (Some (bare child)); started = z }) l) s
+    ∙ ap (λ z. spawns t z l child) e)))))
+
+pub begin_row : {S : Type 0} (t : ℕ) (n m new : Machine S) (l : Local S) (s : S) → n ≡ m → new ≡ steps t n (record l { state = s; tx = OpenTx n.births s (no_save ∷ []) })
+  → ◌≡◌ {A = Turned S} (record { machine = record new { births = n.births + 1 }; kind = Ran }) (begins t m l s None)
+begin_row t n m new l s e h =
+    ap (λ z. ran (record z { births = n.births + 1 })) h
+    ∙ ap (λ z. ran (record (steps t z (record l { state = s; tx = OpenTx z.births s (no_save ∷ []) })) { births = z.births + 1 })) e

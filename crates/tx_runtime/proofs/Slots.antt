@@ -12,14 +12,15 @@ use Rattle.undo_log.specs.Notes
 use Rattle.undo_log.proofs.Lists.{moved_to, noted_access}
 use Rattle.undo_log.proofs.PutBack.{first_is, first_none}
 use Rattle.undo_log.specs.View.{notes_of, marks_of, newest_start, newest_notes}
-use Rattle.tx_serial.specs.Machine.{Save, OpenTx, no_save, kept_or, is_noted, oldest}
+use Rattle.tx_serial.specs.Machine.{Save, NoTx, OpenTx, no_save, kept_or, is_noted, oldest}
 use Rattle.std.proofs.lemmas.Option.{same_Some}
 use Rattle.tx_runtime.specs.declared.thread.Transaction.{Transaction}
 use Rattle.tx_runtime.specs.declared.thread.WaitCount.{WaitCount}
-use Rattle.tx_runtime.specs.declared.thread.Stage.TheVariants.{Open}
+use Rattle.tx_runtime.specs.declared.thread.Stage.{Stage}
+use Rattle.tx_runtime.specs.declared.thread.Stage.TheVariants.{Open, Undoing, Releasing}
 use Rattle.tx_runtime.specs.declared.thread.ThreadSlot.{ThreadSlot}
 use Rattle.tx_runtime.specs.Saves.{saves_by, saves_of, newest, is_nil, begins_at, IsFresh}
-use Rattle.tx_runtime.specs.Threads.{local_of, tx_of, is_sound, has_saves}
+use Rattle.tx_runtime.specs.Threads.{local_of, tx_of, tx_by, is_sound, has_saves}
 use Rattle.tx_runtime.proofs.Logs.{newest_is, oldest_is}
 
 -- the same thread with another log
@@ -177,3 +178,27 @@ pub ready_local : {A K S : Type 0} (state : A → S) (saved : K → S) (holders 
 ready_local state saved holders t s actor log e n m =
     ap (λ z. record (local_of state saved holders t s) { state = z; tx = tx_of saved s.tx (saves_of log) }) e
     ∙ ap (λ z. record (local_of state saved holders t s) { tx = tx_of saved s.tx z }) (log_same s.log log n m)
+
+-- the log of a thread without a transaction is empty
+
+nil_is : {X : Type 0} (xs : List X) → is_nil xs ≡ true → xs ≡ []
+nil_is [] h = refl
+nil_is (x ∷ xs) h = absurd (false≢true h)
+
+no_tx_by : {S : Type 0} (g : Stage) (b : ℕ) (k : S) (ss : List Save) → tx_by g b k ss ≡ NoTx → ⊥
+no_tx_by Open b k ss e = cc
+no_tx_by Undoing b k ss e = cc
+no_tx_by Releasing b k ss e = cc
+
+no_tx : {K S : Type 0} (saved : K → S) (o : Option (Transaction K)) (ss : List Save) → tx_of saved o ss ≡ NoTx → has_saves o ≡ false
+no_tx saved None ss e = refl
+no_tx saved (Some x) ss e = absurd (no_tx_by x.stage x.birth (saved x.kept) ss e)
+
+rest_nil : (b : Bool) (xs : List ℕ) → b ≡ false → (b || is_nil xs) ≡ true → xs ≡ []
+rest_nil b xs e h = nil_is xs (sym (ap (λ z. z || is_nil xs) e) ∙ h)
+
+pub idle_log : {A K S : Type 0} (saved : K → S) (p : Place) (s : ThreadSlot A K) → is_sound p s ≡ true → tx_of saved s.tx (saves_of s.log) ≡ NoTx → (notes_of s.log ≡ []) × (marks_of s.log ≡ [])
+idle_log saved p s h e =
+    let parts = sound_parts p s h in
+    let marks = rest_nil (has_saves s.tx) (marks_of s.log) (no_tx saved s.tx (saves_of s.log) e) parts.rest in
+    (nil_is (notes_of s.log) (sym (ap (begins_at (notes_of s.log)) marks) ∙ parts.begins), marks)

@@ -1,7 +1,10 @@
 //! The input of the program.
 ghost use Rattle.std.specs.Prelude.{◌≡◌, ◌≤◌, length, IfSome, IsNone};
 ghost use Rattle.tx_events.specs.World.{byte_of, input_after};
+ghost use Rattle.tx_events.specs.declared.Reply.TheVariants.{Byte};
 ghost use Rattle.tx_runtime.specs.View.{left_of};
+
+use tx_events::Reply;
 
 /// Bytes, of which the first ones are taken.
 #[derive(Drop)]
@@ -17,14 +20,16 @@ impl Input {
         Input { bytes, taken: 0 }
     }
 
-    /// The next byte, or -1 where none is left.
-    pub(crate) fn next(&self) -> i32
-        ensures { result ≡ byte_of (left_of self.now) }
+    /// What answers an `Inp`: the next byte, or -1 where none is left.
+    pub(crate) fn reply(&self) -> Reply
+        ensures { result ≡ Byte (byte_of (left_of self.now)) }
     {
         if self.taken < self.bytes.len() {
-            i32::from(self.bytes[self.taken])
+            Reply::Byte {
+                value: i32::from(self.bytes[self.taken]),
+            }
         } else {
-            -1
+            Reply::Byte { value: -1 }
         }
     }
 

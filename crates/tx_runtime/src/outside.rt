@@ -1,5 +1,5 @@
 //! The rows of a thread that has no transaction.
-ghost use Rattle.std.specs.Prelude.{◌≡◌, ℕ, ◌<◌, ◌≤◌, ◌^◌, ◌-◌, Bool, true, false, Some, None, length, IfOk, OnErr, MatchOption};
+ghost use Rattle.std.specs.Prelude.{◌≡◌, ℕ, ◌<◌, ◌≤◌, ◌^◌, ◌-◌, Bool, true, false, Some, None, length, pos, IfOk, OnErr};
 ghost use Rattle.tx_events.specs.Memory.{can_access, load, store, word_of};
 ghost use Rattle.tx_events.specs.Thread.{Answers};
 ghost use Rattle.tx_events.specs.World.{target};
@@ -200,11 +200,23 @@ impl<A: Actor> Engine<A, A::Saved> {
         ensures none { result ≡ None → target t id (machine_in A.state A.saved_state self.now).threads ≡ None }
         ensures some { (n : ℕ) → result ≡ Some n → IsJoined t id (machine_in A.state A.saved_state self.now) n }
     {
-        if id <= 0 || id >= 256 {
+        match u8::try_from(id) {
+            Ok(number) => self.joined_number(t, number),
+            Err(_) => None,
+        }
+    }
+
+    fn joined_number(&self, t: u8, number: u8) -> Option<u8>
+        ensures none { result ≡ None → target t (pos number) (machine_in A.state A.saved_state self.now).threads ≡ None }
+        ensures some { (n : ℕ) → result ≡ Some n → IsJoined t (pos number) (machine_in A.state A.saved_state self.now) n }
+    {
+        if number == 0 {
             return None;
         }
-        let number = id as u8;
-        if number != t && (number as usize) < self.threads.len() {
+        if number == t {
+            return None;
+        }
+        if (number as usize) < self.threads.len() {
             Some(number)
         } else {
             None
@@ -232,8 +244,8 @@ impl<A: Actor> Engine<A, A::Saved> {
         ensures same { OnErr result (machine_in A.state A.saved_state self.new ≡ machine_in A.state A.saved_state self.old) }
         ensures place { place_in self.new ≡ place_in self.old }
     {
-        let value = self.input.next();
-        let kind = self.step_told(t, Reply::Byte { value })?;
+        let reply = self.input.reply();
+        let kind = self.step_told(t, reply)?;
         self.input.advance();
         Ok(kind)
     }

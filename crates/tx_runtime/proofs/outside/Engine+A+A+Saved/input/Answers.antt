@@ -1,6 +1,7 @@
 use Rattle.std.proofs.Common.{ℕ, ℤ, ◌≡◌, ◌<◌, ◌++◌, ◌∷◌, [], length, ap, sym, ◌∙◌, refl, arith, Some, None, true, false, subst}
 use Rattle.std.proofs.Math.ListN.{length-set}
 use Rattle.tx_events.specs.declared.Event.TheVariants.{Silent, Load, Store, Out, Inp, Spawn, Join, BeginAtomic, BeginSync, EndSync, Done}
+use Rattle.tx_events.specs.declared.Reply.{Reply}
 use Rattle.tx_events.specs.declared.Reply.TheVariants.{Nothing, Loaded, Byte, Id}
 use Rattle.tx_events.specs.declared.TurnKind.TheVariants.{Ran}
 use Rattle.tx_events.specs.Memory.{can_access, load, word_of}
@@ -24,4 +25,4 @@ returns-clause-turned g c = λ answer. outside_row g.A.Actor.state g.A.Actor.sav
       let m = machine_in g.A.Actor.state g.A.Actor.saved_state c.args.self.now in
       let q = machine_in g.A.Actor.state g.A.Actor.saved_state c.step_told.new.self in
       with_input q c.in_ok-kind.kind _ (left_of c.advance.new.self) (c.in_ok-kind.ensures.done l at) c.advance.ensures
-      ∙ ap (λ (v : ℤ). record { machine = record (told c.args.t (steps c.args.t m (record l { state = g.A.Actor.thread.after l.state (Byte v) }))) { input = input_after m.input }; kind = Ran }) c.next-value.ensures)
+      ∙ ap (λ (v : Reply). record { machine = record (told c.args.t (steps c.args.t m (record l { state = g.A.Actor.thread.after l.state v }))) { input = input_after m.input }; kind = Ran }) c.reply-reply.ensures)

@@ -1,4 +1,4 @@
-use Rattle.std.proofs.Common.{ℕ, ℤ, ◌≡◌, ◌<◌, ◌++◌, ◌∷◌, [], length, ap, sym, ◌∙◌, refl, arith, Some, None, true, false, subst}
+use Rattle.std.proofs.Common.{ℕ, ℤ, ◌≡◌, ◌<◌, ◌^◌, ◌*◌, ◌++◌, ◌∷◌, [], length, ap, sym, ◌∙◌, refl, arith, Some, None, true, false, subst}
 use Rattle.std.proofs.Math.ListN.{length-set}
 use Rattle.tx_events.specs.declared.Event.TheVariants.{Silent, Load, Store, Out, Inp, Spawn, Join, BeginAtomic, BeginSync, EndSync, Done}
 use Rattle.tx_events.specs.declared.Reply.TheVariants.{Nothing, Loaded, Byte, Id}
@@ -32,7 +32,7 @@ pub step_told-requires-clause-answers : goal.step_told-requires-clause-answers
 step_told-requires-clause-answers g c = λ l at.
     let is = c.requires.here.1.at l at in
     let value = (loaded_some _ _ _ _ c.load.ensures.value c.in-Some.is).1 in
-    answers_at g.A.Actor.thread l.state (Load c.args.addr c.args.size c.requires.here.0) (Loaded c.in-Some.value) is.next ?
+    answers_at g.A.Actor.thread l.state (Load c.args.addr c.args.size c.requires.here.0) (Loaded c.in-Some.value) is.next (subst (λ v. v < 2 ^ (8 * c.args.size)) (sym value) (read_fits c.args.addr c.args.size (words_of c.args.self.now.memory (word_of c.args.addr))))
 
 pub returns-in-Some-blockers-clause-turned : goal.returns-in-Some-blockers-clause-turned
 returns-in-Some-blockers-clause-turned g c = λ answer. outside_row g.A.Actor.state g.A.Actor.saved_state g.A.Actor.is_reached g.A.Actor.thread c.args.self.now answer c.args.t (Load c.args.addr c.args.size c.requires.here.0) _ c.requires.here.1
