@@ -3,3 +3,4 @@ pub mod Threads
 pub mod View
 pub mod Blocks
 pub mod Here
+pub mod Standing

@@ -243,15 +243,80 @@ impl<A: Actor> ThreadSlot<A, A::Saved> {
         self.log.drop_mark(mark);
     }
 
+    /// Goes on after a `Store`, and notes what the word held before.
+    pub(crate) fn write(&mut self, word: u64, old: u64)
+        requires actor { A.has_room self.old.actor }
+        requires answers { Answers (A.thread.next (A.state self.old.actor)) Nothing }
+        requires room { HasRoom self.old.log }
+        requires live { has_saves self.old.tx ≡ true }
+        requires mark { 0 < length (marks_of self.old.log) }
+        ensures local { (holders : Holders) (t : ℕ) → local_of A.state A.saved_state holders t self.new
+            ≡ record (local_of A.state A.saved_state holders t self.old) {
+                state = A.thread.after (A.state self.old.actor) Nothing; tx = tx_of A.saved_state self.old.tx (note (saves_of self.old.log) word old) } }
+        ensures waits { waits_of self.new.waits ≡ no_waits }
+        ensures sound { (p : Place) → can_access p word 8 ≡ true → is_sound p self.old ≡ true → is_sound p self.new ≡ true }
+    {
+        self.note(word, old);
+        self.go_on(Reply::Nothing);
+    }
+
+    /// Enters an atomic block in another one.
+    pub(crate) fn enter(&mut self)
+        requires actor { A.has_room self.old.actor }
+        requires answers { Answers (A.thread.next (A.state self.old.actor)) Nothing }
+        requires room { HasRoom self.old.log }
+        requires live { has_saves self.old.tx ≡ true }
+        ensures local { (holders : Holders) (t : ℕ) → local_of A.state A.saved_state holders t self.new
+            ≡ record (local_of A.state A.saved_state holders t self.old) {
+                state = A.thread.after (A.state self.old.actor) Nothing; tx = tx_of A.saved_state self.old.tx (no_save ∷ saves_of self.old.log) } }
+        ensures waits { waits_of self.new.waits ≡ no_waits }
+        ensures sound { (p : Place) → is_sound p self.old ≡ true → is_sound p self.new ≡ true }
+    {
+        self.mark();
+        self.go_on(Reply::Nothing);
+    }
+
+    /// Leaves an atomic block that is in another one.
+    pub(crate) fn leave_inner(&mut self)
+        requires actor { A.has_room self.old.actor }
+        requires answers { Answers (A.thread.next (A.state self.old.actor)) Nothing }
+        requires marks { 1 < length (marks_of self.old.log) }
+        ensures local { (holders : Holders) (t : ℕ) → local_of A.state A.saved_state holders t self.new
+            ≡ record (local_of A.state A.saved_state holders t self.old) {
+                state = A.thread.after (A.state self.old.actor) Nothing; tx = tx_of A.saved_state self.old.tx (handed (saves_of self.old.log)) } }
+        ensures waits { waits_of self.new.waits ≡ no_waits }
+        ensures sound { (p : Place) → is_sound p self.old ≡ true → is_sound p self.new ≡ true }
+    {
+        self.drop_savepoint();
+        self.go_on(Reply::Nothing);
+    }
+
+    /// Leaves the outermost atomic block.
+    pub(crate) fn leave(&mut self, holds: bool)
+        requires actor { A.has_room self.old.actor }
+        requires answers { Answers (A.thread.next (A.state self.old.actor)) Nothing }
+        requires tx { is_some self.old.tx ≡ true }
+        ensures local { (holders : Holders) (t : ℕ) → local_of A.state A.saved_state holders t self.new
+            ≡ record (local_of A.state A.saved_state holders t self.old) {
+                state = A.thread.after (A.state self.old.actor) Nothing; tx = closed_by holds (birth_in self.old.tx) } }
+        ensures waits { waits_of self.new.waits ≡ no_waits }
+        ensures sound { (p : Place) → is_sound p self.new ≡ true }
+    {
+        self.close(holds);
+        self.go_on(Reply::Nothing);
+    }
+
     /// The outermost block has ended. What the thread holds is to be released.
     pub(crate) fn close(&mut self, holds: bool)
         requires { is_some self.old.tx ≡ true }
         ensures local { (holders : Holders) (t : ℕ) → local_of A.state A.saved_state holders t self.new
             ≡ record (local_of A.state A.saved_state holders t self.old) { tx = closed_by holds (birth_in self.old.tx) } }
+        ensures waits { waits_of self.new.waits ≡ no_waits }
         ensures sound { (p : Place) → is_sound p self.new ≡ true }
         ensures actor { self.new.actor ≡ self.old.actor }
     {
         self.log.clear();
+        self.waits = WaitCount::none();
         if holds {
             if let Some(tx) = &mut self.tx {
                 tx.stage = Stage::Releasing;

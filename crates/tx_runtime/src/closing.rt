@@ -1,0 +1,123 @@
+//! Giving up and closing: one word a turn.
+ghost use Rattle.std.specs.Prelude.{◌≡◌, ℕ, ◌<◌, List, Some, None, length, slice_get, is_some, true, IfOk, OnErr};
+ghost use Rattle.tx_runtime.specs.Here.{IsOpen, GivesUp, Closes, Turns};
+ghost use Rattle.tx_runtime.specs.Saves.{IsFresh};
+ghost use Rattle.tx_runtime.specs.Threads.{held_in};
+ghost use Rattle.tx_runtime.specs.View.{machine_in, place_in};
+ghost use Rattle.tx_runtime.specs.declared.thread.ThreadSlot.{ThreadSlot};
+ghost use Rattle.tx_runtime.specs.declared.thread.Transaction.{Transaction};
+ghost use Rattle.tx_events.specs.declared.TurnKind.TheVariants.{Rolled};
+ghost use Rattle.tx_serial.specs.Machine.{Local, Save, OpenTx};
+ghost use Rattle.tx_serial.specs.Turn.{clashes};
+ghost use Rattle.choosers.specs.declared.Choice.TheVariants.{Yield};
+
+use crate::engine::Engine;
+use crate::thread::fresh_log;
+use std::alloc::AllocError;
+use tx_events::{Actor, TurnKind};
+use undo_log::Log;
+
+/// What a thread needs to stand again after its outermost BeginAtomic.
+#[derive(Drop)]
+struct Restart<K> {
+    copy: K,
+    log: Log,
+}
+
+impl<A: Actor> Engine<A, A::Saved> {
+    /// The least word is released; where it was the last, the thread has no transaction.
+    pub(crate) fn release(&mut self, t: u8) -> TurnKind
+        requires here { Closes t (machine_in A.state A.saved_state self.old) }
+        ensures turned { Turns A.state A.saved_state A.thread t self.old result self.new }
+        ensures place { place_in self.new ≡ place_in self.old }
+    {
+        let Some(word) = self.holders.release_one(t) else {
+            return TurnKind::Idle;
+        };
+        let holds = self.holders.count(t) > 0;
+        let thread = &mut self.threads[t as usize];
+        thread.close(holds);
+        TurnKind::Released { word }
+    }
+
+    /// The least word goes back to the outermost savepoint and is released; where it was the last, the thread starts again.
+    pub(crate) fn give_back(&mut self, t: u8) -> Result<TurnKind, AllocError>
+        requires here { GivesUp t (machine_in A.state A.saved_state self.old) }
+        ensures turned { IfOk result (λ kind. Turns A.state A.saved_state A.thread t self.old kind self.new) }
+        ensures same { OnErr result (machine_in A.state A.saved_state self.new ≡ machine_in A.state A.saved_state self.old) }
+        ensures place { place_in self.new ≡ place_in self.old }
+    {
+        match self.holders.count(t) {
+            0 => Ok(TurnKind::Idle),
+            1 => self.give_back_last(t),
+            _ => Ok(self.give_back_one(t)),
+        }
+    }
+
+    /// The least of several words goes back.
+    fn give_back_one(&mut self, t: u8) -> TurnKind
+        requires here { GivesUp t (machine_in A.state A.saved_state self.old) }
+        requires more { (x y : ℕ) × ((x ≡ y → ⊥) × (held_in self.old.holders t x ≡ true) × (held_in self.old.holders t y ≡ true)) }
+        ensures turned { Turns A.state A.saved_state A.thread t self.old result self.new }
+        ensures place { place_in self.new ≡ place_in self.old }
+    {
+        let Some(word) = self.holders.release_one(t) else {
+            return TurnKind::Idle;
+        };
+        let thread = &mut self.threads[t as usize];
+        thread.undo_word(&mut self.memory, word);
+        TurnKind::Undone { word }
+    }
+
+    /// The last word goes back, and the thread starts again.
+    fn give_back_last(&mut self, t: u8) -> Result<TurnKind, AllocError>
+        requires here { GivesUp t (machine_in A.state A.saved_state self.old) }
+        requires last { (x : ℕ) × ((held_in self.old.holders t x ≡ true) × ((y : ℕ) → held_in self.old.holders t y ≡ true → y ≡ x)) }
+        ensures turned { IfOk result (λ kind. Turns A.state A.saved_state A.thread t self.old kind self.new) }
+        ensures same { OnErr result (machine_in A.state A.saved_state self.new ≡ machine_in A.state A.saved_state self.old) }
+        ensures place { place_in self.new ≡ place_in self.old }
+    {
+        let restart = self.restart(t)?;
+        let Some(word) = self.holders.release_one(t) else {
+            return Ok(TurnKind::Idle);
+        };
+        let thread = &mut self.threads[t as usize];
+        thread.undo_word(&mut self.memory, word);
+        thread.start_again(restart.copy, restart.log);
+        Ok(TurnKind::Undone { word })
+    }
+
+    /// An open transaction yields: it begins to give up, or starts again where it holds no word.
+    pub(crate) fn roll(&mut self, t: u8, word: u64, holder: u8) -> Result<TurnKind, AllocError>
+        requires started { t < length self.old.threads.items }
+        requires open { (l : Local A.State) → (machine_in A.state A.saved_state self.old).threads t ≡ Some l → IsOpen l }
+        ensures done { IfOk result (λ kind. (l : Local A.State) (b : ℕ) (k : A.State) (ss : List Save) → (machine_in A.state A.saved_state self.old).threads t ≡ Some l → l.tx ≡ OpenTx b k ss
+            → record { machine = machine_in A.state A.saved_state self.new; kind = kind } ≡ clashes (place_in self.old) Yield t (machine_in A.state A.saved_state self.old) l b k ss word holder) }
+        ensures same { OnErr result (machine_in A.state A.saved_state self.new ≡ machine_in A.state A.saved_state self.old) }
+        ensures place { place_in self.new ≡ place_in self.old }
+    {
+        if self.holders.count(t) > 0 {
+            let thread = &mut self.threads[t as usize];
+            thread.give_up();
+        } else {
+            let restart = self.restart(t)?;
+            let thread = &mut self.threads[t as usize];
+            thread.start_again(restart.copy, restart.log);
+        }
+        Ok(TurnKind::Rolled { word, holder })
+    }
+
+    /// Makes what the thread needs to start again.
+    fn restart(&self, t: u8) -> Result<Restart<A::Saved>, AllocError>
+        requires started { t < length self.now.threads.items }
+        requires tx { (s : ThreadSlot A A.Saved) → slice_get self.now.threads.items t ≡ Some s → is_some s.tx ≡ true }
+        ensures fresh { IfOk result (λ r. IsFresh r.log) }
+        ensures copy { IfOk result (λ r. (s : ThreadSlot A A.Saved) (x : Transaction A.Saved) → slice_get self.now.threads.items t ≡ Some s → s.tx ≡ Some x
+            → A.saved_state r.copy ≡ A.saved_state x.kept) }
+    {
+        let log = fresh_log(self.alloc)?;
+        let thread = &self.threads[t as usize];
+        let copy = thread.copy_kept()?;
+        Ok(Restart { copy, log })
+    }
+}

@@ -1,0 +1,225 @@
+//! The rows of a thread whose transaction is open.
+ghost use Rattle.std.specs.Prelude.{◌≡◌, ℕ, ◌<◌, Bool, true, List, Some, None, length, slice_get, IfOk, OnErr, IfSome, IfNone};
+ghost use Rattle.std.specs.Fn.{FnReturnsAt};
+ghost use Rattle.choosers.specs.Answers.{KeepsRule};
+ghost use Rattle.tx_events.specs.Memory.{can_access, load, word_of};
+ghost use Rattle.tx_events.specs.declared.BlockKind.{BlockKind};
+ghost use Rattle.tx_events.specs.declared.Event.TheVariants.{Load, Store, BeginAtomic, EndAtomic, Raise};
+ghost use Rattle.tx_events.specs.declared.BlockKind.TheVariants.{Cancel};
+ghost use Rattle.tx_events.specs.declared.Reply.TheVariants.{Nothing};
+ghost use Rattle.tx_memory.specs.View.{words_of};
+ghost use Rattle.tx_runtime.specs.Here.{GoesInside, Turns, Chosen, PassesInside, LeavesBlock, Commits};
+ghost use Rattle.tx_runtime.specs.View.{machine_in, place_in};
+ghost use Rattle.tx_runtime.specs.declared.thread.ThreadSlot.{ThreadSlot};
+ghost use Rattle.undo_log.specs.View.{marks_of};
+ghost use Rattle.tx_serial.specs.Machine.{blocker};
+
+use crate::access::word_of;
+use crate::engine::Engine;
+use choosers::policy::{Policy, Rule};
+use choosers::{Choice, Clash};
+use own_table::Mode;
+use std::alloc::AllocError;
+use tx_events::{Actor, BlockKind, End, Reply, Trap, TurnKind};
+
+impl<A: Actor> Engine<A, A::Saved> {
+    /// A step that no other thread sees, or that only nests: Silent, BeginSync or EndSync.
+    pub(crate) fn pass(&mut self, t: u8) -> Result<TurnKind, AllocError>
+        requires here { PassesInside A.is_reached A.thread t (machine_in A.state A.saved_state self.old) }
+        ensures turned { IfOk result (λ kind. Turns A.state A.saved_state A.thread t self.old kind self.new) }
+        ensures same { OnErr result (machine_in A.state A.saved_state self.new ≡ machine_in A.state A.saved_state self.old) }
+        ensures place { place_in self.new ≡ place_in self.old }
+    {
+        self.step_alone(t, Reply::Nothing)
+    }
+
+    /// A load reads, unless a transaction of another thread has stored to the word.
+    pub(crate) fn load_inside<R: Rule, F: Fn(&Clash) -> Choice>(
+        &mut self,
+        t: u8,
+        addr: u64,
+        size: u8,
+        policy: &Policy<R, F>,
+    ) -> Result<TurnKind, AllocError>
+        requires here { (vol : Bool) × GoesInside A.is_reached A.thread t (machine_in A.state A.saved_state self.old) (Load addr size vol) }
+        requires keeps { KeepsRule (F.IsAlwaysCallable policy.now.answer) (FnReturnsAt F.Fn policy.now.answer) R.allows }
+        ensures chosen { IfOk result (λ kind. Chosen A.state A.saved_state A.thread (FnReturnsAt F.Fn policy.now.answer) R.allows t self.old kind self.new) }
+        ensures same { OnErr result (machine_in A.state A.saved_state self.new ≡ machine_in A.state A.saved_state self.old) }
+        ensures place { place_in self.new ≡ place_in self.old }
+    {
+        let Some(value) = self.memory.load(addr, size) else {
+            return self.halt(t, End::Trapped(Trap::BadAddress));
+        };
+        match self.blockers(t, word_of(addr), false) {
+            Some(blockers) => self.clash(t, word_of(addr), blockers, policy),
+            None => self.read_inside(t, addr, value),
+        }
+    }
+
+    /// A load that nothing keeps off: the thread holds the word.
+    fn read_inside(&mut self, t: u8, addr: u64, value: u64) -> Result<TurnKind, AllocError>
+        requires here { (size : ℕ) × (vol : Bool) × (value ≡ load (words_of self.old.memory) addr size)
+            × (can_access (place_in self.old) addr size ≡ true) × GoesInside A.is_reached A.thread t (machine_in A.state A.saved_state self.old) (Load addr size vol) }
+        requires free { blocker t false (word_of addr) (machine_in A.state A.saved_state self.old) ≡ None }
+        ensures turned { IfOk result (λ kind. Turns A.state A.saved_state A.thread t self.old kind self.new) }
+        ensures same { OnErr result (machine_in A.state A.saved_state self.new ≡ machine_in A.state A.saved_state self.old) }
+        ensures place { place_in self.new ≡ place_in self.old }
+    {
+        self.ready(t)?;
+        self.holders.reserve(word_of(addr))?;
+        self.holders.take(word_of(addr), t, Mode::Read);
+        let thread = &mut self.threads[t as usize];
+        thread.go_on(Reply::Loaded { value });
+        Ok(TurnKind::Ran)
+    }
+
+    /// A store writes, unless a transaction of another thread holds the word.
+    pub(crate) fn store_inside<R: Rule, F: Fn(&Clash) -> Choice>(
+        &mut self,
+        t: u8,
+        addr: u64,
+        size: u8,
+        value: u64,
+        policy: &Policy<R, F>,
+    ) -> Result<TurnKind, AllocError>
+        requires here { (vol : Bool) × GoesInside A.is_reached A.thread t (machine_in A.state A.saved_state self.old) (Store addr size value vol) }
+        requires keeps { KeepsRule (F.IsAlwaysCallable policy.now.answer) (FnReturnsAt F.Fn policy.now.answer) R.allows }
+        ensures chosen { IfOk result (λ kind. Chosen A.state A.saved_state A.thread (FnReturnsAt F.Fn policy.now.answer) R.allows t self.old kind self.new) }
+        ensures same { OnErr result (machine_in A.state A.saved_state self.new ≡ machine_in A.state A.saved_state self.old) }
+        ensures place { place_in self.new ≡ place_in self.old }
+    {
+        if self.memory.load(addr, size).is_none() {
+            return self.halt(t, End::Trapped(Trap::BadAddress));
+        }
+        match self.blockers(t, word_of(addr), true) {
+            Some(blockers) => self.clash(t, word_of(addr), blockers, policy),
+            None => self.write_inside(t, addr, size, value),
+        }
+    }
+
+    /// A store that nothing keeps off: the thread holds the word, and the log keeps its bytes.
+    fn write_inside(&mut self, t: u8, addr: u64, size: u8, value: u64) -> Result<TurnKind, AllocError>
+        requires here { (vol : Bool) × GoesInside A.is_reached A.thread t (machine_in A.state A.saved_state self.old) (Store addr size value vol) }
+        requires access { can_access (place_in self.old) addr size ≡ true }
+        requires free { blocker t true (word_of addr) (machine_in A.state A.saved_state self.old) ≡ None }
+        ensures turned { IfOk result (λ kind. Turns A.state A.saved_state A.thread t self.old kind self.new) }
+        ensures same { OnErr result (machine_in A.state A.saved_state self.new ≡ machine_in A.state A.saved_state self.old) }
+        ensures place { place_in self.new ≡ place_in self.old }
+    {
+        let word = word_of(addr);
+        let Some(old) = self.memory.load(word, 8) else {
+            unreachable!()
+        };
+        self.ready_to_note(t, word)?;
+        self.holders.reserve(word)?;
+        self.holders.take(word, t, Mode::Write);
+        self.memory.store(addr, size, value);
+        let thread = &mut self.threads[t as usize];
+        thread.write(word, old);
+        Ok(TurnKind::Ran)
+    }
+
+    /// An atomic block begins in another one.
+    pub(crate) fn begin_inner(&mut self, t: u8) -> Result<TurnKind, AllocError>
+        requires here { (kind : BlockKind) × GoesInside A.is_reached A.thread t (machine_in A.state A.saved_state self.old) (BeginAtomic kind) }
+        ensures turned { IfOk result (λ kind. Turns A.state A.saved_state A.thread t self.old kind self.new) }
+        ensures same { OnErr result (machine_in A.state A.saved_state self.new ≡ machine_in A.state A.saved_state self.old) }
+        ensures place { place_in self.new ≡ place_in self.old }
+    {
+        self.ready_to_note(t, 0)?;
+        let thread = &mut self.threads[t as usize];
+        thread.enter();
+        Ok(TurnKind::Ran)
+    }
+
+    /// The innermost block ends, and what it did stays.
+    pub(crate) fn leave_block(&mut self, t: u8) -> Result<TurnKind, AllocError>
+        requires here { LeavesBlock A.is_reached A.thread t (machine_in A.state A.saved_state self.old) }
+        ensures done { IfOk result (λ kind. Commits A.state A.saved_state A.thread t self.old kind self.new) }
+        ensures same { OnErr result (machine_in A.state A.saved_state self.new ≡ machine_in A.state A.saved_state self.old) }
+        ensures place { place_in self.new ≡ place_in self.old }
+    {
+        match self.threads[t as usize].log.marks().len() {
+            0 => Ok(TurnKind::Idle),
+            1 => self.leave_outermost(t),
+            _ => self.leave_inner(t),
+        }
+    }
+
+    /// The transaction is closing, or gone where the thread holds no word.
+    fn leave_outermost(&mut self, t: u8) -> Result<TurnKind, AllocError>
+        requires here { LeavesBlock A.is_reached A.thread t (machine_in A.state A.saved_state self.old) }
+        requires marks { (s : ThreadSlot A A.Saved) → slice_get self.old.threads.items t ≡ Some s → length (marks_of s.log) ≡ 1 }
+        ensures done { IfOk result (λ kind. Commits A.state A.saved_state A.thread t self.old kind self.new) }
+        ensures same { OnErr result (machine_in A.state A.saved_state self.new ≡ machine_in A.state A.saved_state self.old) }
+        ensures place { place_in self.new ≡ place_in self.old }
+    {
+        self.ready(t)?;
+        self.order.reserve(1)?;
+        self.order.push_reserved(t);
+        let holds = self.holders.count(t) > 0;
+        let thread = &mut self.threads[t as usize];
+        thread.leave(holds);
+        Ok(TurnKind::Ran)
+    }
+
+    /// The newest savepoint is dropped, and hands its notes down.
+    fn leave_inner(&mut self, t: u8) -> Result<TurnKind, AllocError>
+        requires here { LeavesBlock A.is_reached A.thread t (machine_in A.state A.saved_state self.old) }
+        requires marks { (s : ThreadSlot A A.Saved) → slice_get self.old.threads.items t ≡ Some s → 1 < length (marks_of s.log) }
+        ensures done { IfOk result (λ kind. Commits A.state A.saved_state A.thread t self.old kind self.new) }
+        ensures same { OnErr result (machine_in A.state A.saved_state self.new ≡ machine_in A.state A.saved_state self.old) }
+        ensures place { place_in self.new ≡ place_in self.old }
+    {
+        self.ready(t)?;
+        let thread = &mut self.threads[t as usize];
+        thread.leave_inner();
+        Ok(TurnKind::Ran)
+    }
+
+    pub(crate) fn end_atomic(&mut self, t: u8) -> Result<TurnKind, AllocError>
+        requires here { GoesInside A.is_reached A.thread t (machine_in A.state A.saved_state self.old) EndAtomic }
+        ensures turned { IfOk result (λ kind. Turns A.state A.saved_state A.thread t self.old kind self.new) }
+        ensures same { OnErr result (machine_in A.state A.saved_state self.new ≡ machine_in A.state A.saved_state self.old) }
+        ensures place { place_in self.new ≡ place_in self.old }
+    {
+        self.leave_block(t)
+    }
+
+    /// An exception leaves the innermost block.
+    pub(crate) fn raise(&mut self, t: u8, kind: BlockKind, cancels: bool) -> Result<TurnKind, AllocError>
+        requires here { GoesInside A.is_reached A.thread t (machine_in A.state A.saved_state self.old) (Raise kind cancels) }
+        ensures turned { IfOk result (λ kind. Turns A.state A.saved_state A.thread t self.old kind self.new) }
+        ensures same { OnErr result (machine_in A.state A.saved_state self.new ≡ machine_in A.state A.saved_state self.old) }
+        ensures place { place_in self.new ≡ place_in self.old }
+    {
+        match kind {
+            BlockKind::NoExcept => self.halt(t, End::Abort),
+            BlockKind::Commit => self.leave_block(t),
+            BlockKind::Cancel => {
+                if cancels {
+                    self.cancel(t)
+                } else {
+                    self.halt(t, End::Abort)
+                }
+            }
+        }
+    }
+
+    /// A word of the newest savepoint goes back; where it notes none, the block is left.
+    fn cancel(&mut self, t: u8) -> Result<TurnKind, AllocError>
+        requires here { GoesInside A.is_reached A.thread t (machine_in A.state A.saved_state self.old) (Raise Cancel true) }
+        ensures turned { IfOk result (λ kind. Turns A.state A.saved_state A.thread t self.old kind self.new) }
+        ensures same { OnErr result (machine_in A.state A.saved_state self.new ≡ machine_in A.state A.saved_state self.old) }
+        ensures place { place_in self.new ≡ place_in self.old }
+    {
+        if self.threads[t as usize].log.marks().is_empty() {
+            return Ok(TurnKind::Idle);
+        }
+        let thread = &mut self.threads[t as usize];
+        match thread.undo_newest(&mut self.memory) {
+            Some(word) => Ok(TurnKind::Undone { word }),
+            None => self.leave_block(t),
+        }
+    }
+}
