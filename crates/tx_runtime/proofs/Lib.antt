@@ -7,3 +7,8 @@ pub mod Rows
 pub mod Blocking
 pub mod Fits
 pub mod OutRows
+pub mod Txs
+pub mod Holding
+pub mod InRows
+pub mod ClosingRows
+pub mod Asked

@@ -4,18 +4,18 @@ use Rattle.choosers.specs.declared.Clash.{Clash}
 use Rattle.choosers.specs.declared.Choice.{Choice}
 use Rattle.tx_events.specs.declared.Event.{Event}
 use Rattle.tx_events.specs.declared.TurnKind.TheVariants.{Idle}
-use Rattle.tx_events.specs.Memory.{Place}
+use Rattle.tx_events.specs.Memory.{Place, word_bound}
 use Rattle.tx_events.specs.Thread.{Thread, Answers}
 use Rattle.tx_events.specs.declared.Reply.{Reply}
 use Rattle.tx_runtime.specs.declared.thread.ThreadSlot.{ThreadSlot}
 use Rattle.tx_runtime.specs.Threads.{local_of}
-use Rattle.tx_serial.specs.Machine.{Machine, Local, Tx, NoTx, OpenTx, Save}
+use Rattle.tx_serial.specs.Machine.{Machine, Local, Tx, NoTx, OpenTx, GivingUp, Closing, Save, least}
 use Rattle.std.specs.Prelude.{Result, Ok, Err, IfOk}
 use Rattle.tx_runtime.specs.declared.engine.Engine.{Engine}
 use Rattle.tx_runtime.specs.View.{machine_in, place_in}
 use Rattle.tx_runtime.proofs.Engines.{started_thread, thread_at}
-use Rattle.tx_serial.specs.Turn.{Turned, stays, out_does, in_does, turn_in, turn_of, turn_at, turn}
-use Rattle.tx_runtime.specs.Here.{GoesOutside, IsOutside, GoesInside, IsInside}
+use Rattle.tx_serial.specs.Turn.{Turned, lets_go, gives_back, stays, out_does, in_does, turn_in, turn_of, turn_at, turn}
+use Rattle.tx_runtime.specs.Here.{GoesOutside, IsOutside, GoesInside, IsInside, GivesUp, Closes}
 
 module _ {S : Type 0} (a : Thread S) (p : Place) (answer : Clash → Choice) (t : ℕ) (m : Machine S) (l : Local S) where
   -- a thread that goes on
@@ -64,3 +64,23 @@ at_in state saved q m t s same h here = ap (λ z. z.threads t) (sym same) ∙ th
 
 pub answers_at : {S : Type 0} (a : Thread S) (s : S) (e : Event) (r : Reply) → a.next s ≡ e → Answers e r → Answers (a.next s) r
 answers_at a s e r next h = subst (λ v. Answers v r) (sym next) h
+
+-- the row of a thread whose transaction is closing
+pub closing_row : {A K S : Type 0} (state : A → S) (saved : K → S) (a : Thread S) (e : Engine A K) (answer : Clash → Choice) (t : ℕ) (to : Turned S)
+  → Closes t (machine_in state saved e)
+  → ((l : Local S) (b : ℕ) → (machine_in state saved e).threads t ≡ Some l → l.tx ≡ Closing b → to ≡ lets_go (place_in e) t (machine_in state saved e) l b (least l.held (word_bound (place_in e))))
+  → to ≡ turn a (place_in e) answer t (machine_in state saved e)
+closing_row state saved a e answer t to here row =
+    let there = started_thread state saved e t here.started in
+    let is = here.at there.0 there.1 in
+    row there.0 is.1.0 there.1 is.1.1 ∙ going_turn a (place_in e) answer t (machine_in state saved e) there.0 (Closing is.1.0) here.going there.1 is.0 is.1.1
+
+-- the row of a thread whose transaction gives up
+pub giving_row : {A K S : Type 0} (state : A → S) (saved : K → S) (a : Thread S) (e : Engine A K) (answer : Clash → Choice) (t : ℕ) (to : Turned S)
+  → GivesUp t (machine_in state saved e)
+  → ((l : Local S) (b : ℕ) (k : S) (ss : List Save) → (machine_in state saved e).threads t ≡ Some l → l.tx ≡ GivingUp b k ss → to ≡ gives_back (place_in e) t (machine_in state saved e) l b k ss (least l.held (word_bound (place_in e))))
+  → to ≡ turn a (place_in e) answer t (machine_in state saved e)
+giving_row state saved a e answer t to here row =
+    let there = started_thread state saved e t here.started in
+    let is = here.at there.0 there.1 in
+    row there.0 is.1.0 is.1.1 is.1.2 there.1 is.1.3 ∙ going_turn a (place_in e) answer t (machine_in state saved e) there.0 (GivingUp is.1.0 is.1.1 is.1.2) here.going there.1 is.0 is.1.3

@@ -127,11 +127,12 @@ abbrev pub Commits : {A K S : Type 0} → (A → S) → (K → S) → Thread S �
 Commits {A} {K} {S} state saved a t old kind new = (l : Local S) (b : ℕ) (k : S) (ss : List Save) → (machine_in state saved old).threads t ≡ Some l → l.tx ≡ OpenTx b k ss
   → record { machine = machine_in state saved new; kind = kind } ≡ commits (place_in old) t (machine_in state saved old) l (a.after l.state Nothing) b k ss
 
--- The turn of thread t led from old to new and was of this kind, with the policy's answer where it was asked.
-pub record Chosen {A K S : Type 0} (state : A → S) (saved : K → S) (a : Thread S) (answers : Clash → Choice → Type 0) (allows : Clash → Choice → Bool) (t : ℕ) (old : Engine A K) (kind : TurnKind) (new : Engine A K) : Type 0 where
+-- The turn of thread t led from the machine old to the machine new and was of this kind; where the policy was asked, its
+-- answer was this choice, which the rule allows.
+pub record Chosen {S : Type 0} (a : Thread S) (p : Place) (answers : Clash → Choice → Type 0) (allows : Clash → Choice → Bool) (t : ℕ) (old : Machine S) (kind : TurnKind) (new : Machine S) : Type 0 where
   pub choice : Choice
-  pub asked : (c : Clash) → Asked a (place_in old) t (machine_in state saved old) c → answers c choice × (allows c choice ≡ true)
-  pub turned : record { machine = machine_in state saved new; kind = kind } ≡ turn a (place_in old) (λ _. choice) t (machine_in state saved old)
+  pub asked : (c : Clash) → Asked a p t old c → answers c choice × (allows c choice ≡ true)
+  pub turned : record { machine = new; kind = kind } ≡ turn a p (λ _. choice) t old
 
 -- its transaction is open
 pub record IsOpen {S : Type 0} (l : Local S) : Type 0 where

@@ -4,3 +4,4 @@ pub mod View
 pub mod Blocks
 pub mod Here
 pub mod Standing
+pub mod Runtime

@@ -28,7 +28,8 @@ impl<A: Actor> Engine<A, A::Saved> {
         requires here { (e : Event) × (store : Bool) × GoesInside A.is_reached A.thread t (machine_in A.state A.saved_state self.old) e × Accesses (place_in self.old) e store word
             × BlocksBy t store word (machine_in A.state A.saved_state self.old) (Some blockers) }
         requires keeps { KeepsRule (F.IsAlwaysCallable policy.now.answer) (FnReturnsAt F.Fn policy.now.answer) R.allows }
-        ensures chosen { IfOk result (λ kind. Chosen A.state A.saved_state A.thread (FnReturnsAt F.Fn policy.now.answer) R.allows t self.old kind self.new) }
+        ensures chosen { IfOk result (λ kind. Chosen A.thread (place_in self.old) (FnReturnsAt F.Fn policy.now.answer) R.allows t
+            (machine_in A.state A.saved_state self.old) kind (machine_in A.state A.saved_state self.new)) }
         ensures same { OnErr result (machine_in A.state A.saved_state self.new ≡ machine_in A.state A.saved_state self.old) }
         ensures place { place_in self.new ≡ place_in self.old }
     {

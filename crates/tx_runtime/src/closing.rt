@@ -2,13 +2,14 @@
 ghost use Rattle.std.specs.Prelude.{◌≡◌, ℕ, ◌<◌, List, Some, None, length, slice_get, is_some, true, IfOk, OnErr};
 ghost use Rattle.tx_runtime.specs.Here.{IsOpen, GivesUp, Closes, Turns};
 ghost use Rattle.tx_runtime.specs.Saves.{IsFresh};
-ghost use Rattle.tx_runtime.specs.Threads.{held_in};
+ghost use Rattle.tx_events.specs.Memory.{word_bound};
+ghost use Rattle.tx_runtime.specs.Threads.{held_in, closed_by};
 ghost use Rattle.tx_runtime.specs.View.{machine_in, place_in};
 ghost use Rattle.tx_runtime.specs.declared.thread.ThreadSlot.{ThreadSlot};
 ghost use Rattle.tx_runtime.specs.declared.thread.Transaction.{Transaction};
 ghost use Rattle.tx_events.specs.declared.TurnKind.TheVariants.{Rolled};
-ghost use Rattle.tx_serial.specs.Machine.{Local, Save, OpenTx};
-ghost use Rattle.tx_serial.specs.Turn.{clashes};
+ghost use Rattle.tx_serial.specs.Machine.{Local, Save, Tx, OpenTx, least};
+ghost use Rattle.tx_serial.specs.Turn.{clashes, closes};
 ghost use Rattle.choosers.specs.declared.Choice.TheVariants.{Yield};
 
 use crate::engine::Engine;
@@ -34,10 +35,18 @@ impl<A: Actor> Engine<A, A::Saved> {
         let Some(word) = self.holders.release_one(t) else {
             return TurnKind::Idle;
         };
-        let holds = self.holders.count(t) > 0;
+        let holds = self.holds_words(t);
         let thread = &mut self.threads[t as usize];
         thread.close(holds);
         TurnKind::Released { word }
+    }
+
+    /// Whether the thread holds a word.
+    pub(crate) fn holds_words(&self, t: u8) -> bool
+        requires { t < length self.now.threads.items }
+        ensures { (b : ℕ) → ◌≡◌ {A = Tx A.State} (closed_by result b) (closes b (least (held_in self.now.holders t) (word_bound (place_in self.now)))) }
+    {
+        self.holders.count(t) > 0
     }
 
     /// The least word goes back to the outermost savepoint and is released; where it was the last, the thread starts again.
@@ -47,10 +56,13 @@ impl<A: Actor> Engine<A, A::Saved> {
         ensures same { OnErr result (machine_in A.state A.saved_state self.new ≡ machine_in A.state A.saved_state self.old) }
         ensures place { place_in self.new ≡ place_in self.old }
     {
-        match self.holders.count(t) {
-            0 => Ok(TurnKind::Idle),
-            1 => self.give_back_last(t),
-            _ => Ok(self.give_back_one(t)),
+        let count = self.holders.count(t);
+        if count == 0 {
+            Ok(TurnKind::Idle)
+        } else if count == 1 {
+            self.give_back_last(t)
+        } else {
+            Ok(self.give_back_one(t))
         }
     }
 
@@ -96,7 +108,7 @@ impl<A: Actor> Engine<A, A::Saved> {
         ensures same { OnErr result (machine_in A.state A.saved_state self.new ≡ machine_in A.state A.saved_state self.old) }
         ensures place { place_in self.new ≡ place_in self.old }
     {
-        if self.holders.count(t) > 0 {
+        if self.holds_words(t) {
             let thread = &mut self.threads[t as usize];
             thread.give_up();
         } else {

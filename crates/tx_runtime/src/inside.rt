@@ -1,5 +1,5 @@
 //! The rows of a thread whose transaction is open.
-ghost use Rattle.std.specs.Prelude.{◌≡◌, ℕ, ◌<◌, Bool, true, List, Some, None, length, slice_get, IfOk, OnErr, IfSome, IfNone};
+ghost use Rattle.std.specs.Prelude.{◌≡◌, ℕ, ◌<◌, Bool, true, List, Some, None, length, IfOk, OnErr};
 ghost use Rattle.std.specs.Fn.{FnReturnsAt};
 ghost use Rattle.choosers.specs.Answers.{KeepsRule};
 ghost use Rattle.tx_events.specs.Memory.{can_access, load, word_of};
@@ -10,9 +10,7 @@ ghost use Rattle.tx_events.specs.declared.Reply.TheVariants.{Nothing};
 ghost use Rattle.tx_memory.specs.View.{words_of};
 ghost use Rattle.tx_runtime.specs.Here.{GoesInside, Turns, Chosen, PassesInside, LeavesBlock, Commits};
 ghost use Rattle.tx_runtime.specs.View.{machine_in, place_in};
-ghost use Rattle.tx_runtime.specs.declared.thread.ThreadSlot.{ThreadSlot};
-ghost use Rattle.undo_log.specs.View.{marks_of};
-ghost use Rattle.tx_serial.specs.Machine.{blocker};
+ghost use Rattle.tx_serial.specs.Machine.{blocker, Local, Save, OpenTx};
 
 use crate::access::word_of;
 use crate::engine::Engine;
@@ -43,7 +41,8 @@ impl<A: Actor> Engine<A, A::Saved> {
     ) -> Result<TurnKind, AllocError>
         requires here { (vol : Bool) × GoesInside A.is_reached A.thread t (machine_in A.state A.saved_state self.old) (Load addr size vol) }
         requires keeps { KeepsRule (F.IsAlwaysCallable policy.now.answer) (FnReturnsAt F.Fn policy.now.answer) R.allows }
-        ensures chosen { IfOk result (λ kind. Chosen A.state A.saved_state A.thread (FnReturnsAt F.Fn policy.now.answer) R.allows t self.old kind self.new) }
+        ensures chosen { IfOk result (λ kind. Chosen A.thread (place_in self.old) (FnReturnsAt F.Fn policy.now.answer) R.allows t
+            (machine_in A.state A.saved_state self.old) kind (machine_in A.state A.saved_state self.new)) }
         ensures same { OnErr result (machine_in A.state A.saved_state self.new ≡ machine_in A.state A.saved_state self.old) }
         ensures place { place_in self.new ≡ place_in self.old }
     {
@@ -84,7 +83,8 @@ impl<A: Actor> Engine<A, A::Saved> {
     ) -> Result<TurnKind, AllocError>
         requires here { (vol : Bool) × GoesInside A.is_reached A.thread t (machine_in A.state A.saved_state self.old) (Store addr size value vol) }
         requires keeps { KeepsRule (F.IsAlwaysCallable policy.now.answer) (FnReturnsAt F.Fn policy.now.answer) R.allows }
-        ensures chosen { IfOk result (λ kind. Chosen A.state A.saved_state A.thread (FnReturnsAt F.Fn policy.now.answer) R.allows t self.old kind self.new) }
+        ensures chosen { IfOk result (λ kind. Chosen A.thread (place_in self.old) (FnReturnsAt F.Fn policy.now.answer) R.allows t
+            (machine_in A.state A.saved_state self.old) kind (machine_in A.state A.saved_state self.new)) }
         ensures same { OnErr result (machine_in A.state A.saved_state self.new ≡ machine_in A.state A.saved_state self.old) }
         ensures place { place_in self.new ≡ place_in self.old }
     {
@@ -139,17 +139,20 @@ impl<A: Actor> Engine<A, A::Saved> {
         ensures same { OnErr result (machine_in A.state A.saved_state self.new ≡ machine_in A.state A.saved_state self.old) }
         ensures place { place_in self.new ≡ place_in self.old }
     {
-        match self.threads[t as usize].log.marks().len() {
-            0 => Ok(TurnKind::Idle),
-            1 => self.leave_outermost(t),
-            _ => self.leave_inner(t),
+        let marks = self.threads[t as usize].log.marks().len();
+        if marks == 0 {
+            Ok(TurnKind::Idle)
+        } else if marks == 1 {
+            self.leave_outermost(t)
+        } else {
+            self.leave_inner(t)
         }
     }
 
     /// The transaction is closing, or gone where the thread holds no word.
     fn leave_outermost(&mut self, t: u8) -> Result<TurnKind, AllocError>
         requires here { LeavesBlock A.is_reached A.thread t (machine_in A.state A.saved_state self.old) }
-        requires marks { (s : ThreadSlot A A.Saved) → slice_get self.old.threads.items t ≡ Some s → length (marks_of s.log) ≡ 1 }
+        requires one { (l : Local A.State) (b : ℕ) (k : A.State) (ss : List Save) → (machine_in A.state A.saved_state self.old).threads t ≡ Some l → l.tx ≡ OpenTx b k ss → length ss ≡ 1 }
         ensures done { IfOk result (λ kind. Commits A.state A.saved_state A.thread t self.old kind self.new) }
         ensures same { OnErr result (machine_in A.state A.saved_state self.new ≡ machine_in A.state A.saved_state self.old) }
         ensures place { place_in self.new ≡ place_in self.old }
@@ -157,7 +160,7 @@ impl<A: Actor> Engine<A, A::Saved> {
         self.ready(t)?;
         self.order.reserve(1)?;
         self.order.push_reserved(t);
-        let holds = self.holders.count(t) > 0;
+        let holds = self.holds_words(t);
         let thread = &mut self.threads[t as usize];
         thread.leave(holds);
         Ok(TurnKind::Ran)
@@ -166,7 +169,7 @@ impl<A: Actor> Engine<A, A::Saved> {
     /// The newest savepoint is dropped, and hands its notes down.
     fn leave_inner(&mut self, t: u8) -> Result<TurnKind, AllocError>
         requires here { LeavesBlock A.is_reached A.thread t (machine_in A.state A.saved_state self.old) }
-        requires marks { (s : ThreadSlot A A.Saved) → slice_get self.old.threads.items t ≡ Some s → 1 < length (marks_of s.log) }
+        requires more { (l : Local A.State) (b : ℕ) (k : A.State) (ss : List Save) → (machine_in A.state A.saved_state self.old).threads t ≡ Some l → l.tx ≡ OpenTx b k ss → 1 < length ss }
         ensures done { IfOk result (λ kind. Commits A.state A.saved_state A.thread t self.old kind self.new) }
         ensures same { OnErr result (machine_in A.state A.saved_state self.new ≡ machine_in A.state A.saved_state self.old) }
         ensures place { place_in self.new ≡ place_in self.old }

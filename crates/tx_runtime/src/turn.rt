@@ -28,6 +28,17 @@ pub(crate) enum Standing {
     Releasing,
 }
 
+/// Whether the event is a load or a store.
+fn is_access(event: Event) -> bool
+    ensures { result ≡ is_access event }
+{
+    match event {
+        Event::Load { .. } => true,
+        Event::Store { .. } => true,
+        _ => false,
+    }
+}
+
 impl<A: Actor> Engine<A, A::Saved> {
     /// Where the thread stands.
     fn standing(&self, t: u8) -> Standing
@@ -49,13 +60,22 @@ impl<A: Actor> Engine<A, A::Saved> {
         }
     }
 
+    /// Whether the thread's next event is a load or store in an open transaction.
+    pub(crate) fn accesses_inside(&self, t: u8) -> bool {
+        match self.standing(t) {
+            Standing::Inside(event) => is_access(event),
+            Standing::Still | Standing::Outside(_) | Standing::Undoing | Standing::Releasing => false,
+        }
+    }
+
     /// One turn of the thread. On `AllocError` the machine is as before.
     pub(crate) fn turn<R: Rule, F: Fn(&Clash) -> Choice>(&mut self, t: u8, policy: &Policy<R, F>) -> Result<TurnKind, AllocError>
         requires going { self.old.end ≡ None }
         requires births { self.old.births < 2 ^ 64 - 1 }
         requires depth { self.old.lock.depth < 2 ^ 64 - 1 }
         requires keeps { KeepsRule (F.IsAlwaysCallable policy.now.answer) (FnReturnsAt F.Fn policy.now.answer) R.allows }
-        ensures chosen { IfOk result (λ kind. Chosen A.state A.saved_state A.thread (FnReturnsAt F.Fn policy.now.answer) R.allows t self.old kind self.new) }
+        ensures chosen { IfOk result (λ kind. Chosen A.thread (place_in self.old) (FnReturnsAt F.Fn policy.now.answer) R.allows t
+            (machine_in A.state A.saved_state self.old) kind (machine_in A.state A.saved_state self.new)) }
         ensures same { OnErr result (machine_in A.state A.saved_state self.new ≡ machine_in A.state A.saved_state self.old) }
         ensures place { place_in self.new ≡ place_in self.old }
     {
@@ -99,7 +119,8 @@ impl<A: Actor> Engine<A, A::Saved> {
     fn turn_inside<R: Rule, F: Fn(&Clash) -> Choice>(&mut self, t: u8, event: Event, policy: &Policy<R, F>) -> Result<TurnKind, AllocError>
         requires here { GoesInside A.is_reached A.thread t (machine_in A.state A.saved_state self.old) event }
         requires keeps { KeepsRule (F.IsAlwaysCallable policy.now.answer) (FnReturnsAt F.Fn policy.now.answer) R.allows }
-        ensures chosen { IfOk result (λ kind. Chosen A.state A.saved_state A.thread (FnReturnsAt F.Fn policy.now.answer) R.allows t self.old kind self.new) }
+        ensures chosen { IfOk result (λ kind. Chosen A.thread (place_in self.old) (FnReturnsAt F.Fn policy.now.answer) R.allows t
+            (machine_in A.state A.saved_state self.old) kind (machine_in A.state A.saved_state self.new)) }
         ensures same { OnErr result (machine_in A.state A.saved_state self.new ≡ machine_in A.state A.saved_state self.old) }
         ensures place { place_in self.new ≡ place_in self.old }
     {
