@@ -2,7 +2,7 @@
 use Rattle.std.proofs.Common.{ℕ, zero, suc, ◌≡◌, ◌==◌, ◌<◌, ◌≤◌, ◌+◌, ◌^◌, Bool, true, false, cond, not, Option, Some, None, List, [], ◌∷◌, get_or, length, refl, ap, sym, ◌∙◌, subst, inl, inr, arith, add-one}
 use Rattle.std.specs.Prelude.{◌&&◌, is_some, nat_lt, min, max, slice_get}
 use Rattle.std.proofs.Math.Path.{fun_ext}
-use Rattle.std.proofs.lemmas.Bool.{cases_lt, cases_Bool, ltb-true, true≢false, false≢true}
+use Rattle.std.proofs.lemmas.Bool.{cases_lt, cases_Bool, ltb-true, ne_eqb, true≢false, false≢true}
 use Rattle.std.proofs.lemmas.Option.{slice_get_past, slice_get-get_or}
 use Rattle.own_table.specs.declared.hold.Mode.{Mode}
 use Rattle.own_table.specs.declared.hold.Mode.TheVariants.{Read, Write}
@@ -17,6 +17,7 @@ use Rattle.tx_runtime.specs.declared.thread.Stage.{Stage}
 use Rattle.tx_runtime.specs.declared.thread.Stage.TheVariants.{Open, Undoing, Releasing}
 use Rattle.tx_runtime.specs.declared.access.Blockers.{Blockers}
 use Rattle.tx_runtime.specs.Saves.{saves_of}
+use Rattle.tx_serial.proofs.Search.{eldest_none}
 use Rattle.tx_runtime.proofs.Engines.{thread_at}
 use Rattle.tx_runtime.specs.Blocks.{Sums, SumsOf, NoneOf}
 use Rattle.tx_runtime.specs.Threads.{is_write, local_in, tx_of, tx_by, threads_of, birth_in, has_saves, undoes}
@@ -132,6 +133,18 @@ module _ {A K S : Type 0} (state : A → S) (saved : K → S) (holders : Holders
   keeps_is t store x bits free is = fun_ext (λ u.
       ap (λ b. not (u == t) && b) (held_slot u x (slice_get threads u) refl free store)
       ∙ (turned_and (not (u == t)) (blocks (hold_of holders u x) store) ∙ sym (is u)))
+
+  -- where no thread keeps the access off, no other thread's hold blocks it
+  pub unblocked : (t n x : ℕ) (store : Bool) (f : ℕ → ℕ) → n ≡ length threads → ((u x : ℕ) → length threads ≤ u → hold_of holders u x ≡ None)
+    → eldest (keeps_off t store x (threads_of state saved holders threads)) f n ≡ None → (u : ℕ) → (u ≡ t → ⊥) → blocks (hold_of holders u x) store ≡ false
+  unfolding threads_of
+  unblocked t n x store f e free none u d = elim (cases_lt u (length threads)) [
+    | inl l ↦
+        sym (held_slot u x (slice_get threads u) refl free store)
+        ∙ (sym (ap (λ b. not b && cond store (held_by (local_in state saved holders u (slice_get threads u)) x) (wrote_by (local_in state saved holders u (slice_get threads u)) x)) (ne_eqb u t d))
+        ∙ eldest_none (keeps_off t store x (threads_of state saved holders threads)) f n none u (omega (arith, l, e)))
+    | inr g ↦ ap (λ o. blocks o store) (free u x g)
+  ]
 
   pub birth_at : (u b : ℕ) (s : ThreadSlot A K) → u < length threads → s ≡ get_or threads u s → b ≡ birth_in s.tx → birth_of (threads_of state saved holders threads u) ≡ b
   birth_at u b s h here e = ap birth_of (thread_at state saved holders threads u s h here) ∙ (birth_is saved s.tx (saves_of s.log) ∙ sym e)

@@ -286,3 +286,15 @@ push_at state saved holders xs ys s t e h =
 pub on_err : {T E P : Type 0} (r : Result T E) → P → OnErr r P
 on_err (Ok x) h = tt
 on_err (Err e) h = h
+
+pub held_at : {A K S : Type 0} (state : A → S) (saved : K → S) (holders : Holders) (xs : List (ThreadSlot A K)) (t : ℕ) (l : Local S) → threads_of state saved holders xs t ≡ Some l → l.held ≡ held_in holders t
+unfolding threads_of
+held_at {A} {K} {S} state saved holders xs t l at = by_slot (slice_get xs t) at
+  where
+    by_slot : (o : Option (ThreadSlot A K)) → local_in state saved holders t o ≡ Some l → l.held ≡ held_in holders t
+    by_slot None e = absurd (cc)
+    by_slot (Some s) e = ap (λ (v : Local S). v.held) (sym (same_Some (local_of state saved holders t s) l e))
+
+pub at_slot : {A K S : Type 0} (state : A → S) (saved : K → S) (holders : Holders) (xs : List (ThreadSlot A K)) (t : ℕ) (s : ThreadSlot A K) → slice_get xs t ≡ Some s → threads_of state saved holders xs t ≡ Some (local_of state saved holders t s)
+unfolding threads_of
+at_slot state saved holders xs t s e = ap (local_in state saved holders t) e

@@ -1,5 +1,5 @@
 -- Holds after one was taken or released.
-use Rattle.std.proofs.Common.{ℕ, zero, suc, ◌≡◌, ◌≢◌, ◌==◌, ◌<◌, ◌≤◌, ◌+◌, ◌-◌, ◌*◌, ◌/◌, ◌%◌, Bool, true, false, cond, not, Option, Some, None, List, length, refl, ap, sym, ◌∙◌, subst, inl, inr, arith}
+use Rattle.std.proofs.Common.{ℕ, zero, suc, ◌≡◌, ◌≢◌, ◌==◌, ◌<◌, ◌≤◌, ◌+◌, ◌-◌, ◌*◌, ◌/◌, ◌%◌, Bool, true, false, cond, not, Option, Some, None, List, [], ◌∷◌, length, refl, ap, sym, ◌∙◌, subst, inl, inr, arith}
 use Rattle.std.specs.Prelude.{◌&&◌, ◌||◌, is_some}
 use Rattle.std.proofs.Math.Path.{fun_ext}
 use Rattle.std.proofs.lemmas.Bool.{cases_Bool, cases_eq, eqb-true, eqb-false, eq-eqb, ne_eqb, and_parts, true≢false, false≢true}
@@ -13,10 +13,11 @@ use Rattle.own_table.specs.declared.hold.Mode.TheVariants.{Read, Write}
 use Rattle.own_table.specs.declared.table.Holders.{Holders}
 use Rattle.own_table.specs.Records.{raised}
 use Rattle.own_table.specs.Table.{hold_of, thread_limit}
-use Rattle.tx_serial.specs.Machine.{Tx, Local, least}
+use Rattle.tx_serial.specs.Machine.{Tx, OpenTx, Local, least, no_save}
 use Rattle.tx_serial.proofs.Search.{eldest_none}
-use Rattle.tx_serial.specs.Turn.{without}
+use Rattle.tx_serial.specs.Turn.{without, again}
 use Rattle.tx_runtime.specs.declared.thread.ThreadSlot.{ThreadSlot}
+use Rattle.tx_runtime.specs.declared.thread.Transaction.{Transaction}
 use Rattle.tx_runtime.specs.Threads.{is_write, local_of, held_in, wrote_in, IsWhole}
 use Rattle.tx_runtime.proofs.Engines.{SameHolds}
 use Rattle.tx_runtime.proofs.Blocking.{first_least, no_least}
@@ -193,3 +194,15 @@ empty_held holders t none = fun_ext (λ v. ap is_some (none v))
 
 pub empty_wrote : (holders : Holders) (t : ℕ) → ((v : ℕ) → hold_of holders t v ≡ None) → wrote_in holders t ≡ (λ _. false)
 empty_wrote holders t none = fun_ext (λ v. ap is_write (none v))
+
+-- a thread that stands again after its outermost BeginAtomic, and holds nothing
+pub again_hold : {A K S : Type 0} (state : A → S) (saved : K → S) (old new : Holders) (t : ℕ) (s r : ThreadSlot A K) (x : Transaction K) (b : ℕ) (k copy : S)
+  → local_of state saved new t r ≡ record (local_of state saved new t s) { state = copy; tx = OpenTx x.birth (saved x.kept) (no_save ∷ []) }
+  → ((v : ℕ) → hold_of new t v ≡ None) → copy ≡ k → x.birth ≡ b → saved x.kept ≡ k → local_of state saved new t r ≡ again (local_of state saved old t s) b k
+again_hold state saved old new t s r x b k copy is none e f g =
+    is
+    ∙ (ap (λ z. record (local_of state saved new t s) { held = z; state = copy; tx = OpenTx x.birth (saved x.kept) (no_save ∷ []) }) (empty_held new t none)
+    ∙ (ap (λ z. record (local_of state saved new t s) { held = λ _. false; wrote = z; state = copy; tx = OpenTx x.birth (saved x.kept) (no_save ∷ []) }) (empty_wrote new t none)
+    ∙ (ap (λ z. record (local_of state saved old t s) { held = λ _. false; wrote = λ _. false; state = z; tx = OpenTx x.birth (saved x.kept) (no_save ∷ []) }) e
+    ∙ (ap (λ z. record (again (local_of state saved old t s) b k) { tx = OpenTx z (saved x.kept) (no_save ∷ []) }) f
+    ∙ ap (λ z. record (again (local_of state saved old t s) b k) { tx = OpenTx b z (no_save ∷ []) }) g))))

@@ -2,6 +2,7 @@
 ghost use Rattle.std.specs.Prelude.{◌≡◌, ℕ, ◌<◌, List, Some, None, length, slice_get, is_some, true, IfOk, OnErr};
 ghost use Rattle.tx_runtime.specs.Here.{IsOpen, GivesUp, Closes, Turns};
 ghost use Rattle.tx_runtime.specs.Saves.{IsFresh};
+ghost use Rattle.own_table.specs.Table.{hold_of};
 ghost use Rattle.tx_events.specs.Memory.{word_bound};
 ghost use Rattle.tx_runtime.specs.Threads.{held_in, closed_by};
 ghost use Rattle.tx_runtime.specs.View.{machine_in, place_in};
@@ -108,14 +109,40 @@ impl<A: Actor> Engine<A, A::Saved> {
         ensures same { OnErr result (machine_in A.state A.saved_state self.new ≡ machine_in A.state A.saved_state self.old) }
         ensures place { place_in self.new ≡ place_in self.old }
     {
-        if self.holds_words(t) {
-            let thread = &mut self.threads[t as usize];
-            thread.give_up();
+        if self.holders.count(t) == 0 {
+            self.roll_bare(t, word, holder)
         } else {
-            let restart = self.restart(t)?;
-            let thread = &mut self.threads[t as usize];
-            thread.start_again(restart.copy, restart.log);
+            Ok(self.roll_holding(t, word, holder))
         }
+    }
+
+    /// The thread holds words: its transaction begins to give up.
+    fn roll_holding(&mut self, t: u8, word: u64, holder: u8) -> TurnKind
+        requires started { t < length self.old.threads.items }
+        requires open { (l : Local A.State) → (machine_in A.state A.saved_state self.old).threads t ≡ Some l → IsOpen l }
+        requires held { (x : ℕ) × (held_in self.old.holders t x ≡ true) }
+        ensures done { (l : Local A.State) (b : ℕ) (k : A.State) (ss : List Save) → (machine_in A.state A.saved_state self.old).threads t ≡ Some l → l.tx ≡ OpenTx b k ss
+            → record { machine = machine_in A.state A.saved_state self.new; kind = result } ≡ clashes (place_in self.old) Yield t (machine_in A.state A.saved_state self.old) l b k ss word holder }
+        ensures place { place_in self.new ≡ place_in self.old }
+    {
+        let thread = &mut self.threads[t as usize];
+        thread.give_up();
+        TurnKind::Rolled { word, holder }
+    }
+
+    /// The thread holds no word: it starts again at once.
+    fn roll_bare(&mut self, t: u8, word: u64, holder: u8) -> Result<TurnKind, AllocError>
+        requires started { t < length self.old.threads.items }
+        requires open { (l : Local A.State) → (machine_in A.state A.saved_state self.old).threads t ≡ Some l → IsOpen l }
+        requires bare { (x : ℕ) → hold_of self.old.holders t x ≡ None }
+        ensures done { IfOk result (λ kind. (l : Local A.State) (b : ℕ) (k : A.State) (ss : List Save) → (machine_in A.state A.saved_state self.old).threads t ≡ Some l → l.tx ≡ OpenTx b k ss
+            → record { machine = machine_in A.state A.saved_state self.new; kind = kind } ≡ clashes (place_in self.old) Yield t (machine_in A.state A.saved_state self.old) l b k ss word holder) }
+        ensures same { OnErr result (machine_in A.state A.saved_state self.new ≡ machine_in A.state A.saved_state self.old) }
+        ensures place { place_in self.new ≡ place_in self.old }
+    {
+        let restart = self.restart(t)?;
+        let thread = &mut self.threads[t as usize];
+        thread.start_again(restart.copy, restart.log);
         Ok(TurnKind::Rolled { word, holder })
     }
 

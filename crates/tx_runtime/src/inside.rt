@@ -1,5 +1,5 @@
 //! The rows of a thread whose transaction is open.
-ghost use Rattle.std.specs.Prelude.{◌≡◌, ℕ, ◌<◌, Bool, true, List, Some, None, length, IfOk, OnErr};
+ghost use Rattle.std.specs.Prelude.{◌≡◌, ℕ, ◌<◌, Bool, true, false, List, Some, None, length, IfOk, OnErr};
 ghost use Rattle.std.specs.Fn.{FnReturnsAt};
 ghost use Rattle.choosers.specs.Answers.{KeepsRule};
 ghost use Rattle.tx_events.specs.Memory.{can_access, load, word_of};

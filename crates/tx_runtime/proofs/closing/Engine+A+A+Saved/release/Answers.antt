@@ -10,7 +10,7 @@ use Rattle.tx_serial.specs.Turn.{Turned, steps, stays, closes, without, again, g
 use Rattle.tx_runtime.specs.Saves.{saves_of}
 use Rattle.tx_runtime.specs.Threads.{local_of, threads_of, tx_of, held_in, wrote_in, closed_by, has_saves, IsWhole}
 use Rattle.tx_runtime.specs.View.{machine_in, place_in}
-use Rattle.tx_runtime.proofs.Engines.{read_at, started_thread, thread_at, stepped, same_holds, same_threads, whole_set, whole_sound, kinded}
+use Rattle.tx_runtime.proofs.Engines.{read_at, started_thread, thread_at, stepped, same_holds, same_threads, whole_set, whole_sound, kinded, held_at}
 use Rattle.tx_runtime.proofs.Holding.{others_same, released_held, released_wrote, whole_hold, least_word, none_held, some_least, hold_local, left_over, none_left, empty_held, empty_wrote, access_bound}
 use Rattle.tx_runtime.proofs.Txs.{open_parts, giving_parts, giving_with, giving_live, closing_parts, part_some, part_birth}
 use Rattle.tx_runtime.proofs.ClosingRows.{lets_none, lets_some, gives_none, gives_some, rolls_some, rolls_none}
@@ -21,8 +21,9 @@ pub returns-in_default-clause-turned : goal.returns-in_default-clause-turned
 returns-in_default-clause-turned g c = λ answer. closing_row g.A.Actor.state g.A.Actor.saved_state g.A.Actor.thread c.args.self.now answer c.args.t _ c.requires.here (λ l b at tx.
     let self = c.args.self.now in
     let m = machine_in g.A.Actor.state g.A.Actor.saved_state self in
-    let l_is = same_Some _ l (sym (thread_at g.A.Actor.state g.A.Actor.saved_state self.holders self.threads.items c.args.t ? c.requires.here.started ?) ∙ at) in
-    ?)
+    let bound = word_bound (place_in self) in
+    ap (λ f. kinded Idle (record m { threads = f })) (same_threads g.A.Actor.state g.A.Actor.saved_state self.holders c.release_one.new.self self.threads.items c.in_default.ensures.same)
+    ∙ lets_none (place_in self) c.args.t m l b (ap (λ f. least f bound) (held_at g.A.Actor.state g.A.Actor.saved_state self.holders self.threads.items c.args.t l at) ∙ none_held (place_in self) self.holders c.args.t c.in_default.ensures.none))
 
 pub close-requires : goal.close-requires
 close-requires g c =
