@@ -73,6 +73,10 @@ raised_write (Some Write) = refl
 abbrev pub OneHold : ℕ → ℕ → Option Mode → Holders → Holders → Type 0
 OneHold t word mode old new = (u w : ℕ) → hold_of new u w ≡ cond (u == t && word == w) mode (hold_of old u w)
 
+pub one_after : (t word : ℕ) (mode : Mode) (old mid new : Holders) → ((u w : ℕ) → hold_of mid u w ≡ hold_of old u w) → OneHold t word (raised (hold_of mid t word) mode) mid new → OneHold t word (raised (hold_of old t word) mode) old new
+one_after t word mode old mid new same one u w =
+    one u w ∙ (ap (λ o. cond (u == t && word == w) (raised o mode) (hold_of mid u w)) (same t word) ∙ ap (λ o. cond (u == t && word == w) (raised (hold_of old t word) mode) o) (same u w))
+
 module _ (t word : ℕ) (mode : Option Mode) (old new : Holders) (one : OneHold t word mode old new) where
   pub others_same : SameHolds t old new
   others_same u x d = one u x ∙ ap (λ b. cond (b && word == x) mode (hold_of old u x)) d

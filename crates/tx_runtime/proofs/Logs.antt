@@ -192,3 +192,11 @@ oldest_by notes (m ∷ ms) x b d =
 pub oldest_is : (log : Log) (x : ℕ) → begins_at (notes_of log) (marks_of log) ≡ true → oldest (saves_of log) x ≡ first_note (notes_of log) x
 unfolding saves_of
 oldest_is log x b = oldest_by (notes_of log) (marks_of log) x b (log_descends log)
+
+no_length : (xs : List ℕ) → length xs ≤ 0 → xs ≡ []
+no_length [] h = refl
+no_length (x ∷ xs) h = absurd (omega (arith, h))
+
+-- without a mark nothing is noted
+pub unmarked : (log : Log) (word v : ℕ) → length (marks_of log) ≤ 0 → saves_of log ≡ note (saves_of log) word v
+unmarked log word v h = let e = no_saves log (no_length (marks_of log) h) in e ∙ sym (ap (λ z. note z word v) e)

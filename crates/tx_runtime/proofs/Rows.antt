@@ -50,3 +50,6 @@ pub begin_row : {S : Type 0} (t : ℕ) (n m new : Machine S) (l : Local S) (s : 
 begin_row t n m new l s e h =
     ap (λ z. ran (record z { births = n.births + 1 })) h
     ∙ ap (λ z. ran (record (steps t z (record l { state = s; tx = OpenTx z.births s (no_save ∷ []) })) { births = z.births + 1 })) e
+
+pub memory_row : {S : Type 0} (t : ℕ) (q m new : Machine S) (l : Local S) (memory after : ℕ → ℕ) → q ≡ m → memory ≡ after → new ≡ steps t (record q { memory = memory }) l → ◌≡◌ {A = Turned S} (record { machine = new; kind = Ran }) (ran (record (steps t m l) { memory = after }))
+memory_row t q m new l memory after e f h = ap ran (h ∙ (ap (λ z. steps t (record q { memory = z }) l) f ∙ ap (λ z. record (steps t z l) { memory = after }) e))

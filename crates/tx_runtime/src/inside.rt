@@ -1,5 +1,5 @@
 //! The rows of a thread whose transaction is open.
-ghost use Rattle.std.specs.Prelude.{◌≡◌, ℕ, ◌<◌, Bool, true, false, List, Some, None, length, IfOk, OnErr};
+ghost use Rattle.std.specs.Prelude.{◌≡◌, ℕ, ◌<◌, Bool, true, false, List, Some, None, length, IfOk, OnErr, IfSome, IfNone};
 ghost use Rattle.std.specs.Fn.{FnReturnsAt};
 ghost use Rattle.choosers.specs.Answers.{KeepsRule};
 ghost use Rattle.tx_events.specs.Memory.{can_access, load, word_of};
@@ -8,7 +8,10 @@ ghost use Rattle.tx_events.specs.declared.Event.TheVariants.{Load, Store, BeginA
 ghost use Rattle.tx_events.specs.declared.BlockKind.TheVariants.{Cancel};
 ghost use Rattle.tx_events.specs.declared.Reply.TheVariants.{Nothing};
 ghost use Rattle.tx_memory.specs.View.{words_of};
-ghost use Rattle.tx_runtime.specs.Here.{GoesInside, Turns, Chosen, PassesInside, LeavesBlock, Commits};
+ghost use Rattle.tx_runtime.specs.Here.{GoesInside, IsOpen, Turns, Chosen, PassesInside, LeavesBlock, Commits};
+ghost use Rattle.tx_runtime.specs.Saves.{newest};
+ghost use Rattle.tx_serial.specs.Turn.{cancels};
+ghost use Rattle.tx_events.specs.declared.TurnKind.TheVariants.{Undone};
 ghost use Rattle.tx_runtime.specs.View.{machine_in, place_in};
 ghost use Rattle.tx_serial.specs.Machine.{blocker, Local, Save, OpenTx};
 
@@ -49,8 +52,9 @@ impl<A: Actor> Engine<A, A::Saved> {
         let Some(value) = self.memory.load(addr, size) else {
             return self.halt(t, End::Trapped(Trap::BadAddress));
         };
-        match self.blockers(t, word_of(addr), false) {
-            Some(blockers) => self.clash(t, word_of(addr), blockers, policy),
+        let word = word_of(addr);
+        match self.blockers(t, word, false) {
+            Some(blockers) => self.clash(t, word, blockers, policy),
             None => self.read_inside(t, addr, value),
         }
     }
@@ -64,9 +68,10 @@ impl<A: Actor> Engine<A, A::Saved> {
         ensures same { OnErr result (machine_in A.state A.saved_state self.new ≡ machine_in A.state A.saved_state self.old) }
         ensures place { place_in self.new ≡ place_in self.old }
     {
+        let word = word_of(addr);
         self.ready(t)?;
-        self.holders.reserve(word_of(addr))?;
-        self.holders.take(word_of(addr), t, Mode::Read);
+        self.holders.reserve(word)?;
+        self.holders.take(word, t, Mode::Read);
         let thread = &mut self.threads[t as usize];
         thread.go_on(Reply::Loaded { value });
         Ok(TurnKind::Ran)
@@ -88,11 +93,12 @@ impl<A: Actor> Engine<A, A::Saved> {
         ensures same { OnErr result (machine_in A.state A.saved_state self.new ≡ machine_in A.state A.saved_state self.old) }
         ensures place { place_in self.new ≡ place_in self.old }
     {
-        if self.memory.load(addr, size).is_none() {
+        let Some(_old) = self.memory.load(addr, size) else {
             return self.halt(t, End::Trapped(Trap::BadAddress));
-        }
-        match self.blockers(t, word_of(addr), true) {
-            Some(blockers) => self.clash(t, word_of(addr), blockers, policy),
+        };
+        let word = word_of(addr);
+        match self.blockers(t, word, true) {
+            Some(blockers) => self.clash(t, word, blockers, policy),
             None => self.write_inside(t, addr, size, value),
         }
     }
@@ -216,13 +222,27 @@ impl<A: Actor> Engine<A, A::Saved> {
         ensures same { OnErr result (machine_in A.state A.saved_state self.new ≡ machine_in A.state A.saved_state self.old) }
         ensures place { place_in self.new ≡ place_in self.old }
     {
-        if self.threads[t as usize].log.marks().is_empty() {
+        if self.threads[t as usize].log.marks().len() == 0 {
             return Ok(TurnKind::Idle);
         }
-        let thread = &mut self.threads[t as usize];
-        match thread.undo_newest(&mut self.memory) {
+        match self.undo_newest(t) {
             Some(word) => Ok(TurnKind::Undone { word }),
             None => self.leave_block(t),
         }
+    }
+
+    /// The least word that the newest savepoint notes goes back: `None` exactly where it notes none.
+    fn undo_newest(&mut self, t: u8) -> Option<u64>
+        requires started { t < length self.old.threads.items }
+        requires some { (l : Local A.State) (b : ℕ) (k : A.State) (ss : List Save) → (machine_in A.state A.saved_state self.old).threads t ≡ Some l → l.tx ≡ OpenTx b k ss → 0 < length ss }
+        requires open { (l : Local A.State) → (machine_in A.state A.saved_state self.old).threads t ≡ Some l → IsOpen l }
+        ensures none { IfNone result ((l : Local A.State) (b : ℕ) (k : A.State) (ss : List Save) (x : ℕ) → (machine_in A.state A.saved_state self.old).threads t ≡ Some l → l.tx ≡ OpenTx b k ss → newest ss x ≡ None) }
+        ensures same { IfNone result (machine_in A.state A.saved_state self.new ≡ machine_in A.state A.saved_state self.old) }
+        ensures done { IfSome result (λ word. (l : Local A.State) (b : ℕ) (k s : A.State) (ss : List Save) → (machine_in A.state A.saved_state self.old).threads t ≡ Some l → l.tx ≡ OpenTx b k ss
+            → record { machine = machine_in A.state A.saved_state self.new; kind = Undone word } ≡ cancels (place_in self.old) t (machine_in A.state A.saved_state self.old) l s b k ss) }
+        ensures place { place_in self.new ≡ place_in self.old }
+    {
+        let thread = &mut self.threads[t as usize];
+        thread.undo_newest(&mut self.memory)
     }
 }

@@ -207,14 +207,15 @@ impl<A: Actor> ThreadSlot<A, A::Saved> {
     pub(crate) fn note(&mut self, word: u64, old: u64)
         requires room { HasRoom self.old.log }
         requires live { has_saves self.old.tx ≡ true }
-        requires mark { 0 < length (marks_of self.old.log) }
         ensures local { (holders : Holders) (t : ℕ) → local_of A.state A.saved_state holders t self.new
             ≡ record (local_of A.state A.saved_state holders t self.old) {
                 tx = tx_of A.saved_state self.old.tx (note (saves_of self.old.log) word old) } }
         ensures sound { (p : Place) → can_access p word 8 ≡ true → is_sound p self.old ≡ true → is_sound p self.new ≡ true }
         ensures actor { self.new.actor ≡ self.old.actor }
     {
-        self.log.note(word, old);
+        if self.log.marks().len() > 0 {
+            self.log.note(word, old);
+        }
     }
 
     /// Sets a savepoint.
@@ -249,7 +250,6 @@ impl<A: Actor> ThreadSlot<A, A::Saved> {
         requires answers { Answers (A.thread.next (A.state self.old.actor)) Nothing }
         requires room { HasRoom self.old.log }
         requires live { has_saves self.old.tx ≡ true }
-        requires mark { 0 < length (marks_of self.old.log) }
         ensures local { (holders : Holders) (t : ℕ) → local_of A.state A.saved_state holders t self.new
             ≡ record (local_of A.state A.saved_state holders t self.old) {
                 state = A.thread.after (A.state self.old.actor) Nothing; tx = tx_of A.saved_state self.old.tx (note (saves_of self.old.log) word old) } }
