@@ -210,3 +210,13 @@ again_hold state saved old new t s r x b k copy is none e f g =
     ∙ (ap (λ z. record (local_of state saved old t s) { held = λ _. false; wrote = λ _. false; state = z; tx = OpenTx x.birth (saved x.kept) (no_save ∷ []) }) e
     ∙ (ap (λ z. record (again (local_of state saved old t s) b k) { tx = OpenTx z (saved x.kept) (no_save ∷ []) }) f
     ∙ ap (λ z. record (again (local_of state saved old t s) b k) { tx = OpenTx b z (no_save ∷ []) }) g))))
+
+-- and all of these
+pub write_local : {A K S : Type 0} (state : A → S) (saved : K → S) (old new : Holders) (t : ℕ) (s r : ThreadSlot A K) (x : S) (tx tx' : Tx S) (h w : ℕ → Bool)
+  → local_of state saved new t r ≡ record (local_of state saved new t s) { state = x; tx = tx } → held_in new t ≡ h → wrote_in new t ≡ w → tx ≡ tx'
+  → local_of state saved new t r ≡ record (local_of state saved old t s) { state = x; held = h; wrote = w; tx = tx' }
+write_local state saved old new t s r x tx tx' h w is eh ew et =
+    is
+    ∙ (ap (λ z. record (local_of state saved new t s) { held = z; state = x; tx = tx }) eh
+    ∙ (ap (λ z. record (local_of state saved old t s) { held = h; wrote = z; state = x; tx = tx }) ew
+    ∙ ap (λ z. record (local_of state saved old t s) { held = h; wrote = w; state = x; tx = z }) et))

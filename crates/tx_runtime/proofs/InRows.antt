@@ -152,3 +152,7 @@ module _ {S : Type 0} (p : Place) (t : ℕ) (m : Machine S) (l : Local S) (s : S
     → ◌≡◌ {A = Turned S} (record { machine = record (steps t m (record l { tx = OpenTx b k (newest_without x ss) })) { memory = update m.memory x (kept_or (newest ss x) (m.memory x)) }; kind = Undone x }) (cancels p t m l s b k ss)
   cancels_some [] x h e = absurd (omega (arith, h))
   cancels_some (n ∷ ss) x h e = ap (cancels_by p t m l s b k n ss) (sym e)
+
+  pub cancels_empty : (ss : List Save) → length ss ≡ 0 → stays Idle m ≡ cancels p t m l s b k ss
+  cancels_empty [] h = refl
+  cancels_empty (n ∷ ss) h = absurd (omega (arith, h))

@@ -243,6 +243,9 @@ impl<A: Actor> Engine<A, A::Saved> {
         ensures place { place_in self.new ≡ place_in self.old }
     {
         let thread = &mut self.threads[t as usize];
-        thread.undo_newest(&mut self.memory)
+        let Some(word) = thread.undo_newest(&mut self.memory) else {
+            return None;
+        };
+        Some(word)
     }
 }
