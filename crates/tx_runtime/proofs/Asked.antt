@@ -98,3 +98,35 @@ module _ {S : Type 0} (a : Thread S) (p : Place) (t : ℕ) (m : Machine S) where
   pub unasked : (answers : Clash → Choice → Type 0) (allows : Clash → Choice → Bool) (kind : TurnKind) (new : Machine S) → ((c : Clash) → Asked a p t m c → ⊥)
     → ((answer : Clash → Choice) → record { machine = new; kind = kind } ≡ turn a p answer t m) → Chosen a p answers allows t m kind new
   unasked answers allows kind new none turned = record { choice = Wait; asked = λ c k. absurd (none c k); turned = turned (λ _. Wait) }
+
+  same_access : (e : Event) (s z : Bool) (w x : ℕ) → Accesses p e s w → Accesses p e z x → (z ≡ s) × (x ≡ w)
+  same_access (Load addr size vol) s z w x g h = (h.1 ∙ sym g.1, h.2 ∙ sym g.2)
+  same_access (Store addr size value vol) s z w x g h = (h.1 ∙ sym g.1, h.2 ∙ sym g.2)
+  same_access Silent s z w x g h = absurd g
+  same_access (Out byte) s z w x g h = absurd g
+  same_access Inp s z w x g h = absurd g
+  same_access (Spawn f arg) s z w x g h = absurd g
+  same_access (Join id) s z w x g h = absurd g
+  same_access (BeginAtomic kind) s z w x g h = absurd g
+  same_access EndAtomic s z w x g h = absurd g
+  same_access (Raise kind can) s z w x g h = absurd g
+  same_access BeginSync s z w x g h = absurd g
+  same_access EndSync s z w x g h = absurd g
+  same_access Done s z w x g h = absurd g
+  same_access (Stop e) s z w x g h = absurd g
+
+  open_birth : (b d : ℕ) (k j : S) (ss rs : List Save) → OpenTx b k ss ≡ OpenTx d j rs → b ≡ d
+  open_birth b d k j ss rs e = cc
+
+  -- the clash at which it is asked is the one of this access
+  pub clash_asked : (l : Local S) (e : Event) (store : Bool) (word holder b : ℕ) (k : S) (ss : List Save) → m.threads t ≡ Some l → a.next l.state ≡ e → l.tx ≡ OpenTx b k ss → Accesses p e store word → blocker t store word m ≡ Some holder
+    → (c : Clash) → Asked a p t m c → c ≡ clash_of t store word m b holder
+  clash_asked l e store word holder b k ss at next tx access blocked c asked =
+      let q = asked_at l e c at next asked in
+      let same = same_access e store q.store word q.word access q.access in
+      let holder_is : q.holder ≡ holder = same_Some q.holder holder (sym q.blocked ∙ (ap (λ w. blocker t q.store w m) same.1 ∙ (ap (λ s. blocker t s word m) same.0 ∙ blocked))) in
+      let birth_is : q.birth ≡ b = open_birth q.birth b q.kept k q.saves ss (sym q.tx ∙ tx) in
+      q.is
+      ∙ (ap (λ z. clash_of t z q.word m q.birth q.holder) same.0
+      ∙ (ap (λ z. clash_of t store z m q.birth q.holder) same.1
+      ∙ (ap (λ z. clash_of t store word m z q.holder) birth_is ∙ ap (λ z. clash_of t store word m b z) holder_is)))
