@@ -12,3 +12,4 @@ pub mod Holding
 pub mod InRows
 pub mod ClosingRows
 pub mod Asked
+pub mod Clashes
