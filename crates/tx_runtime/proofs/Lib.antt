@@ -13,3 +13,4 @@ pub mod InRows
 pub mod ClosingRows
 pub mod Asked
 pub mod Clashes
+pub mod Stands

@@ -5,7 +5,7 @@ ghost use Rattle.choosers.specs.Answers.{KeepsRule};
 ghost use Rattle.tx_runtime.specs.Here.{GoesOutside, GoesInside, Chosen, Turns};
 ghost use Rattle.tx_runtime.specs.Standing.{StandsAt};
 ghost use Rattle.tx_runtime.specs.View.{machine_in, place_in};
-ghost use Rattle.tx_serial.specs.Run.{is_access};
+ghost use Rattle.tx_serial.specs.Run.{is_access, accesses_in};
 
 use crate::engine::Engine;
 use crate::thread::Stage;
@@ -61,10 +61,18 @@ impl<A: Actor> Engine<A, A::Saved> {
     }
 
     /// Whether the thread's next event is a load or store in an open transaction.
-    pub(crate) fn accesses_inside(&self, t: u8) -> bool {
-        match self.standing(t) {
-            Standing::Inside(event) => is_access(event),
-            Standing::Still | Standing::Outside(_) | Standing::Undoing | Standing::Releasing => false,
+    pub(crate) fn accesses_inside(&self, t: u8) -> bool
+        ensures { result ≡ accesses_in A.thread ((machine_in A.state A.saved_state self.now).threads t) }
+    {
+        if t as usize >= self.threads.len() {
+            return false;
+        }
+        let thread = &self.threads[t as usize];
+        match thread.stage() {
+            Some(Stage::Open) => is_access(thread.actor.next()),
+            Some(Stage::Undoing) => false,
+            Some(Stage::Releasing) => false,
+            None => false,
         }
     }
 
@@ -147,14 +155,8 @@ impl<A: Actor> Engine<A, A::Saved> {
             Event::EndAtomic => self.end_atomic(t),
             Event::Raise { kind, cancels } => self.raise(t, kind, cancels),
             Event::Stop { end } => self.halt(t, end),
-            // None of these comes where an atomic block is open.
-            Event::Load { .. }
-            | Event::Store { .. }
-            | Event::Out { .. }
-            | Event::Inp
-            | Event::Spawn { .. }
-            | Event::Join { .. }
-            | Event::Done => Ok(TurnKind::Idle),
+            // No other event comes where an atomic block is open.
+            _ => Ok(TurnKind::Idle),
         }
     }
 }
