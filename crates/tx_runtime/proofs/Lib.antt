@@ -14,3 +14,4 @@ pub mod ClosingRows
 pub mod Asked
 pub mod Clashes
 pub mod Stands
+pub mod Whole
