@@ -1,5 +1,5 @@
 //! The runtime as its callers see it.
-ghost use Rattle.std.specs.Prelude.{◌≡◌, [], length};
+ghost use Rattle.std.specs.Prelude.{◌≡◌, ◌&&◌, [], length};
 ghost use Rattle.tx_serial.specs.Kinds.{is_ran};
 ghost use Rattle.undo_log.specs.View.{marks_of};
 
@@ -27,18 +27,18 @@ pub struct Runtime<A: Actor> {
     ghost flags: { length inside.items ≡ engine.limit },
 }
 
-/// Whether the turn was executed as its event says.
-fn is_ran(kind: TurnKind) -> bool
-    ensures { result ≡ is_ran kind }
+/// Whether the turn was of kind `Ran`, and of an access in a transaction.
+fn is_inside(kind: TurnKind, accesses: bool) -> bool
+    ensures { result ≡ is_ran kind && accesses }
 {
     match kind {
-        TurnKind::Ran => true,
+        TurnKind::Ran => accesses,
         _ => false,
     }
 }
 
 impl<A: Actor> Runtime<A> {
-    ghost use Rattle.std.specs.Prelude.{ℕ, ◌<◌, ◌≤◌, ◌^◌, ◌-◌, false, None, IfOk, OnErr};
+    ghost use Rattle.std.specs.Prelude.{ℕ, ◌<◌, ◌≤◌, ◌^◌, ◌-◌, false, None, IfOk, OnErr, option_copied};
     ghost use Rattle.std.specs.Fn.{FnReturnsAt};
     ghost use Rattle.choosers.specs.Answers.{KeepsRule};
     ghost use Rattle.tx_memory.specs.View.{place_of, words_of};
@@ -104,7 +104,7 @@ impl<A: Actor> Runtime<A> {
     {
         let accesses = self.engine.accesses_inside(t);
         let kind = self.engine.turn(t, policy)?;
-        self.inside[t as usize] = is_ran(kind) && accesses;
+        self.inside[t as usize] = is_inside(kind, accesses);
         Ok(kind)
     }
 
@@ -148,7 +148,7 @@ impl<A: Actor> Runtime<A> {
 
     /// The thread, if it was started.
     pub fn actor(&self, t: u8) -> Option<&A>
-        ensures { ShowsActor A.state ((machine_of A.state A.saved_state self.now).threads t) result }
+        ensures { ShowsActor A.state ((machine_of A.state A.saved_state self.now).threads t) (option_copied result) }
     {
         if (t as usize) < self.engine.threads.len() {
             Some(&self.engine.threads[t as usize].actor)
