@@ -15,3 +15,4 @@ pub mod Asked
 pub mod Clashes
 pub mod Stands
 pub mod Whole
+pub mod Rises

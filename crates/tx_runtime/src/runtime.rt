@@ -38,7 +38,7 @@ fn is_inside(kind: TurnKind, accesses: bool) -> bool
 }
 
 impl<A: Actor> Runtime<A> {
-    ghost use Rattle.std.specs.Prelude.{ℕ, ◌<◌, ◌≤◌, ◌^◌, ◌-◌, false, None, IfOk, OnErr, option_copied};
+    ghost use Rattle.std.specs.Prelude.{ℕ, ◌<◌, ◌≤◌, ◌^◌, ◌+◌, ◌-◌, false, None, IfOk, OnErr, option_copied};
     ghost use Rattle.std.specs.Fn.{FnReturnsAt};
     ghost use Rattle.choosers.specs.Answers.{KeepsRule};
     ghost use Rattle.tx_memory.specs.View.{place_of, words_of};
@@ -101,6 +101,8 @@ impl<A: Actor> Runtime<A> {
         ensures kept { OnErr result ((u : ℕ) → inside_of self.new u ≡ inside_of self.old u) }
         ensures place { place_at self.new ≡ place_at self.old }
         ensures limit { limit_of self.new ≡ limit_of self.old }
+        ensures births { (machine_of A.state A.saved_state self.new).births ≤ (machine_of A.state A.saved_state self.old).births + 1 }
+        ensures depth { (machine_of A.state A.saved_state self.new).lock.depth ≤ (machine_of A.state A.saved_state self.old).lock.depth + 1 }
     {
         let accesses = self.engine.accesses_inside(t);
         let kind = self.engine.turn(t, policy)?;
