@@ -79,8 +79,10 @@ fn take_turns<R: Rule, F: Fn(&Clash) -> Choice>(
         let (t, kind) = rows[n];
         assert!(rt; t < threads);
         assert_eq!(rt; runtime.end(), None);
-        if t < threads && runtime.end().is_none() {
-            assert_eq!(rt; runtime.turn(t, policy)?, kind, "turn {n}");
+        if t < threads {
+            if runtime.end().is_none() {
+                assert_eq!(rt; runtime.turn(t, policy)?, kind, "turn {n}");
+            }
         }
     }
     Ok(())
