@@ -1,5 +1,5 @@
 //! The words that one thread holds, of which the least is taken out first.
-ghost use Rattle.std.specs.Prelude.{◌≡◌, ◌==◌, ◌+◌, ◌<◌, ◌≤◌, ℕ, if◌then◌else◌, IfNone, IfSome, IfOk, OnOk};
+ghost use Rattle.std.specs.Prelude.{◌≡◌, ◌==◌, ◌+◌, ◌<◌, ◌≤◌, ℕ, length, if◌then◌else◌, IfNone, IfSome, IfOk, OnOk};
 ghost use Rattle.std.specs.BinaryHeap.{IsHeap, heap_items, heap_len, heap_capacity};
 ghost use Rattle.std.proofs.Props.{props};
 ghost use Rattle.own_table.specs.Words.{by_least, times_in};
@@ -22,6 +22,13 @@ impl HeldWords {
         HeldWords {
             words: BinaryHeap::new(alloc),
         }
+    }
+
+    /// How many words there are.
+    pub(crate) fn len(&self) -> usize
+        ensures { result ≡ length (heap_items self.now.words) }
+    {
+        self.words.len()
     }
 
     /// Makes room for one word more.

@@ -63,6 +63,18 @@ impl Holders {
         holds.mode_of(t)
     }
 
+    /// How many words the thread holds.
+    pub fn count(&self, t: u8) -> usize
+        requires { t < thread_limit self.now }
+        ensures none { result ≡ 0 → (w : ℕ) → hold_of self.now t w ≡ None }
+        ensures one { result ≡ 1 → (w : ℕ) × (IsSome (hold_of self.now t w) × ((v : ℕ) → IsSome (hold_of self.now t v) → v ≡ w)) }
+        ensures some { 0 < result → (w : ℕ) × IsSome (hold_of self.now t w) }
+        ensures more { 1 < result → (v w : ℕ) × (v ≢ w × IsSome (hold_of self.now t v) × IsSome (hold_of self.now t w)) }
+    {
+        let words = &self.held[t as usize];
+        words.len()
+    }
+
     /// Makes room for the next `take` of the word.
     pub fn reserve(&mut self, word: u64) -> Result<(), AllocError>
         ensures same { (t w : ℕ) → hold_of self.new t w ≡ hold_of self.old t w }

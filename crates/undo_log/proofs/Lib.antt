@@ -1,4 +1,4 @@
 mod IndexLists
-mod Lists
+pub mod Lists
 mod Places
-mod PutBack
+pub mod PutBack

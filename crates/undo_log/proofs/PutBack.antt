@@ -8,14 +8,14 @@ use Rattle.undo_log.specs.declared.notes.Note.{Note}
 use Rattle.undo_log.specs.Notes.{first_note, is_noted, put_back, word_back, others, noted_too, HoldsOf}
 use Rattle.undo_log.proofs.Lists.{put_push}
 
-abbrev first_by : Bool → Note → Option ℕ → Option ℕ
+abbrev pub first_by : Bool → Note → Option ℕ → Option ℕ
 first_by b n rest = cond b (Some n.old) rest
 
-first-cons : (n : Note) (ns : List Note) (x : ℕ) → first_note (n ∷ ns) x ≡ first_by (n.word == x) n (first_note ns x)
+pub first-cons : (n : Note) (ns : List Note) (x : ℕ) → first_note (n ∷ ns) x ≡ first_by (n.word == x) n (first_note ns x)
 first-cons n ns x = elim (n.word == x) as (λ b. option_map (λ (k : Note). k.old) (cond b (Some n) (find (λ (k : Note). k.word == x) ns)) ≡ cond b (Some n.old) (first_note ns x)) [ true ↦ refl | false ↦ refl ]
 
 -- a word is noted exactly where it has a first note
-first_is : (notes : List Note) (x : ℕ) → is_noted notes x ≡ true → (v : ℕ) × (first_note notes x ≡ Some v)
+pub first_is : (notes : List Note) (x : ℕ) → is_noted notes x ≡ true → (v : ℕ) × (first_note notes x ≡ Some v)
 first_is [] x h = absurd (false≢true h)
 first_is (n ∷ ns) x h = elim (cases_Bool (n.word == x)) [
   | inl e ↦ (n.old, first-cons n ns x ∙ ap (λ b. first_by b n (first_note ns x)) e)
@@ -24,7 +24,7 @@ first_is (n ∷ ns) x h = elim (cases_Bool (n.word == x)) [
       (rest.0, first-cons n ns x ∙ (ap (λ b. first_by b n (first_note ns x)) e ∙ rest.1))
 ]
 
-first_none : (notes : List Note) (x : ℕ) → is_noted notes x ≡ false → first_note notes x ≡ None
+pub first_none : (notes : List Note) (x : ℕ) → is_noted notes x ≡ false → first_note notes x ≡ None
 first_none [] x h = refl
 first_none (n ∷ ns) x h =
     let both = or_parts (n.word == x) (is_noted ns x) h in
@@ -75,7 +75,7 @@ pub parts_law : (older newer : List Note) (memory : ℕ → ℕ) → put_back (o
 parts_law older newer memory = fun_ext (parts_at older newer memory)
 
 -- the notes of all other words note the word no more, and the others as before
-first_others : (notes : List Note) (word x : ℕ) → first_note (others word notes) x ≡ cond (word == x) None (first_note notes x)
+pub first_others : (notes : List Note) (word x : ℕ) → first_note (others word notes) x ≡ cond (word == x) None (first_note notes x)
 first_others [] word x = elim (word == x) as (λ b. ◌≡◌ {A = Option ℕ} None (cond b None None)) [ true ↦ refl | false ↦ refl ]
 first_others (n ∷ ns) word x = elim (cases_Bool (n.word == word)) [
   | inl e ↦

@@ -1,0 +1,22 @@
+use Rattle.std.proofs.Common.{ℕ, ◌≡◌, ◌++◌, ◌∷◌, [], ap, sym, ◌∙◌, refl, arith, Some, subst, length}
+use Rattle.own_table.specs.Bits.{has_bit}
+use Rattle.std.proofs.Math.ListN.{length-set}
+use Rattle.tx_memory.specs.View.{place_of}
+use Rattle.tx_serial.specs.Machine.{Local, birth_of, wait_more}
+use Rattle.tx_runtime.specs.Blocks.{Sums}
+use Rattle.tx_runtime.specs.Threads.{local_of, is_sound, waits_of}
+use Rattle.tx_runtime.specs.Saves.{saves_of}
+use Rattle.tx_runtime.specs.View.{machine_in, place_in}
+use Rattle.tx_runtime.proofs.Blocking.{birth_at, birth_is, sums_more, count_most, none_at_all, keeps_is}
+use Rattle.tx_runtime.proofs.Engines.{thread_at, same_thread, one_waits, waits_at_slot, whole_set, whole_sound, changed}
+use Rattle.tx_runtime.proofs.access.Engine+A+A+Saved.and_blocker.Goals as goal
+
+pub returns-in-Some : goal.returns-in-Some
+returns-in-Some g c = λ p h s.
+    let f = λ (v : ℕ). birth_of ((machine_in g.A.Actor.state g.A.Actor.saved_state c.args.self.now).threads v) in
+    c.and.ensures p f (birth_at g.A.Actor.state g.A.Actor.saved_state c.args.self.now.holders c.args.self.now.threads.items c.args.u c.birth-birth.result c.index.result.now c.requires.number c.index.ensures c.birth-birth.ensures) h (subst (λ o. Sums p f c.args.u o) c.in-Some.is s)
+
+pub returns-in-None : goal.returns-in-None
+returns-in-None g c = λ p h s.
+    let f = λ (v : ℕ). birth_of ((machine_in g.A.Actor.state g.A.Actor.saved_state c.args.self.now).threads v) in
+    c.of.ensures p f (birth_at g.A.Actor.state g.A.Actor.saved_state c.args.self.now.holders c.args.self.now.threads.items c.args.u c.birth-birth.result c.index.result.now c.requires.number c.index.ensures c.birth-birth.ensures) h (subst (λ o. Sums p f c.args.u o) c.in-None.is s)

@@ -1,0 +1,9 @@
+use Rattle.std.proofs.Common.{ℕ, ◌≡◌}
+use Rattle.own_table.specs.Bits.{has_bit}
+use Rattle.tx_serial.specs.Machine.{birth_of}
+use Rattle.tx_runtime.specs.Blocks.{Sums}
+use Rattle.tx_runtime.specs.View.{machine_in}
+use Rattle.tx_runtime.proofs.access.Engine+A+A+Saved.sum_up.Given as goal
+
+abbrev pub invariant-loop-u : goal.invariant-loop-u
+invariant-loop-u g l = Sums (has_bit l.threads) (λ v. birth_of ((machine_in g.A.Actor.state g.A.Actor.saved_state l.self).threads v)) l.u l.found

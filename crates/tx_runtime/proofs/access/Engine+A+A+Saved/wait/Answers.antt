@@ -1,0 +1,24 @@
+use Rattle.std.proofs.Common.{ℕ, ◌≡◌, ◌++◌, ◌∷◌, [], ap, sym, ◌∙◌, refl, arith, Some, subst, length}
+use Rattle.own_table.specs.Bits.{has_bit}
+use Rattle.std.proofs.Math.ListN.{length-set}
+use Rattle.tx_memory.specs.View.{place_of}
+use Rattle.tx_serial.specs.Machine.{Local, birth_of, wait_more}
+use Rattle.tx_runtime.specs.Blocks.{Sums}
+use Rattle.tx_runtime.specs.Threads.{local_of, is_sound, waits_of}
+use Rattle.tx_runtime.specs.Saves.{saves_of}
+use Rattle.tx_runtime.specs.View.{machine_in, place_in}
+use Rattle.tx_runtime.proofs.Blocking.{birth_is, sums_more, count_most, none_at_all, keeps_is}
+use Rattle.tx_runtime.proofs.Engines.{thread_at, same_thread, one_waits, waited_row, whole_set, whole_sound, changed}
+use Rattle.tx_runtime.proofs.access.Engine+A+A+Saved.wait.Goals as goal
+
+pub invariant_of-self : goal.invariant_of-self
+invariant_of-self g c =
+    let self = c.args.self.now in
+    let p = place_of self.memory in
+    record { whole = whole_set p self.limit self.holders self.threads.items c.args.t c.wait.new.self self.whole (c.wait.ensures.sound p ∙ whole_sound p self.limit self.holders self.threads.items c.args.t c.index_mut-thread.result.now self.whole c.requires.started c.index_mut-thread.ensures.value) }
+
+pub returns-clause-done : goal.returns-clause-done
+returns-clause-done g c =
+    let self = c.args.self.now in
+    waited_row g.A.Actor.state g.A.Actor.saved_state (machine_in g.A.Actor.state g.A.Actor.saved_state self) self.holders self.threads.items c.args.t c.args.word c.args.blockers.least c.args.blockers.eldest c.index_mut-thread.result.now c.wait.new.self
+      refl refl refl c.requires.started c.index_mut-thread.ensures.value (c.wait.ensures.local self.holders c.args.t) c.wait.ensures.waits c.requires.least

@@ -1,0 +1,68 @@
+use Rattle.std.proofs.Common.{Bool, ℕ, ◌≡◌, ◌==◌, ◌<◌, ◌≤◌, ◌+◌, ◌*◌, ◌^◌, ◌++◌, ◌∷◌, [], List, length, ap, sym, ◌∙◌, refl, arith, Some, None, true, false, subst, get_or, inl, inr, cond}
+use Rattle.std.specs.Prelude.{is_some, slice_get}
+use Rattle.std.proofs.Math.ListN.{set, length-set}
+use Rattle.std.proofs.lemmas.Option.{same_Some}
+use Rattle.std.proofs.lemmas.Bool.{true≢false, false≢true}
+use Rattle.own_table.specs.declared.hold.Mode.TheVariants.{Read, Write}
+use Rattle.own_table.specs.Records.{raised, blocks}
+use Rattle.own_table.specs.Table.{hold_of}
+use Rattle.tx_events.specs.declared.BlockKind.TheVariants.{NoExcept, Commit, Cancel}
+use Rattle.tx_events.specs.declared.Event.TheVariants.{Silent, Load, Store, BeginAtomic, EndAtomic, Raise}
+use Rattle.tx_events.specs.declared.Reply.TheVariants.{Nothing, Loaded}
+use Rattle.tx_events.specs.declared.TurnKind.TheVariants.{Ran, Undone, Idle}
+use Rattle.tx_events.specs.Memory.{update, can_access, load, store, word_of, word_bound}
+use Rattle.tx_events.proofs.Words.{read_fits}
+use Rattle.tx_memory.specs.View.{place_of, words_of}
+use Rattle.tx_serial.specs.Machine.{Local, Save, OpenTx, no_save, note, blocker, least, birth_of, kept_or, is_noted}
+use Rattle.tx_serial.specs.Turn.{Turned, told, steps, ran, stays, closes, commits, cancels}
+use Rattle.tx_runtime.specs.Saves.{saves_of, handed, newest, newest_without}
+use Rattle.tx_runtime.specs.Threads.{local_of, threads_of, waits_by, tx_of, held_in, wrote_in, closed_by, IsWhole}
+use Rattle.tx_runtime.specs.View.{machine_in, place_in}
+use Rattle.undo_log.specs.View.{marks_of}
+use Rattle.tx_runtime.specs.declared.thread.ThreadSlot.{ThreadSlot}
+use Rattle.tx_runtime.proofs.Blocking.{unblocked, first_least, no_least}
+use Rattle.tx_runtime.proofs.Engines.{read_at, started_thread, thread_at, stepped, same_holds, same_threads, same_thread, same_waits, changed, whole_set, whole_sound, kinded, on_err, held_at, SameHolds}
+use Rattle.tx_runtime.proofs.Fits.{load_fits, store_fits}
+use Rattle.tx_runtime.proofs.Holding.{access_word, access_own, access_bound, OneHold, one_after, others_same, taken_held, taken_read, taken_write, whole_hold, step_local, hold_local, write_local}
+use Rattle.tx_runtime.proofs.Txs.{open_parts, open_with, open_live, part_some, part_birth, saves_long}
+use Rattle.tx_runtime.proofs.InRows.{passes_row, passing_answer, leaving_answer, commits_none, commits_one, commits_more, load_traps_in, load_done_in, store_traps_in, store_done_in, cancels_none, cancels_some, cancels_empty}
+use Rattle.tx_runtime.proofs.Logs.{saves_count}
+use Rattle.tx_runtime.proofs.OutRows.{loaded_none, loaded_some}
+use Rattle.tx_runtime.proofs.Turned.{inside_row, if_ok, started_in, at_in, answers_at}
+use Rattle.tx_runtime.proofs.Rows.{alone_row, told_row, memory_row}
+use Rattle.tx_runtime.proofs.inside.Engine+A+A+Saved.cancel.Goals as goal
+
+pub returns-then-marks-eq0-clause-turned : goal.returns-then-marks-eq0-clause-turned
+returns-then-marks-eq0-clause-turned g c = λ answer. inside_row g.A.Actor.state g.A.Actor.saved_state g.A.Actor.is_reached g.A.Actor.thread c.args.self.now answer c.args.t (Raise Cancel true) _ c.requires.here (λ l at i.
+    let self = c.args.self.now in
+    let s = c.index.result.now in
+    let its = thread_at g.A.Actor.state g.A.Actor.saved_state self.holders self.threads.items c.args.t s c.requires.here.started c.index.ensures in
+    let long = saves_long g.A.Actor.state g.A.Actor.saved_state self.holders c.args.t s l i.birth i.kept i.saves (same_Some _ l (sym its ∙ at)) i.tx in
+    cancels_empty (place_in self) c.args.t (machine_in g.A.Actor.state g.A.Actor.saved_state self) l (g.A.Actor.thread.after l.state Nothing) i.birth i.kept i.saves (omega (arith, long, ap length c.marks.ensures, c.if-marks-eq0.true)))
+
+pub undo_newest-requires-clause-some : goal.undo_newest-requires-clause-some
+undo_newest-requires-clause-some g c = λ l b k ss at tx.
+    let self = c.args.self.now in
+    let s = c.index.result.now in
+    let its = thread_at g.A.Actor.state g.A.Actor.saved_state self.holders self.threads.items c.args.t s c.requires.here.started c.index.ensures in
+    let long = saves_long g.A.Actor.state g.A.Actor.saved_state self.holders c.args.t s l b k ss (same_Some _ l (sym its ∙ at)) tx in
+    omega (arith, long, ap length c.marks.ensures, c.if-marks-eq0.false)
+
+pub undo_newest-requires-clause-open : goal.undo_newest-requires-clause-open
+undo_newest-requires-clause-open g c = λ l at. let i = c.requires.here.at l at in record { birth = i.birth; kept = i.kept; saves = i.saves; tx = i.tx }
+
+pub returns-in-Some-clause-turned : goal.returns-in-Some-clause-turned
+returns-in-Some-clause-turned g c = λ answer. inside_row g.A.Actor.state g.A.Actor.saved_state g.A.Actor.is_reached g.A.Actor.thread c.args.self.now answer c.args.t (Raise Cancel true) _ c.requires.here (λ l at i. c.in-Some.ensures.done l i.birth i.kept (g.A.Actor.thread.after l.state Nothing) i.saves at i.tx)
+
+pub returns-in-None-clause-turned : goal.returns-in-None-clause-turned
+returns-in-None-clause-turned g c = if_ok c.leave_block.result (λ kind done answer. inside_row g.A.Actor.state g.A.Actor.saved_state g.A.Actor.is_reached g.A.Actor.thread c.args.self.now answer c.args.t (Raise Cancel true) _ c.requires.here (λ l at i.
+    let self = c.args.self.now in
+    let q = c.undo_newest.new.self in
+    let m = machine_in g.A.Actor.state g.A.Actor.saved_state self in
+    let same = c.in-None.ensures.same in
+    let after = g.A.Actor.thread.after l.state Nothing in
+    let none = λ (x : ℕ). c.in-None.ensures.none l i.birth i.kept i.saves x at i.tx in
+    done l i.birth i.kept i.saves (ap (λ z. z.threads c.args.t) same ∙ at) i.tx
+    ∙ (ap (λ z. commits (place_in q) c.args.t z l after i.birth i.kept i.saves) same
+    ∙ (ap (λ z. commits z c.args.t m l after i.birth i.kept i.saves) c.undo_newest.ensures.place
+    ∙ cancels_none (place_in self) c.args.t m l after i.birth i.kept i.saves none (no_least (is_noted (newest i.saves)) (word_bound (place_in self)) (λ v h. ap is_some (none v))))))) c.leave_block.ensures.done

@@ -1,0 +1,45 @@
+use Rattle.std.proofs.Common.{ℕ, ℤ, ◌≡◌, ◌<◌, ◌^◌, ◌*◌, ◌++◌, ◌∷◌, [], length, ap, sym, ◌∙◌, refl, arith, Some, None, true, false, subst}
+use Rattle.std.proofs.Math.ListN.{length-set}
+use Rattle.tx_events.specs.declared.Event.TheVariants.{Silent, Load, Store, Out, Inp, Spawn, Join, BeginAtomic, BeginSync, EndSync, Done}
+use Rattle.tx_events.specs.declared.Reply.TheVariants.{Nothing, Loaded, Byte, Id}
+use Rattle.tx_events.specs.declared.TurnKind.TheVariants.{Ran}
+use Rattle.tx_events.specs.Memory.{can_access, load, word_of}
+use Rattle.tx_events.specs.World.{input_after}
+use Rattle.tx_events.proofs.Words.{read_fits}
+use Rattle.tx_memory.specs.View.{place_of, words_of}
+use Rattle.tx_serial.specs.Machine.{Local}
+use Rattle.tx_serial.specs.Turn.{told, steps}
+use Rattle.tx_runtime.specs.Threads.{local_of}
+use Rattle.tx_runtime.specs.View.{machine_in, place_in, lock_of, left_of}
+use Rattle.tx_runtime.proofs.Engines.{started_thread, thread_at, stepped, same_holds, whole_set, whole_sound}
+use Rattle.tx_runtime.proofs.Fits.{load_fits, store_fits}
+use Rattle.tx_runtime.proofs.OutRows.{loaded_none, loaded_some, load_traps, load_waits, load_done, store_traps, store_goes, store_waits, begin_waits, begin_done, sync_waits, sync_busy, sync_done, join_bad, join_done, join_waits}
+use Rattle.tx_runtime.proofs.Turned.{outside_row, if_ok, started_in, at_in, answers_at}
+use Rattle.tx_runtime.proofs.Rows.{with_input, with_lock, told_row}
+use Rattle.tx_runtime.proofs.outside.Engine+A+A+Saved.load_outside.Goals as goal
+
+pub load-requires : goal.load-requires
+load-requires g c =
+    let there = started_thread g.A.Actor.state g.A.Actor.saved_state c.args.self.now c.args.t c.requires.here.1.started in
+    let is = c.requires.here.1.at there.0 there.1 in
+    load_fits g.met.A.Actor.laws there.0.state is.reached c.args.addr c.args.size c.requires.here.0 is.next
+
+pub returns-in_default-clause-turned : goal.returns-in_default-clause-turned
+returns-in_default-clause-turned g c = if_ok c.halt.result (λ kind done answer. outside_row g.A.Actor.state g.A.Actor.saved_state g.A.Actor.is_reached g.A.Actor.thread c.args.self.now answer c.args.t (Load c.args.addr c.args.size c.requires.here.0) _ c.requires.here.1
+    (λ l at is. done ∙ load_traps g.A.Actor.thread (place_in c.args.self.now) c.args.t (machine_in g.A.Actor.state g.A.Actor.saved_state c.args.self.now) l c.args.addr c.args.size c.requires.here.0 (loaded_none _ _ _ c.load.ensures.value c.in_default.is))) c.halt.ensures.done
+
+pub step_told-requires-clause-answers : goal.step_told-requires-clause-answers
+step_told-requires-clause-answers g c = λ l at.
+    let is = c.requires.here.1.at l at in
+    let value = (loaded_some _ _ _ _ c.load.ensures.value c.in-Some.is).1 in
+    answers_at g.A.Actor.thread l.state (Load c.args.addr c.args.size c.requires.here.0) (Loaded c.in-Some.value) is.next (subst (λ v. v < 2 ^ (8 * c.args.size)) (sym value) (read_fits c.args.addr c.args.size (words_of c.args.self.now.memory (word_of c.args.addr))))
+
+pub returns-in-Some-blockers-clause-turned : goal.returns-in-Some-blockers-clause-turned
+returns-in-Some-blockers-clause-turned g c = λ answer. outside_row g.A.Actor.state g.A.Actor.saved_state g.A.Actor.is_reached g.A.Actor.thread c.args.self.now answer c.args.t (Load c.args.addr c.args.size c.requires.here.0) _ c.requires.here.1
+    (λ l at is. c.wait.ensures.done ∙ load_waits g.A.Actor.thread (place_in c.args.self.now) c.args.t (machine_in g.A.Actor.state g.A.Actor.saved_state c.args.self.now) l c.args.addr c.args.size c.word_of-word.result c.in-Some-blockers.blockers.eldest c.requires.here.0 (loaded_some _ _ _ _ c.load.ensures.value c.in-Some.is).0 c.word_of-word.ensures c.in-Some-blockers.ensures.eldest)
+
+pub returns-in-None-clause-turned : goal.returns-in-None-clause-turned
+returns-in-None-clause-turned g c = if_ok c.step_told.result (λ kind done answer. outside_row g.A.Actor.state g.A.Actor.saved_state g.A.Actor.is_reached g.A.Actor.thread c.args.self.now answer c.args.t (Load c.args.addr c.args.size c.requires.here.0) _ c.requires.here.1
+    (λ l at is.
+      let got = loaded_some _ _ _ _ c.load.ensures.value c.in-Some.is in
+      done l at ∙ load_done g.A.Actor.thread (place_in c.args.self.now) c.args.t (machine_in g.A.Actor.state g.A.Actor.saved_state c.args.self.now) l c.args.addr c.args.size c.word_of-word.result c.in-Some.value c.requires.here.0 got.0 c.word_of-word.ensures c.in-None.ensures.eldest got.1)) c.step_told.ensures.done

@@ -1,0 +1,19 @@
+use Rattle.std.proofs.Common.{ℕ, ◌≡◌, ◌&&◌, ◌++◌, ◌∷◌, [], ◌<◌, ◌≤◌, length, ap, sym, ◌∙◌, refl, arith, Some, None, true, false, subst, inl, inr}
+use Rattle.tx_memory.specs.View.{place_of, words_of}
+use Rattle.tx_runtime.specs.View.{machine_in, place_in}
+use Rattle.tx_serial.specs.Run.{accesses_in}
+use Rattle.tx_serial.specs.Kinds.{is_ran}
+use Rattle.tx_runtime.proofs.Whole.{holds_of, log_past, log_at, actor_past, actor_at, marks_shown, first_whole, first_threads, first_waits, first_parts, flag_set, no_flags, carried}
+use Rattle.tx_runtime.proofs.runtime.Runtime.log.Goals as goal
+
+pub returns-then-t-len-clause-saves : goal.returns-then-t-len-clause-saves
+returns-then-t-len-clause-saves g c = log_at g.A.Actor.state g.A.Actor.saved_state c.args.self.now.engine c.args.t c.index.result.now (omega (arith, c.if-t-len.true, c.len.ensures, c.args.self.now.engine.threads.ok.0)) c.index.ensures
+
+pub returns-then-t-len-clause-marks : goal.returns-then-t-len-clause-marks
+returns-then-t-len-clause-marks g c = marks_shown c.index.result.now.log _ (log_at g.A.Actor.state g.A.Actor.saved_state c.args.self.now.engine c.args.t c.index.result.now (omega (arith, c.if-t-len.true, c.len.ensures, c.args.self.now.engine.threads.ok.0)) c.index.ensures)
+
+pub returns-else-t-len-clause-saves : goal.returns-else-t-len-clause-saves
+returns-else-t-len-clause-saves g c = log_past g.A.Actor.state g.A.Actor.saved_state c.args.self.now.engine c.args.t (omega (arith, c.if-t-len.false, c.len.ensures, c.args.self.now.engine.threads.ok.0)) c.args.self.now.blank c.args.self.now.blank_log
+
+pub returns-else-t-len-clause-marks : goal.returns-else-t-len-clause-marks
+returns-else-t-len-clause-marks g c = marks_shown c.args.self.now.blank _ (log_past g.A.Actor.state g.A.Actor.saved_state c.args.self.now.engine c.args.t (omega (arith, c.if-t-len.false, c.len.ensures, c.args.self.now.engine.threads.ok.0)) c.args.self.now.blank c.args.self.now.blank_log)

@@ -1,0 +1,7 @@
+pub mod Saves
+pub mod Threads
+pub mod View
+pub mod Blocks
+pub mod Here
+pub mod Standing
+pub mod Runtime

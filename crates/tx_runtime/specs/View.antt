@@ -1,0 +1,40 @@
+-- The machine that a runtime shows.
+use Rattle.std.specs.Prelude.{ℕ, ◌≡◌, ◌<◌, ◌≤◌, Bool, true, false, is_some, List, [], ◌∷◌, ◌++◌, Option, Some, None, slice_get, length, drop}
+use Rattle.std.specs.List.{list_all}
+use Rattle.tx_events.specs.Memory.{Place, can_access}
+use Rattle.tx_events.specs.World.{Lock}
+use Rattle.tx_memory.specs.View.{place_of, words_of}
+use Rattle.own_table.specs.declared.table.Holders.{Holders}
+use Rattle.own_table.specs.Table.{hold_of, thread_limit}
+use Rattle.undo_log.specs.View.{marks_of}
+use Rattle.undo_log.specs.declared.undo.Log.{Log}
+use Rattle.tx_serial.specs.Machine.{Local, Waits, Machine, no_waits}
+use Rattle.tx_runtime.specs.declared.thread.ThreadSlot.{ThreadSlot}
+use Rattle.tx_runtime.specs.declared.engine.Engine.{Engine}
+use Rattle.tx_runtime.specs.declared.lock.SyncLock.{SyncLock}
+use Rattle.tx_runtime.specs.declared.input.Input.{Input}
+use Rattle.tx_runtime.specs.Threads.{local_of, waits_of, threads_of, waits_by}
+
+abbrev pub lock_of : SyncLock → Lock
+lock_of lock = record { holder = lock.holder; depth = lock.depth }
+
+abbrev pub left_of : Input → List ℕ
+left_of input = drop input.taken input.bytes.items
+
+abbrev pub machine_in : {A K S : Type 0} → (A → S) → (K → S) → Engine A K → Machine S
+machine_in state saved e = record {
+  memory = words_of e.memory;
+  threads = threads_of state saved e.holders e.threads.items;
+  started = length e.threads.items;
+  lock = lock_of e.lock;
+  births = e.births;
+  waits = waits_by e.threads.items;
+  out = e.out.items;
+  input = left_of e.input;
+  order = e.order.items;
+  end = e.end;
+}
+
+-- what is mapped, and how many threads may be started
+abbrev pub place_in : {A K : Type 0} → Engine A K → Place
+place_in e = place_of e.memory

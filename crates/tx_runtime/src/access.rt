@@ -1,0 +1,129 @@
+//! Accesses to words that other threads hold.
+ghost use Rattle.std.specs.Prelude.{◌≡◌, ℕ, ◌<◌, ◌≤◌, ◌+◌, ◌^◌, Bool, true, Some, None, length};
+ghost use Rattle.own_table.specs.Bits.{has_bit};
+ghost use Rattle.tx_events.specs.Memory.{word_of};
+ghost use Rattle.tx_runtime.specs.Blocks.{Sums, BlocksBy};
+ghost use Rattle.tx_runtime.specs.View.{machine_in, place_in};
+ghost use Rattle.tx_runtime.specs.declared.access.Blockers.{Blockers};
+ghost use Rattle.tx_serial.specs.Machine.{birth_of};
+ghost use Rattle.tx_serial.specs.Turn.{waited};
+
+use crate::engine::Engine;
+use tx_events::{Actor, TurnKind};
+
+/// The word of an address.
+pub(crate) fn word_of(addr: u64) -> u64
+    ensures { result ≡ word_of addr }
+{
+    addr - addr % 8
+}
+
+/// Whether bit `u` of the number is set.
+fn is_in(bits: u64, u: u8) -> bool
+    requires { u < 64 }
+    ensures { result ≡ has_bit bits u }
+{
+    bits & bit_of(u) != 0
+}
+
+fn bit_of(u: u8) -> u64
+    requires { u < 64 }
+    ensures { result ≡ 2 ^ u }
+{
+    1 << u
+}
+
+/// The transactions that keep an access off: the thread of the eldest one, the least and the greatest birth, and how many
+/// they are.
+#[derive(Clone, Copy)]
+pub(crate) struct Blockers {
+    pub(crate) eldest: u8,
+    pub(crate) least: u64,
+    pub(crate) greatest: u64,
+    pub(crate) count: u8,
+}
+
+impl Blockers {
+    /// The first one: thread `u`, whose transaction has this birth.
+    fn of(u: u8, birth: u64) -> Blockers
+        ensures { (p : ℕ → Bool) (f : ℕ → ℕ) → f u ≡ birth → p u ≡ true → Sums p f u None → Sums p f (u + 1) (Some result) }
+    {
+        Blockers {
+            eldest: u,
+            least: birth,
+            greatest: birth,
+            count: 1,
+        }
+    }
+
+    /// One more of them, whose number is above those of the others.
+    fn and(self, u: u8, birth: u64) -> Blockers
+        requires few { self.count ≤ u }
+        requires number { u < 64 }
+        ensures { (p : ℕ → Bool) (f : ℕ → ℕ) → f u ≡ birth → p u ≡ true → Sums p f u (Some self) → Sums p f (u + 1) (Some result) }
+    {
+        let is_elder = birth < self.least;
+        Blockers {
+            eldest: if is_elder { u } else { self.eldest },
+            least: if is_elder { birth } else { self.least },
+            greatest: self.greatest.max(birth),
+            count: self.count + 1,
+        }
+    }
+}
+
+impl<A: Actor> Engine<A, A::Saved> {
+    /// The transactions that keep an access of thread `t` to the word off.
+    pub(crate) fn blockers(&self, t: u8, word: u64, store: bool) -> Option<Blockers>
+        requires { t < length self.now.threads.items }
+        ensures { BlocksBy t store word (machine_in A.state A.saved_state self.now) result }
+    {
+        self.sum_up(self.holders.blockers(word, t, store))
+    }
+
+    /// The transactions of these threads, as bits of a number.
+    fn sum_up(&self, threads: u64) -> Option<Blockers>
+        ensures { Sums (has_bit threads) (λ v. birth_of ((machine_in A.state A.saved_state self.now).threads v)) (length self.now.threads.items) result }
+    {
+        if threads == 0 {
+            return None;
+        }
+        let mut found = None;
+        for u in 0..self.threads.len() {
+            if is_in(threads, u as u8) {
+                found = Some(self.and_blocker(found, u as u8));
+            }
+        }
+        found
+    }
+
+    /// Thread `u` is one more of them.
+    fn and_blocker(&self, found: Option<Blockers>, u: u8) -> Blockers
+        requires number { u < length self.now.threads.items }
+        requires few { (b : Blockers) → found ≡ Some b → b.count ≤ u }
+        ensures { (p : ℕ → Bool) → p u ≡ true → Sums p (λ v. birth_of ((machine_in A.state A.saved_state self.now).threads v)) u found
+            → Sums p (λ v. birth_of ((machine_in A.state A.saved_state self.now).threads v)) (u + 1) (Some result) }
+    {
+        let birth = self.threads[u as usize].birth();
+        match found {
+            Some(others) => others.and(u, birth),
+            None => Blockers::of(u, birth),
+        }
+    }
+
+    /// The thread waits for the word one turn more.
+    pub(crate) fn wait(&mut self, t: u8, word: u64, blockers: Blockers) -> TurnKind
+        requires started { t < length self.old.threads.items }
+        requires least { blockers.least ≡ birth_of ((machine_in A.state A.saved_state self.old).threads blockers.eldest) }
+        ensures done { record { machine = machine_in A.state A.saved_state self.new; kind = result }
+            ≡ waited t (machine_in A.state A.saved_state self.old) word blockers.eldest }
+        ensures place { place_in self.new ≡ place_in self.old }
+    {
+        let thread = &mut self.threads[t as usize];
+        thread.wait(word, blockers.least);
+        TurnKind::Waited {
+            word,
+            holder: blockers.eldest,
+        }
+    }
+}
