@@ -96,7 +96,7 @@ module _ {S : Type 0} (a : Thread S) (p : Place) (t : ℕ) (m : Machine S) where
 
   -- a turn in which no policy is asked
   pub unasked : (answers : Clash → Choice → Type 0) (allows : Clash → Choice → Bool) (kind : TurnKind) (new : Machine S) → ((c : Clash) → Asked a p t m c → ⊥)
-    → ((answer : Clash → Choice) → record { machine = new; kind = kind } ≡ turn a p answer t m) → Chosen a p answers allows t m kind new
+      → ((answer : Clash → Choice) → record { machine = new; kind = kind } ≡ turn a p answer t m) → Chosen a p answers allows t m kind new
   unasked answers allows kind new none turned = record { choice = Wait; asked = λ c k. absurd (none c k); turned = turned (λ _. Wait) }
 
   same_access : (e : Event) (s z : Bool) (w x : ℕ) → Accesses p e s w → Accesses p e z x → (z ≡ s) × (x ≡ w)
@@ -120,7 +120,7 @@ module _ {S : Type 0} (a : Thread S) (p : Place) (t : ℕ) (m : Machine S) where
 
   -- the clash at which it is asked is the one of this access
   pub clash_asked : (l : Local S) (e : Event) (store : Bool) (word holder b : ℕ) (k : S) (ss : List Save) → m.threads t ≡ Some l → a.next l.state ≡ e → l.tx ≡ OpenTx b k ss → Accesses p e store word → blocker t store word m ≡ Some holder
-    → (c : Clash) → Asked a p t m c → c ≡ clash_of t store word m b holder
+      → (c : Clash) → Asked a p t m c → c ≡ clash_of t store word m b holder
   clash_asked l e store word holder b k ss at next tx access blocked c asked =
       let q = asked_at l e c at next asked in
       let same = same_access e store q.store word q.word access q.access in

@@ -112,7 +112,7 @@ turned_and false false = refl
 
 module _ {A K S : Type 0} (state : A → S) (saved : K → S) (holders : Holders) (threads : List (ThreadSlot A K)) where
   held_slot : (u x : ℕ) (o : Option (ThreadSlot A K)) → slice_get threads u ≡ o → ((u x : ℕ) → length threads ≤ u → hold_of holders u x ≡ None) → (store : Bool)
-    → cond store (held_by (local_in state saved holders u o) x) (wrote_by (local_in state saved holders u o) x) ≡ blocks (hold_of holders u x) store
+      → cond store (held_by (local_in state saved holders u o) x) (wrote_by (local_in state saved holders u o) x) ≡ blocks (hold_of holders u x) store
   held_slot u x (Some s) at free store = blocks_is (hold_of holders u x) store
   held_slot u x None at free store = elim (cases_lt u (length threads)) [
     | inl l ↦ absurd (slot_there u l at)
@@ -127,8 +127,8 @@ module _ {A K S : Type 0} (state : A → S) (saved : K → S) (holders : Holders
           by_list (y ∷ ys) h e = let some = slice_get-get_or (y ∷ ys) u y h in cc
 
   pub keeps_is : (t : ℕ) (store : Bool) (x bits : ℕ) → ((u x : ℕ) → length threads ≤ u → hold_of holders u x ≡ None)
-    → ((u : ℕ) → has_bit bits u ≡ (blocks (hold_of holders u x) store && not (u == t)))
-    → keeps_off t store x (threads_of state saved holders threads) ≡ has_bit bits
+      → ((u : ℕ) → has_bit bits u ≡ (blocks (hold_of holders u x) store && not (u == t)))
+      → keeps_off t store x (threads_of state saved holders threads) ≡ has_bit bits
   unfolding threads_of
   keeps_is t store x bits free is = fun_ext (λ u.
       ap (λ b. not (u == t) && b) (held_slot u x (slice_get threads u) refl free store)
@@ -136,7 +136,7 @@ module _ {A K S : Type 0} (state : A → S) (saved : K → S) (holders : Holders
 
   -- where no thread keeps the access off, no other thread's hold blocks it
   pub unblocked : (t n x : ℕ) (store : Bool) (f : ℕ → ℕ) → n ≡ length threads → ((u x : ℕ) → length threads ≤ u → hold_of holders u x ≡ None)
-    → eldest (keeps_off t store x (threads_of state saved holders threads)) f n ≡ None → (u : ℕ) → (u ≡ t → ⊥) → blocks (hold_of holders u x) store ≡ false
+      → eldest (keeps_off t store x (threads_of state saved holders threads)) f n ≡ None → (u : ℕ) → (u ≡ t → ⊥) → blocks (hold_of holders u x) store ≡ false
   unfolding threads_of
   unblocked t n x store f e free none u d = elim (cases_lt u (length threads)) [
     | inl l ↦

@@ -60,7 +60,7 @@ SameHolds t old new = (u x : ℕ) → (u == t) ≡ false → hold_of new u x ≡
 
 module _ {A K S : Type 0} (state : A → S) (saved : K → S) where
   pub thread_at : (holders : Holders) (xs : List (ThreadSlot A K)) (t : ℕ) (s : ThreadSlot A K) → t < length xs → s ≡ get_or xs t s
-    → threads_of state saved holders xs t ≡ Some (local_of state saved holders t s)
+      → threads_of state saved holders xs t ≡ Some (local_of state saved holders t s)
   unfolding threads_of
   thread_at holders xs t s h e = ap (local_in state saved holders t) (read_at xs t s h e)
 
@@ -72,7 +72,7 @@ module _ {A K S : Type 0} (state : A → S) (saved : K → S) where
 
   -- thread t was changed, and its holds
   pub one_thread : (old new : Holders) (xs : List (ThreadSlot A K)) (t : ℕ) (s : ThreadSlot A K) (l : Local S) → t < length xs → SameHolds t old new
-    → local_of state saved new t s ≡ l → threads_of state saved new (set xs t s) ≡ update (threads_of state saved old xs) t (Some l)
+      → local_of state saved new t s ≡ l → threads_of state saved new (set xs t s) ≡ update (threads_of state saved old xs) t (Some l)
   unfolding threads_of
   one_thread old new xs t s l h same e = fun_ext (λ u.
       ap (local_in state saved new u) (get_set xs t s u h)
@@ -88,7 +88,7 @@ module _ {A K S : Type 0} (state : A → S) (saved : K → S) where
 
   -- a thread that shows the same
   pub same_thread : (holders : Holders) (xs : List (ThreadSlot A K)) (t : ℕ) (s r : ThreadSlot A K) → t < length xs → s ≡ get_or xs t s
-    → local_of state saved holders t r ≡ local_of state saved holders t s → threads_of state saved holders (set xs t r) ≡ threads_of state saved holders xs
+      → local_of state saved holders t r ≡ local_of state saved holders t s → threads_of state saved holders (set xs t r) ≡ threads_of state saved holders xs
   unfolding threads_of
   same_thread holders xs t s r h here e = fun_ext (λ u.
       ap (local_in state saved holders u) (get_set xs t r u h)
@@ -157,16 +157,16 @@ changed m f g v w n e h k =
 module _ {A K S : Type 0} (state : A → S) (saved : K → S) where
   -- thread t goes on, and becomes this
   pub stepped : (m : Machine S) (old new : Holders) (xs : List (ThreadSlot A K)) (t : ℕ) (s r : ThreadSlot A K) (l : Local S) (f : Local S → Local S)
-    → m.threads ≡ threads_of state saved old xs → m.waits ≡ waits_by xs → m.started ≡ length xs
-    → t < length xs → s ≡ get_or xs t s → m.threads t ≡ Some l → SameHolds t old new
-    → local_of state saved new t r ≡ f (local_of state saved old t s) → waits_of r.waits ≡ no_waits
-    → record m { threads = threads_of state saved new (set xs t r); waits = waits_by (set xs t r); started = length (set xs t r) } ≡ steps t m (f l)
+      → m.threads ≡ threads_of state saved old xs → m.waits ≡ waits_by xs → m.started ≡ length xs
+      → t < length xs → s ≡ get_or xs t s → m.threads t ≡ Some l → SameHolds t old new
+      → local_of state saved new t r ≡ f (local_of state saved old t s) → waits_of r.waits ≡ no_waits
+      → record m { threads = threads_of state saved new (set xs t r); waits = waits_by (set xs t r); started = length (set xs t r) } ≡ steps t m (f l)
   stepped m old new xs t s r l f mt mw ms h here at same is w =
       let its : local_of state saved old t s ≡ l = same_Some (local_of state saved old t s) l (sym (thread_at state saved old xs t s h here) ∙ (ap (λ z. z t) (sym mt) ∙ at)) in
       changed m (threads_of state saved new (set xs t r)) (update m.threads t (Some (f l))) (waits_by (set xs t r)) (update m.waits t no_waits) (length (set xs t r))
-        (one_thread state saved old new xs t r (f l) h same (is ∙ ap f its) ∙ ap (λ z. update z t (Some (f l))) (sym mt))
-        (one_waits xs t r no_waits h w ∙ ap (λ z. update z t no_waits) (sym mw))
-        (length-set xs t r ∙ sym ms)
+      (one_thread state saved old new xs t r (f l) h same (is ∙ ap f its) ∙ ap (λ z. update z t (Some (f l))) (sym mt))
+      (one_waits xs t r no_waits h w ∙ ap (λ z. update z t no_waits) (sym mw))
+      (length-set xs t r ∙ sym ms)
 
   -- the thread that was started
   pub started_thread : (e : Engine A K) (t : ℕ) → t < length e.threads.items → (l : Local S) × ((machine_in state saved e).threads t ≡ Some l)
@@ -183,15 +183,15 @@ waits_at_slot xs t s h here = ap waits_in (read_at xs t s h here)
 module _ {A K S : Type 0} (state : A → S) (saved : K → S) where
   -- thread t waits one turn more
   pub waited_row : (m : Machine S) (holders : Holders) (xs : List (ThreadSlot A K)) (t x b u : ℕ) (s r : ThreadSlot A K)
-    → m.threads ≡ threads_of state saved holders xs → m.waits ≡ waits_by xs → m.started ≡ length xs → t < length xs → s ≡ get_or xs t s
-    → local_of state saved holders t r ≡ local_of state saved holders t s → waits_of r.waits ≡ wait_more (waits_of s.waits) x b → b ≡ birth_of (m.threads u)
-    → ◌≡◌ {A = Turned S} (record { machine = record m { threads = threads_of state saved holders (set xs t r); waits = waits_by (set xs t r); started = length (set xs t r) }; kind = Waited x u }) (waited t m x u)
+      → m.threads ≡ threads_of state saved holders xs → m.waits ≡ waits_by xs → m.started ≡ length xs → t < length xs → s ≡ get_or xs t s
+      → local_of state saved holders t r ≡ local_of state saved holders t s → waits_of r.waits ≡ wait_more (waits_of s.waits) x b → b ≡ birth_of (m.threads u)
+      → ◌≡◌ {A = Turned S} (record { machine = record m { threads = threads_of state saved holders (set xs t r); waits = waits_by (set xs t r); started = length (set xs t r) }; kind = Waited x u }) (waited t m x u)
   waited_row m holders xs t x b u s r mt mw ms h here same w least =
       let ws = m.waits in
       ap (kinded (Waited x u)) (changed m (threads_of state saved holders (set xs t r)) m.threads (waits_by (set xs t r)) (update ws t (wait_more (ws t) x b)) (length (set xs t r))
-        (same_thread state saved holders xs t s r h here same ∙ sym mt)
-        (one_waits xs t r (wait_more (ws t) x b) h (w ∙ ap (λ z. wait_more z x b) (sym (waits_at_slot xs t s h here) ∙ ap (λ z. z t) (sym mw))) ∙ ap (λ z. update z t (wait_more (ws t) x b)) (sym mw))
-        (length-set xs t r ∙ sym ms))
+      (same_thread state saved holders xs t s r h here same ∙ sym mt)
+      (one_waits xs t r (wait_more (ws t) x b) h (w ∙ ap (λ z. wait_more z x b) (sym (waits_at_slot xs t s h here) ∙ ap (λ z. z t) (sym mw))) ∙ ap (λ z. update z t (wait_more (ws t) x b)) (sym mw))
+      (length-set xs t r ∙ sym ms))
       ∙ ap (λ z. kinded (Waited x u) (record m { waits = update ws t (wait_more (ws t) x z) })) least
 
 -- a new thread at the end
@@ -240,7 +240,7 @@ module _ {A K S : Type 0} (state : A → S) (saved : K → S) where
       ∙ ap (λ z. record (bare child) { wrote = z }) (fun_ext (λ x. ap is_write (free x))))))
 
   pub threads_push : (holders : Holders) (xs ys : List (ThreadSlot A K)) (s : ThreadSlot A K) (child : S) → ys ≡ xs ++ s ∷ [] → ((x : ℕ) → hold_of holders (length xs) x ≡ None) → state s.actor ≡ child → s.ended ≡ false → s.tx ≡ None
-    → threads_of state saved holders ys ≡ update (threads_of state saved holders xs) (length xs) (Some (bare child))
+      → threads_of state saved holders ys ≡ update (threads_of state saved holders xs) (length xs) (Some (bare child))
   unfolding threads_of
   threads_push holders xs ys s child q free e f h = fun_ext (λ u.
       ap (λ zs. local_in state saved holders u (slice_get zs u)) q

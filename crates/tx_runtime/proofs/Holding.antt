@@ -115,7 +115,7 @@ released_wrote t word old new one = wrote_is t word None old new one
 -- the parts still fit together
 
 pub whole_hold : {A K : Type 0} (p : Place) (limit : ℕ) (old new : Holders) (xs : List (ThreadSlot A K)) (t word : ℕ) (mode : Option Mode) → IsWhole p limit old xs → t < length xs → OneHold t word mode old new → thread_limit new ≡ thread_limit old
-  → (is_some mode ≡ true → can_access p word 8 ≡ true) → IsWhole p limit new xs
+    → (is_some mode ≡ true → can_access p word 8 ≡ true) → IsWhole p limit new xs
 whole_hold p limit old new xs t word mode w h one same access = record {
   fits = w.fits;
   few = w.few;
@@ -162,8 +162,8 @@ some_held p holders t w a h = some_least (held_in holders t) (word_bound p) w (a
 
 -- a thread after its holds and its transaction changed
 pub hold_local : {A K S : Type 0} (state : A → S) (saved : K → S) (old new : Holders) (t : ℕ) (s r : ThreadSlot A K) (tx tx' : Tx S) (h w : ℕ → Bool)
-  → local_of state saved new t r ≡ record (local_of state saved new t s) { tx = tx } → held_in new t ≡ h → wrote_in new t ≡ w → tx ≡ tx'
-  → local_of state saved new t r ≡ record (local_of state saved old t s) { held = h; wrote = w; tx = tx' }
+    → local_of state saved new t r ≡ record (local_of state saved new t s) { tx = tx } → held_in new t ≡ h → wrote_in new t ≡ w → tx ≡ tx'
+    → local_of state saved new t r ≡ record (local_of state saved old t s) { held = h; wrote = w; tx = tx' }
 hold_local state saved old new t s r tx tx' h w is eh ew et =
     is
     ∙ (ap (λ z. record (local_of state saved new t s) { held = z; tx = tx }) eh
@@ -172,8 +172,8 @@ hold_local state saved old new t s r tx tx' h w is eh ew et =
 
 -- and its state
 pub step_local : {A K S : Type 0} (state : A → S) (saved : K → S) (old new : Holders) (t : ℕ) (s r : ThreadSlot A K) (x : S) (h w : ℕ → Bool)
-  → local_of state saved new t r ≡ record (local_of state saved new t s) { state = x } → held_in new t ≡ h → wrote_in new t ≡ w
-  → local_of state saved new t r ≡ record (local_of state saved old t s) { state = x; held = h; wrote = w }
+    → local_of state saved new t r ≡ record (local_of state saved new t s) { state = x } → held_in new t ≡ h → wrote_in new t ≡ w
+    → local_of state saved new t r ≡ record (local_of state saved old t s) { state = x; held = h; wrote = w }
 step_local state saved old new t s r x h w is eh ew =
     is
     ∙ (ap (λ z. record (local_of state saved new t s) { held = z; state = x }) eh
@@ -201,8 +201,8 @@ empty_wrote holders t none = fun_ext (λ v. ap is_write (none v))
 
 -- a thread that stands again after its outermost BeginAtomic, and holds nothing
 pub again_hold : {A K S : Type 0} (state : A → S) (saved : K → S) (old new : Holders) (t : ℕ) (s r : ThreadSlot A K) (x : Transaction K) (b : ℕ) (k copy : S)
-  → local_of state saved new t r ≡ record (local_of state saved new t s) { state = copy; tx = OpenTx x.birth (saved x.kept) (no_save ∷ []) }
-  → ((v : ℕ) → hold_of new t v ≡ None) → copy ≡ k → x.birth ≡ b → saved x.kept ≡ k → local_of state saved new t r ≡ again (local_of state saved old t s) b k
+    → local_of state saved new t r ≡ record (local_of state saved new t s) { state = copy; tx = OpenTx x.birth (saved x.kept) (no_save ∷ []) }
+    → ((v : ℕ) → hold_of new t v ≡ None) → copy ≡ k → x.birth ≡ b → saved x.kept ≡ k → local_of state saved new t r ≡ again (local_of state saved old t s) b k
 again_hold state saved old new t s r x b k copy is none e f g =
     is
     ∙ (ap (λ z. record (local_of state saved new t s) { held = z; state = copy; tx = OpenTx x.birth (saved x.kept) (no_save ∷ []) }) (empty_held new t none)
@@ -213,8 +213,8 @@ again_hold state saved old new t s r x b k copy is none e f g =
 
 -- and all of these
 pub write_local : {A K S : Type 0} (state : A → S) (saved : K → S) (old new : Holders) (t : ℕ) (s r : ThreadSlot A K) (x : S) (tx tx' : Tx S) (h w : ℕ → Bool)
-  → local_of state saved new t r ≡ record (local_of state saved new t s) { state = x; tx = tx } → held_in new t ≡ h → wrote_in new t ≡ w → tx ≡ tx'
-  → local_of state saved new t r ≡ record (local_of state saved old t s) { state = x; held = h; wrote = w; tx = tx' }
+    → local_of state saved new t r ≡ record (local_of state saved new t s) { state = x; tx = tx } → held_in new t ≡ h → wrote_in new t ≡ w → tx ≡ tx'
+    → local_of state saved new t r ≡ record (local_of state saved old t s) { state = x; held = h; wrote = w; tx = tx' }
 write_local state saved old new t s r x tx tx' h w is eh ew et =
     is
     ∙ (ap (λ z. record (local_of state saved new t s) { held = z; state = x; tx = tx }) eh

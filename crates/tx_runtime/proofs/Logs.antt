@@ -38,9 +38,9 @@ descends_turned : (n : ℕ) (xs : List ℕ) → ((i : ℕ) → i < length xs →
 descends_turned n [] w up = tt
 descends_turned n (x ∷ xs) w up = subst (Descends n) (sym (reverse-append (x ∷ []) xs))
     (descends_end n x (reverse xs)
-      (descends_turned n xs (λ i l. w (suc i) (omega (arith, l))) (λ i j l h. up (suc i) (suc j) (omega (arith, l)) (omega (arith, h))))
-      (each_turned x xs (each_index x xs (λ i l. up 0 (suc i) (omega arith) (omega (arith, l)))))
-      (w 0 (omega arith)))
+    (descends_turned n xs (λ i l. w (suc i) (omega (arith, l))) (λ i j l h. up (suc i) (suc j) (omega (arith, l)) (omega (arith, h))))
+    (each_turned x xs (each_index x xs (λ i l. up 0 (suc i) (omega arith) (omega (arith, l)))))
+    (w 0 (omega arith)))
 
 -- the marks of a log descend from the number of its notes
 pub log_descends : (log : Log) → Descends (length (notes_of log)) (reverse (marks_of log))
@@ -83,7 +83,7 @@ log_marked old new n m =
     ∙ saves_marked (notes_of old) (reverse (marks_of old))))
 
 pub log_noted : (old new : Log) (word v : ℕ) → 0 < length (marks_of old)
-  → notes_of new ≡ cond (is_noted (newest_notes old) word) (notes_of old) (notes_of old ++ record { word = word; old = v } ∷ []) → marks_of new ≡ marks_of old → saves_of new ≡ note (saves_of old) word v
+    → notes_of new ≡ cond (is_noted (newest_notes old) word) (notes_of old) (notes_of old ++ record { word = word; old = v } ∷ []) → marks_of new ≡ marks_of old → saves_of new ≡ note (saves_of old) word v
 unfolding saves_of
 log_noted old new word v h n m =
     let start = newest_start (marks_of old) in
@@ -95,7 +95,7 @@ log_noted old new word v h n m =
     ∙ ap (λ ms. note (saves_by (notes_of old) ms) word v) (sym (newest_first (marks_of old) h)))))
 
 pub log_forgot : (old new : Log) (word : ℕ) → 0 < length (marks_of old)
-  → notes_of new ≡ take (newest_start (marks_of old)) (notes_of old) ++ others word (newest_notes old) → marks_of new ≡ marks_of old → saves_of new ≡ newest_without word (saves_of old)
+    → notes_of new ≡ take (newest_start (marks_of old)) (notes_of old) ++ others word (newest_notes old) → marks_of new ≡ marks_of old → saves_of new ≡ newest_without word (saves_of old)
 unfolding saves_of
 log_forgot old new word h n m =
     let start = newest_start (marks_of old) in
@@ -128,7 +128,7 @@ length_before [] (suc n) e = absurd (omega (arith, e))
 length_before (x ∷ xs) (suc n) e = ap suc (length_before xs n (omega (arith, e)))
 
 pub log_dropped : (old new : Log) (mark : ℕ) → mark + 1 ≡ length (marks_of old) → 0 < mark
-  → notes_of new ≡ notes_of old → marks_of new ≡ take mark (marks_of old) → saves_of new ≡ handed (saves_of old)
+    → notes_of new ≡ notes_of old → marks_of new ≡ take mark (marks_of old) → saves_of new ≡ handed (saves_of old)
 unfolding saves_of
 log_dropped old new mark e some n m =
     let last : length (marks_of old) ≡ suc mark = omega (arith, e) in

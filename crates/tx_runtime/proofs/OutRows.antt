@@ -37,7 +37,7 @@ module _ {S : Type 0} (a : Thread S) (p : Place) (t : ℕ) (m : Machine S) (l : 
   load_waits addr size word u vol e w f = ap (λ x. waited t m x u) w ∙ load_goes addr size vol (Some u) e (ap (λ x. blocker t false x m) (sym w) ∙ f)
 
   pub load_done : (addr size word value : ℕ) (vol : Bool) → can_access p addr size ≡ true → word ≡ word_of addr → blocker t false word m ≡ None → value ≡ load m.memory addr size
-    → ran (told t (steps t m (record l { state = a.after l.state (Loaded value) }))) ≡ out_does a p t m l (Load addr size vol)
+      → ran (told t (steps t m (record l { state = a.after l.state (Loaded value) }))) ≡ out_does a p t m l (Load addr size vol)
   load_done addr size word value vol e w f v =
       ap (λ x. ran (told t (steps t m (record l { state = a.after l.state (Loaded x) })))) v ∙ load_goes addr size vol None e (ap (λ x. blocker t false x m) (sym w) ∙ f)
 
@@ -91,7 +91,7 @@ no_target {X} t (pos n) threads h = elim ((n == 0) || (n == t)) as (λ b. ((n ==
 ] refl
 
 pub spawn_done : {S : Type 0} (a : Thread S) (p : Place) (t : ℕ) (m : Machine S) (l : Local S) (f n : ℕ) (x i : ℤ) (child : S) → nat_lt m.started p.limit ≡ true → i ≡ pos m.started → child ≡ a.child l.state m.started f x
-  → ran (spawns t m (record l { state = a.after l.state (Id i) }) child) ≡ out_does a p t m l (Spawn f x)
+    → ran (spawns t m (record l { state = a.after l.state (Id i) }) child) ≡ out_does a p t m l (Spawn f x)
 spawn_done a p t m l f n x i child e j k =
     ap (λ z. ran (spawns t m (record l { state = a.after l.state (Id z) }) child)) j
     ∙ (ap (λ z. ran (spawns t m (record l { state = a.after l.state (Id (pos m.started)) }) z)) k

@@ -61,7 +61,7 @@ noted_old ns word old e =
     ] refl)
 
 pub saves_noted : (notes : List Note) (m : ℕ) (ms : List ℕ) (word old : ℕ) → m ≤ length notes
-  → saves_by (cond (is_noted (drop m notes) word) notes (notes ++ record { word = word; old = old } ∷ [])) (m ∷ ms) ≡ note (saves_by notes (m ∷ ms)) word old
+    → saves_by (cond (is_noted (drop m notes) word) notes (notes ++ record { word = word; old = old } ∷ [])) (m ∷ ms) ≡ note (saves_by notes (m ∷ ms)) word old
 saves_noted notes m ms word old h = elim (cases_Bool (is_noted (drop m notes) word)) [
   | inl e ↦
       ap (λ b. saves_by (cond b notes (notes ++ record { word = word; old = old } ∷ [])) (m ∷ ms)) e
@@ -76,7 +76,7 @@ saves_noted notes m ms word old h = elim (cases_Bool (is_noted (drop m notes) wo
 -- the newest mark dropped
 
 pub saves_dropped : (notes : List Note) (m o : ℕ) (ms : List ℕ) → m ≤ length notes → o ≤ m
-  → saves_by notes (o ∷ ms) ≡ hand (first_note (drop m notes)) (first_note (drop o (take m notes))) ∷ saves_by (take o (take m notes)) ms
+    → saves_by notes (o ∷ ms) ≡ hand (first_note (drop m notes)) (first_note (drop o (take m notes))) ∷ saves_by (take o (take m notes)) ms
 saves_dropped notes m o ms h k =
     let a = take m notes in
     let b = drop m notes in
@@ -93,7 +93,7 @@ first_forgot : (ns : List Note) (word : ℕ) → first_note (others word ns) ≡
 first_forgot ns word = fun_ext (λ x. first_others ns word x ∙ ap (λ b. cond b None (first_note ns x)) (eqb_turned word x))
 
 pub saves_forgot : (notes : List Note) (m : ℕ) (ms : List ℕ) (word : ℕ) → m ≤ length notes
-  → saves_by (take m notes ++ others word (drop m notes)) (m ∷ ms) ≡ forget (first_note (drop m notes)) word ∷ saves_by (take m notes) ms
+    → saves_by (take m notes ++ others word (drop m notes)) (m ∷ ms) ≡ forget (first_note (drop m notes)) word ∷ saves_by (take m notes) ms
 saves_forgot notes m ms word h =
     let long = length-take-le m notes h in
     ap (λ ns. first_note ns ∷ saves_by (take m (take m notes ++ others word (drop m notes))) ms) (drop_at (take m notes) (others word (drop m notes)) m long)
@@ -122,7 +122,7 @@ moved_map word notes m (o ∷ ms) n h k d =
     ∙ ap (λ r. moved_to word (take m notes) o ∷ r) (moved_map word notes m ms o h (omega (arith, k, d.0)) d.1)
 
 pub saves_forgot_all : (notes : List Note) (r : List ℕ) (word : ℕ) → Descends (length notes) r
-  → saves_by (others word notes) (map (moved_to word notes) r) ≡ forget_all (saves_by notes r) word
+    → saves_by (others word notes) (map (moved_to word notes) r) ≡ forget_all (saves_by notes r) word
 saves_forgot_all notes [] word d = refl
 saves_forgot_all notes (m ∷ ms) word d =
     let a = take m notes in

@@ -25,7 +25,7 @@ use Rattle.tx_runtime.proofs.Logs.{newest_is, oldest_is}
 
 -- the same thread with another log
 pub relog : {A K S : Type 0} (state : A → S) (saved : K → S) (holders : Holders) (t : ℕ) (s : ThreadSlot A K) (log : Log) (ss : List Save) → saves_of log ≡ ss
-  → local_of state saved holders t (record s { log = log }) ≡ record (local_of state saved holders t s) { tx = tx_of saved s.tx ss }
+    → local_of state saved holders t (record s { log = log }) ≡ record (local_of state saved holders t s) { tx = tx_of saved s.tx ss }
 relog state saved holders t s log ss e = ap (λ v. record (local_of state saved holders t s) { tx = tx_of saved s.tx v }) e
 
 pub log_same : (old new : Log) → notes_of new ≡ notes_of old → marks_of new ≡ marks_of old → saves_of new ≡ saves_of old
@@ -95,7 +95,7 @@ sound_from p s h = ap (λ b. b && begins_at (notes_of s.log) (marks_of s.log) &&
 
 -- after the newest savepoint forgot a word
 pub sound_forgot : {A K : Type 0} (p : Place) (s : ThreadSlot A K) (log : Log) (w : ℕ) → 0 < length (marks_of s.log) → is_sound p s ≡ true
-  → notes_of log ≡ take (newest_start (marks_of s.log)) (notes_of s.log) ++ others w (newest_notes s.log) → marks_of log ≡ marks_of s.log → is_sound p (record s { log = log }) ≡ true
+    → notes_of log ≡ take (newest_start (marks_of s.log)) (notes_of s.log) ++ others w (newest_notes s.log) → marks_of log ≡ marks_of s.log → is_sound p (record s { log = log }) ≡ true
 sound_forgot p s log w some h n m =
     let old = sound_parts p s h in
     let start = newest_start (marks_of s.log) in
@@ -116,7 +116,7 @@ nil_moved f (m ∷ ms) = refl
 
 -- after all savepoints forgot a word
 pub sound_forgot_all : {A K : Type 0} (p : Place) (s : ThreadSlot A K) (log : Log) (w : ℕ) → is_sound p s ≡ true
-  → notes_of log ≡ others w (notes_of s.log) → marks_of log ≡ map (moved_to w (notes_of s.log)) (marks_of s.log) → is_sound p (record s { log = log }) ≡ true
+    → notes_of log ≡ others w (notes_of s.log) → marks_of log ≡ map (moved_to w (notes_of s.log)) (marks_of s.log) → is_sound p (record s { log = log }) ≡ true
 sound_forgot_all p s log w h n m =
     let old = sound_parts p s h in
     sound_from p (record s { log = log }) (record {
@@ -162,8 +162,8 @@ oldest_words p s w old new h e = e ∙ (back_is (first_note (notes_of s.log) w) 
 
 -- a thread that stands again after its outermost BeginAtomic
 pub again_local : {A K S : Type 0} (state : A → S) (saved : K → S) (holders : Holders) (t : ℕ) (s : ThreadSlot A K) (x y : Transaction K) (copy : K) (actor : A) (waits : WaitCount) (log : Log)
-  → s.tx ≡ Some x → s.tx ≡ Some y → state actor ≡ saved copy → saves_of log ≡ no_save ∷ []
-  → local_of state saved holders t (record { actor = actor; ended = s.ended; waits = waits; tx = Some (record y { stage = Open }); log = log })
+    → s.tx ≡ Some x → s.tx ≡ Some y → state actor ≡ saved copy → saves_of log ≡ no_save ∷ []
+    → local_of state saved holders t (record { actor = actor; ended = s.ended; waits = waits; tx = Some (record y { stage = Open }); log = log })
     ≡ record (local_of state saved holders t s) { state = saved copy; tx = OpenTx x.birth (saved x.kept) (no_save ∷ []) }
 again_local state saved holders t s x y copy actor waits log e f i j =
     let l = local_of state saved holders t s in
@@ -174,7 +174,7 @@ again_local state saved holders t s x y copy actor waits log e f i j =
 
 -- the same thread with another actor in the same state, and another log that shows the same
 pub ready_local : {A K S : Type 0} (state : A → S) (saved : K → S) (holders : Holders) (t : ℕ) (s : ThreadSlot A K) (actor : A) (log : Log) → state actor ≡ state s.actor → notes_of log ≡ notes_of s.log → marks_of log ≡ marks_of s.log
-  → local_of state saved holders t (record s { actor = actor; log = log }) ≡ local_of state saved holders t s
+    → local_of state saved holders t (record s { actor = actor; log = log }) ≡ local_of state saved holders t s
 ready_local state saved holders t s actor log e n m =
     ap (λ z. record (local_of state saved holders t s) { state = z; tx = tx_of saved s.tx (saves_of log) }) e
     ∙ ap (λ z. record (local_of state saved holders t s) { tx = tx_of saved s.tx z }) (log_same s.log log n m)

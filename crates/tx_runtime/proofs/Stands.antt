@@ -65,7 +65,7 @@ module _ {A K S : Type 0} (state : A → S) (saved : K → S) (R : S → Type 0)
           going = going;
           started = here;
           at = λ l at. subst (λ (v : Local S). IsInside R a v event) (same l at)
-            (record { reached = reached; up = up; birth = tx.0; kept = tx.1.0; saves = saves_of s.log; tx = tx.1.1; next = sym next });
+              (record { reached = reached; up = up; birth = tx.0; kept = tx.1.0; saves = saves_of s.log; tx = tx.1.1; next = sym next });
         }
 
     pub stands_undoing : e.end ≡ None → s.ended ≡ false → stage_of s.tx ≡ Some Undoing → GivesUp t (machine_in state saved e)
@@ -111,8 +111,8 @@ module _ {A K S : Type 0} (state : A → S) (saved : K → S) (R : S → Type 0)
 
 -- an event that does not come where a block is open
 pub stays_in : {S : Type 0} (a : Thread S) (p : Place) (answer : Clash → Choice) (t : ℕ) (m : Machine S) (l : Local S) (b : ℕ) (k : S) (ss : List Save) (e : Event)
-  → is_access e ≡ false → (e ≡ Silent → ⊥) → (e ≡ BeginSync → ⊥) → (e ≡ EndSync → ⊥) → ((x : BlockKind) → e ≡ BeginAtomic x → ⊥) → (e ≡ EndAtomic → ⊥) → ((x : BlockKind) (y : Bool) → e ≡ Raise x y → ⊥) → ((x : End) → e ≡ Stop x → ⊥)
-  → stays Idle m ≡ in_does a p answer t m l b k ss e
+    → is_access e ≡ false → (e ≡ Silent → ⊥) → (e ≡ BeginSync → ⊥) → (e ≡ EndSync → ⊥) → ((x : BlockKind) → e ≡ BeginAtomic x → ⊥) → (e ≡ EndAtomic → ⊥) → ((x : BlockKind) (y : Bool) → e ≡ Raise x y → ⊥) → ((x : End) → e ≡ Stop x → ⊥)
+    → stays Idle m ≡ in_does a p answer t m l b k ss e
 stays_in a p answer t m l b k ss Silent h n1 n2 n3 n4 n5 n6 n7 = absurd (n1 refl)
 stays_in a p answer t m l b k ss BeginSync h n1 n2 n3 n4 n5 n6 n7 = absurd (n2 refl)
 stays_in a p answer t m l b k ss EndSync h n1 n2 n3 n4 n5 n6 n7 = absurd (n3 refl)

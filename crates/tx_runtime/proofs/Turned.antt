@@ -37,18 +37,18 @@ if_ok (Err e) f h = tt
 
 -- a row of a thread without a transaction, at any thread that stands there
 pub outside_row : {A K S : Type 0} (state : A → S) (saved : K → S) (R : S → Type 0) (a : Thread S) (e : Engine A K) (answer : Clash → Choice) (t : ℕ) (event : Event) (to : Turned S)
-  → GoesOutside R a t (machine_in state saved e) event
-  → ((l : Local S) → (machine_in state saved e).threads t ≡ Some l → IsOutside R a l event → to ≡ out_does a (place_in e) t (machine_in state saved e) l event)
-  → to ≡ turn a (place_in e) answer t (machine_in state saved e)
+    → GoesOutside R a t (machine_in state saved e) event
+    → ((l : Local S) → (machine_in state saved e).threads t ≡ Some l → IsOutside R a l event → to ≡ out_does a (place_in e) t (machine_in state saved e) l event)
+    → to ≡ turn a (place_in e) answer t (machine_in state saved e)
 outside_row state saved R a e answer t event to here row =
     let there = started_thread state saved e t here.started in
     row there.0 there.1 (here.at there.0 there.1) ∙ outside_turn a (place_in e) answer t (machine_in state saved e) there.0 R event here there.1
 
 -- a row of a thread in an open transaction
 pub inside_row : {A K S : Type 0} (state : A → S) (saved : K → S) (R : S → Type 0) (a : Thread S) (e : Engine A K) (answer : Clash → Choice) (t : ℕ) (event : Event) (to : Turned S)
-  → GoesInside R a t (machine_in state saved e) event
-  → ((l : Local S) → (machine_in state saved e).threads t ≡ Some l → (i : IsInside R a l event) → to ≡ in_does a (place_in e) answer t (machine_in state saved e) l i.birth i.kept i.saves event)
-  → to ≡ turn a (place_in e) answer t (machine_in state saved e)
+    → GoesInside R a t (machine_in state saved e) event
+    → ((l : Local S) → (machine_in state saved e).threads t ≡ Some l → (i : IsInside R a l event) → to ≡ in_does a (place_in e) answer t (machine_in state saved e) l i.birth i.kept i.saves event)
+    → to ≡ turn a (place_in e) answer t (machine_in state saved e)
 inside_row state saved R a e answer t event to here row =
     let there = started_thread state saved e t here.started in
     let i = here.at there.0 there.1 in
@@ -67,9 +67,9 @@ answers_at a s e r next h = subst (λ v. Answers v r) (sym next) h
 
 -- the row of a thread whose transaction is closing
 pub closing_row : {A K S : Type 0} (state : A → S) (saved : K → S) (a : Thread S) (e : Engine A K) (answer : Clash → Choice) (t : ℕ) (to : Turned S)
-  → Closes t (machine_in state saved e)
-  → ((l : Local S) (b : ℕ) → (machine_in state saved e).threads t ≡ Some l → l.tx ≡ Closing b → to ≡ lets_go (place_in e) t (machine_in state saved e) l b (least l.held (word_bound (place_in e))))
-  → to ≡ turn a (place_in e) answer t (machine_in state saved e)
+    → Closes t (machine_in state saved e)
+    → ((l : Local S) (b : ℕ) → (machine_in state saved e).threads t ≡ Some l → l.tx ≡ Closing b → to ≡ lets_go (place_in e) t (machine_in state saved e) l b (least l.held (word_bound (place_in e))))
+    → to ≡ turn a (place_in e) answer t (machine_in state saved e)
 closing_row state saved a e answer t to here row =
     let there = started_thread state saved e t here.started in
     let is = here.at there.0 there.1 in
@@ -77,9 +77,9 @@ closing_row state saved a e answer t to here row =
 
 -- the row of a thread whose transaction gives up
 pub giving_row : {A K S : Type 0} (state : A → S) (saved : K → S) (a : Thread S) (e : Engine A K) (answer : Clash → Choice) (t : ℕ) (to : Turned S)
-  → GivesUp t (machine_in state saved e)
-  → ((l : Local S) (b : ℕ) (k : S) (ss : List Save) → (machine_in state saved e).threads t ≡ Some l → l.tx ≡ GivingUp b k ss → to ≡ gives_back (place_in e) t (machine_in state saved e) l b k ss (least l.held (word_bound (place_in e))))
-  → to ≡ turn a (place_in e) answer t (machine_in state saved e)
+    → GivesUp t (machine_in state saved e)
+    → ((l : Local S) (b : ℕ) (k : S) (ss : List Save) → (machine_in state saved e).threads t ≡ Some l → l.tx ≡ GivingUp b k ss → to ≡ gives_back (place_in e) t (machine_in state saved e) l b k ss (least l.held (word_bound (place_in e))))
+    → to ≡ turn a (place_in e) answer t (machine_in state saved e)
 giving_row state saved a e answer t to here row =
     let there = started_thread state saved e t here.started in
     let is = here.at there.0 there.1 in

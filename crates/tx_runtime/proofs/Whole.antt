@@ -40,21 +40,22 @@ use Rattle.tx_runtime.proofs.Logs.{saves_count}
 
 module _ {S : Type 0} (a : Thread S) (p : Place) where
   one_more : (slots : List Slot) (t : ℕ) (answer : Clash → Choice) (first : Machine S)
-    → turns a p (slots ++ record { thread = t; answer = answer } ∷ []) first ≡ (turn a p answer t (turns a p slots first)).machine
+      → turns a p (slots ++ record { thread = t; answer = answer } ∷ []) first ≡ (turn a p answer t (turns a p slots first)).machine
   one_more [] t answer first = refl
   one_more (q ∷ qs) t answer first = one_more qs t answer (turn a p q.answer q.thread first).machine
 
   pub reached_after : (answers : Clash → Choice → Type 0) (allows : Clash → Choice → Bool) (t : ℕ) (old new first : Machine S) (kind : TurnKind) → Chosen a p answers allows t old kind new → ReachedBy a p first old → ReachedBy a p first new
-  reached_after answers allows t old new first kind c r =
-      (r.0 ++ record { thread = t; answer = λ _. c.choice } ∷ [],
-       ap (λ z. z.machine) c.turned ∙ (ap (λ z. (turn a p (λ _. c.choice) t z).machine) r.1 ∙ sym (one_more r.0 t (λ _. c.choice) first)))
+  reached_after answers allows t old new first kind c r = (
+    r.0 ++ record { thread = t; answer = λ _. c.choice } ∷ [],
+    ap (λ z. z.machine) c.turned ∙ (ap (λ z. (turn a p (λ _. c.choice) t z).machine) r.1 ∙ sym (one_more r.0 t (λ _. c.choice) first)),
+  )
 
   pub carried : (R : S → Type 0) (answers : Clash → Choice → Type 0) (allows : Clash → Choice → Bool) (t : ℕ) (old new : Machine S) (kind : TurnKind) → Lawful S R a → p.limit ≤ 64 → Chosen a p answers allows t old kind new → Carries R a p old new
   carried R answers allows t old new kind lawful small c = record {
     reached = λ first. reached_after answers allows t old new first kind c;
     shown = λ memory input main reached free from.
-      let to = reached_after answers allows t old new (first_machine memory input main) kind c from in
-      subst (λ (z : Machine S). Shown a p (first_world memory input main) z) (sym to.1) (turns_shown R a p lawful small memory input main to.0 reached free);
+        let to = reached_after answers allows t old new (first_machine memory input main) kind c from in
+        subst (λ (z : Machine S). Shown a p (first_world memory input main) z) (sym to.1) (turns_shown R a p lawful small memory input main to.0 reached free);
   }
 
 module _ {A K S : Type 0} (state : A → S) (saved : K → S) (e : Engine A K) where
@@ -125,7 +126,7 @@ marks_shown log ss e = sym (saves_count log) ∙ ap length e
 -- the machine at the start
 
 pub first_whole : {A K : Type 0} (p : Place) (limit : ℕ) (holders : Holders) (xs : List (ThreadSlot A K)) (s : ThreadSlot A K) → xs ≡ s ∷ [] → p.limit ≡ limit → 0 < limit → limit ≤ 64 → thread_limit holders ≡ limit
-  → ((t x : ℕ) → hold_of holders t x ≡ None) → is_sound p s ≡ true → IsWhole p limit holders xs
+    → ((t x : ℕ) → hold_of holders t x ≡ None) → is_sound p s ≡ true → IsWhole p limit holders xs
 first_whole p limit holders xs s e fits some few numbers free sound = let n : length xs ≡ 1 = ap length e in record {
   fits = sym fits;
   few = few;
@@ -138,7 +139,7 @@ first_whole p limit holders xs s e fits some few numbers free sound = let n : le
 }
 
 pub first_threads : {A K S : Type 0} (state : A → S) (saved : K → S) (holders : Holders) (xs : List (ThreadSlot A K)) (s : ThreadSlot A K) (main : S) → xs ≡ s ∷ [] → ((t x : ℕ) → hold_of holders t x ≡ None) → state s.actor ≡ main → s.ended ≡ false → s.tx ≡ None
-  → threads_of state saved holders xs ≡ first_thread main
+    → threads_of state saved holders xs ≡ first_thread main
 first_threads {A} {K} {S} state saved holders xs s main e free is runs none =
     threads_push state saved holders [] xs s main e (free 0) is runs none ∙ fun_ext at
   where
@@ -151,8 +152,8 @@ unfolding waits_by
 first_waits xs s e none = waits_push [] xs s e none
 
 pub first_parts : {S : Type 0} (memory : ℕ → ℕ) (threads : ℕ → Option (Local S)) (waits : ℕ → Waits) (started : ℕ) (out order input left : List ℕ) (main : S)
-  → threads ≡ first_thread main → started ≡ 1 → waits ≡ (λ _. no_waits) → out ≡ [] → order ≡ [] → left ≡ input
-  → ◌≡◌ {A = Machine S} (record { memory = memory; threads = threads; started = started; lock = record { holder = None; depth = 0 }; births = 0; waits = waits; out = out; input = left; order = order; end = None }) (first_machine memory input main)
+    → threads ≡ first_thread main → started ≡ 1 → waits ≡ (λ _. no_waits) → out ≡ [] → order ≡ [] → left ≡ input
+    → ◌≡◌ {A = Machine S} (record { memory = memory; threads = threads; started = started; lock = record { holder = None; depth = 0 }; births = 0; waits = waits; out = out; input = left; order = order; end = None }) (first_machine memory input main)
 first_parts {S} memory threads waits started out order input left main a b c d e f =
     ap (λ z. record (first_machine memory left main) { threads = z; started = started; waits = waits; out = out; order = order }) a
     ∙ (ap (λ z. record (first_machine memory left main) { started = z; waits = waits; out = out; order = order }) b

@@ -125,7 +125,7 @@ IsStill {S} t m = (l : Local S) → m.threads t ≡ Some l → l.ended ≡ true
 -- The innermost block of thread t was left, and what it did stays.
 abbrev pub Commits : {A K S : Type 0} → (A → S) → (K → S) → Thread S → ℕ → Engine A K → TurnKind → Engine A K → Type 0
 Commits {A} {K} {S} state saved a t old kind new = (l : Local S) (b : ℕ) (k : S) (ss : List Save) → (machine_in state saved old).threads t ≡ Some l → l.tx ≡ OpenTx b k ss
-  → record { machine = machine_in state saved new; kind = kind } ≡ commits (place_in old) t (machine_in state saved old) l (a.after l.state Nothing) b k ss
+    → record { machine = machine_in state saved new; kind = kind } ≡ commits (place_in old) t (machine_in state saved old) l (a.after l.state Nothing) b k ss
 
 -- The turn of thread t led from the machine old to the machine new and was of this kind; where the policy was asked, its
 -- answer was this choice, which the rule allows.

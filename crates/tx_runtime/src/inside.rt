@@ -104,7 +104,13 @@ impl<A: Actor> Engine<A, A::Saved> {
     }
 
     /// A store that nothing keeps off: the thread holds the word, and the log keeps its bytes.
-    fn write_inside(&mut self, t: u8, addr: u64, size: u8, value: u64) -> Result<TurnKind, AllocError>
+    fn write_inside(
+        &mut self,
+        t: u8,
+        addr: u64,
+        size: u8,
+        value: u64,
+    ) -> Result<TurnKind, AllocError>
         requires here { (vol : Bool) × GoesInside A.is_reached A.thread t (machine_in A.state A.saved_state self.old) (Store addr size value vol) }
         requires access { can_access (place_in self.old) addr size ≡ true }
         requires free { blocker t true (word_of addr) (machine_in A.state A.saved_state self.old) ≡ None }
@@ -196,7 +202,12 @@ impl<A: Actor> Engine<A, A::Saved> {
     }
 
     /// An exception leaves the innermost block.
-    pub(crate) fn raise(&mut self, t: u8, kind: BlockKind, cancels: bool) -> Result<TurnKind, AllocError>
+    pub(crate) fn raise(
+        &mut self,
+        t: u8,
+        kind: BlockKind,
+        cancels: bool,
+    ) -> Result<TurnKind, AllocError>
         requires here { GoesInside A.is_reached A.thread t (machine_in A.state A.saved_state self.old) (Raise kind cancels) }
         ensures turned { IfOk result (λ kind. Turns A.state A.saved_state A.thread t self.old kind self.new) }
         ensures same { OnErr result (machine_in A.state A.saved_state self.new ≡ machine_in A.state A.saved_state self.old) }

@@ -29,7 +29,12 @@ impl<A: Actor> Engine<A, A::Saved> {
     }
 
     /// A load reads, unless a transaction of another thread has stored to the word.
-    pub(crate) fn load_outside(&mut self, t: u8, addr: u64, size: u8) -> Result<TurnKind, AllocError>
+    pub(crate) fn load_outside(
+        &mut self,
+        t: u8,
+        addr: u64,
+        size: u8,
+    ) -> Result<TurnKind, AllocError>
         requires here { (vol : Bool) × GoesOutside A.is_reached A.thread t (machine_in A.state A.saved_state self.old) (Load addr size vol) }
         ensures turned { IfOk result (λ kind. Turns A.state A.saved_state A.thread t self.old kind self.new) }
         ensures same { OnErr result (machine_in A.state A.saved_state self.new ≡ machine_in A.state A.saved_state self.old) }
@@ -46,7 +51,13 @@ impl<A: Actor> Engine<A, A::Saved> {
     }
 
     /// A store writes, unless a transaction of another thread holds the word.
-    pub(crate) fn store_outside(&mut self, t: u8, addr: u64, size: u8, value: u64) -> Result<TurnKind, AllocError>
+    pub(crate) fn store_outside(
+        &mut self,
+        t: u8,
+        addr: u64,
+        size: u8,
+        value: u64,
+    ) -> Result<TurnKind, AllocError>
         requires here { (vol : Bool) × GoesOutside A.is_reached A.thread t (machine_in A.state A.saved_state self.old) (Store addr size value vol) }
         ensures turned { IfOk result (λ kind. Turns A.state A.saved_state A.thread t self.old kind self.new) }
         ensures same { OnErr result (machine_in A.state A.saved_state self.new ≡ machine_in A.state A.saved_state self.old) }
@@ -63,13 +74,20 @@ impl<A: Actor> Engine<A, A::Saved> {
     }
 
     /// A store that nothing keeps off.
-    fn write_outside(&mut self, t: u8, addr: u64, size: u8, value: u64) -> Result<TurnKind, AllocError>
+    fn write_outside(
+        &mut self,
+        t: u8,
+        addr: u64,
+        size: u8,
+        value: u64,
+    ) -> Result<TurnKind, AllocError>
         requires here { (vol : Bool) × GoesOutside A.is_reached A.thread t (machine_in A.state A.saved_state self.old) (Store addr size value vol) }
         requires access { can_access (place_in self.old) addr size ≡ true }
         ensures done { IfOk result (λ kind. (l : Local A.State) → (machine_in A.state A.saved_state self.old).threads t ≡ Some l
             → record { machine = machine_in A.state A.saved_state self.new; kind = kind }
             ≡ ran (record (told t (steps t (machine_in A.state A.saved_state self.old) (record l { state = A.thread.after l.state Nothing }))) {
-                memory = store (words_of self.old.memory) addr size value })) }
+              memory = store (words_of self.old.memory) addr size value;
+            })) }
         ensures same { OnErr result (machine_in A.state A.saved_state self.new ≡ machine_in A.state A.saved_state self.old) }
         ensures place { place_in self.new ≡ place_in self.old }
     {
@@ -173,8 +191,14 @@ impl<A: Actor> Engine<A, A::Saved> {
         let thread = &self.threads[t as usize];
         let child = thread.actor.start(number, func, arg)?;
         self.order.push_reserved(t);
-        self.threads.push_reserved(ThreadSlot::new(self.alloc, child));
-        self.step(t, Reply::Id { id: i32::from(number) });
+        self.threads
+            .push_reserved(ThreadSlot::new(self.alloc, child));
+        self.step(
+            t,
+            Reply::Id {
+                id: i32::from(number),
+            },
+        );
         Ok(TurnKind::Ran)
     }
 

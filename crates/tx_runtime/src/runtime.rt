@@ -48,7 +48,13 @@ impl<A: Actor> Runtime<A> {
     ghost use Rattle.tx_serial.specs.Turn.{first_machine};
 
     /// The machine at the start: `main` is thread 0 and alone was started. As many threads as `threads` may be started.
-    pub fn new(alloc: Global, main: A, memory: Memory, input: Vec<u8>, threads: u8) -> Result<Runtime<A>, AllocError>
+    pub fn new(
+        alloc: Global,
+        main: A,
+        memory: Memory,
+        input: Vec<u8>,
+        threads: u8,
+    ) -> Result<Runtime<A>, AllocError>
         requires some { 0 < threads }
         requires limit { threads ≤ 64 }
         requires memory { (place_of memory).limit ≡ threads }
@@ -85,7 +91,11 @@ impl<A: Actor> Runtime<A> {
     }
 
     /// One turn of the thread, where the policy is asked at a clash. On `AllocError` the machine is as before.
-    pub fn turn<R: Rule, F: Fn(&Clash) -> Choice>(&mut self, t: u8, policy: &Policy<R, F>) -> Result<TurnKind, AllocError>
+    pub fn turn<R: Rule, F: Fn(&Clash) -> Choice>(
+        &mut self,
+        t: u8,
+        policy: &Policy<R, F>,
+    ) -> Result<TurnKind, AllocError>
         requires number { t < limit_of self.old }
         requires going { (machine_of A.state A.saved_state self.old).end ≡ None }
         requires births { (machine_of A.state A.saved_state self.old).births < 2 ^ 64 - 1 }

@@ -20,6 +20,7 @@ use tx_memory::Memory;
 
 /// The first words of the globals.
 const A: u64 = 65_536;
+
 const B: u64 = 65_544;
 
 const BLOCK: Event = Event::BeginAtomic {
@@ -134,7 +135,10 @@ fn a_cancel_word_by_word(rt: HostRuntime) -> Result<(), Fail> {
         Event::BeginAtomic { kind },
         store(A, 1),
         store(B, 2),
-        Event::Raise { kind, cancels: true },
+        Event::Raise {
+            kind,
+            cancels: true
+        },
         Event::Out { byte: 7 },
         Event::Inp,
         Event::Stop { end: End::Exit(3) },
@@ -292,7 +296,13 @@ fn polite_yields_after_eight_waits(rt: HostRuntime) -> Result<(), Fail> {
 }
 
 /// The program's end after this number of turns of the only thread.
-fn ends(rt: &impl Abort, alloc: Global, events: Vec<Event>, rows: &[(u8, TurnKind)], end: End) -> Result<(), Fail>
+fn ends(
+    rt: &impl Abort,
+    alloc: Global,
+    events: Vec<Event>,
+    rows: &[(u8, TurnKind)],
+    end: End,
+) -> Result<(), Fail>
     requires lawful { is_lawful events.items ≡ true }
     requires few { length rows.now ≤ 100 }
 {
@@ -312,12 +322,60 @@ fn each_trap(rt: HostRuntime) -> Result<(), Fail> {
     let join = End::Trapped(Trap::BadJoin);
     ends(&rt, alloc, vec![in alloc; load(A + 4)]?, &one, address)?;
     ends(&rt, alloc, vec![in alloc; store(A - 8, 1)]?, &one, address)?;
-    ends(&rt, alloc, vec![in alloc; BLOCK, load(B + 8)]?, &two, address)?;
-    ends(&rt, alloc, vec![in alloc; BLOCK, store(B + 1, 1)]?, &two, address)?;
-    ends(&rt, alloc, vec![in alloc; Event::Join { id: 0 }]?, &one, join)?;
-    ends(&rt, alloc, vec![in alloc; Event::Join { id: 1 }]?, &one, join)?;
-    ends(&rt, alloc, vec![in alloc; Event::Join { id: -1 }]?, &one, join)?;
-    ends(&rt, alloc, vec![in alloc; Event::Spawn { func: 0, arg: 0 }]?, &one, End::Trapped(Trap::TooManyThreads))?;
+    ends(
+        &rt,
+        alloc,
+        vec![in alloc; BLOCK, load(B + 8)]?,
+        &two,
+        address,
+    )?;
+    ends(
+        &rt,
+        alloc,
+        vec![in alloc; BLOCK, store(B + 1, 1)]?,
+        &two,
+        address,
+    )?;
+    ends(
+        &rt,
+        alloc,
+        vec![in alloc; Event::Join { id: 0 }]?,
+        &one,
+        join,
+    )?;
+    ends(
+        &rt,
+        alloc,
+        vec![in alloc; Event::Join { id: 1 }]?,
+        &one,
+        join,
+    )?;
+    ends(
+        &rt,
+        alloc,
+        vec![in alloc; Event::Join { id: -1 }]?,
+        &one,
+        join,
+    )?;
+    ends(
+        &rt,
+        alloc,
+        vec![in alloc; Event::Spawn { func: 0, arg: 0 }]?,
+        &one,
+        End::Trapped(Trap::TooManyThreads),
+    )?;
     let kind = BlockKind::Cancel;
-    ends(&rt, alloc, vec![in alloc; Event::BeginAtomic { kind }, Event::Raise { kind, cancels: false }]?, &two, End::Abort)
+    ends(
+        &rt,
+        alloc,
+        vec![in alloc;
+            Event::BeginAtomic { kind },
+            Event::Raise {
+                kind,
+                cancels: false
+            },
+        ]?,
+        &two,
+        End::Abort,
+    )
 }

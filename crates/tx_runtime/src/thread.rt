@@ -172,7 +172,8 @@ impl<A: Actor> ThreadSlot<A, A::Saved> {
         requires answers { Answers (A.thread.next (A.state self.old.actor)) reply }
         ensures local { (holders : Holders) (t : ℕ) → local_of A.state A.saved_state holders t self.new
             ≡ record (local_of A.state A.saved_state holders t self.old) {
-                state = A.thread.after (A.state self.old.actor) reply } }
+              state = A.thread.after (A.state self.old.actor) reply;
+            } }
         ensures waits { waits_of self.new.waits ≡ no_waits }
         ensures sound { (p : Place) → is_sound p self.new ≡ is_sound p self.old }
     {
@@ -186,7 +187,9 @@ impl<A: Actor> ThreadSlot<A, A::Saved> {
         requires answers { Answers (A.thread.next (A.state self.old.actor)) Nothing }
         ensures local { (holders : Holders) (t : ℕ) → local_of A.state A.saved_state holders t self.new
             ≡ record (local_of A.state A.saved_state holders t self.old) {
-                state = A.thread.after (A.state self.old.actor) Nothing; ended = true } }
+              state = A.thread.after (A.state self.old.actor) Nothing;
+              ended = true;
+            } }
         ensures waits { waits_of self.new.waits ≡ no_waits }
         ensures sound { (p : Place) → is_sound p self.new ≡ is_sound p self.old }
     {
@@ -209,7 +212,8 @@ impl<A: Actor> ThreadSlot<A, A::Saved> {
         requires live { has_saves self.old.tx ≡ true }
         ensures local { (holders : Holders) (t : ℕ) → local_of A.state A.saved_state holders t self.new
             ≡ record (local_of A.state A.saved_state holders t self.old) {
-                tx = tx_of A.saved_state self.old.tx (note (saves_of self.old.log) word old) } }
+              tx = tx_of A.saved_state self.old.tx (note (saves_of self.old.log) word old);
+            } }
         ensures sound { (p : Place) → can_access p word 8 ≡ true → is_sound p self.old ≡ true → is_sound p self.new ≡ true }
         ensures actor { self.new.actor ≡ self.old.actor }
     {
@@ -224,7 +228,8 @@ impl<A: Actor> ThreadSlot<A, A::Saved> {
         requires live { has_saves self.old.tx ≡ true }
         ensures local { (holders : Holders) (t : ℕ) → local_of A.state A.saved_state holders t self.new
             ≡ record (local_of A.state A.saved_state holders t self.old) {
-                tx = tx_of A.saved_state self.old.tx (no_save ∷ saves_of self.old.log) } }
+              tx = tx_of A.saved_state self.old.tx (no_save ∷ saves_of self.old.log);
+            } }
         ensures sound { (p : Place) → is_sound p self.old ≡ true → is_sound p self.new ≡ true }
         ensures actor { self.new.actor ≡ self.old.actor }
     {
@@ -236,7 +241,8 @@ impl<A: Actor> ThreadSlot<A, A::Saved> {
         requires { 1 < length (marks_of self.old.log) }
         ensures local { (holders : Holders) (t : ℕ) → local_of A.state A.saved_state holders t self.new
             ≡ record (local_of A.state A.saved_state holders t self.old) {
-                tx = tx_of A.saved_state self.old.tx (handed (saves_of self.old.log)) } }
+              tx = tx_of A.saved_state self.old.tx (handed (saves_of self.old.log));
+            } }
         ensures sound { (p : Place) → is_sound p self.old ≡ true → is_sound p self.new ≡ true }
         ensures actor { self.new.actor ≡ self.old.actor }
     {
@@ -252,7 +258,9 @@ impl<A: Actor> ThreadSlot<A, A::Saved> {
         requires live { has_saves self.old.tx ≡ true }
         ensures local { (holders : Holders) (t : ℕ) → local_of A.state A.saved_state holders t self.new
             ≡ record (local_of A.state A.saved_state holders t self.old) {
-                state = A.thread.after (A.state self.old.actor) Nothing; tx = tx_of A.saved_state self.old.tx (note (saves_of self.old.log) word old) } }
+              state = A.thread.after (A.state self.old.actor) Nothing;
+              tx = tx_of A.saved_state self.old.tx (note (saves_of self.old.log) word old);
+            } }
         ensures waits { waits_of self.new.waits ≡ no_waits }
         ensures sound { (p : Place) → can_access p word 8 ≡ true → is_sound p self.old ≡ true → is_sound p self.new ≡ true }
     {
@@ -268,7 +276,9 @@ impl<A: Actor> ThreadSlot<A, A::Saved> {
         requires live { has_saves self.old.tx ≡ true }
         ensures local { (holders : Holders) (t : ℕ) → local_of A.state A.saved_state holders t self.new
             ≡ record (local_of A.state A.saved_state holders t self.old) {
-                state = A.thread.after (A.state self.old.actor) Nothing; tx = tx_of A.saved_state self.old.tx (no_save ∷ saves_of self.old.log) } }
+              state = A.thread.after (A.state self.old.actor) Nothing;
+              tx = tx_of A.saved_state self.old.tx (no_save ∷ saves_of self.old.log);
+            } }
         ensures waits { waits_of self.new.waits ≡ no_waits }
         ensures sound { (p : Place) → is_sound p self.old ≡ true → is_sound p self.new ≡ true }
     {
@@ -283,7 +293,9 @@ impl<A: Actor> ThreadSlot<A, A::Saved> {
         requires marks { 1 < length (marks_of self.old.log) }
         ensures local { (holders : Holders) (t : ℕ) → local_of A.state A.saved_state holders t self.new
             ≡ record (local_of A.state A.saved_state holders t self.old) {
-                state = A.thread.after (A.state self.old.actor) Nothing; tx = tx_of A.saved_state self.old.tx (handed (saves_of self.old.log)) } }
+              state = A.thread.after (A.state self.old.actor) Nothing;
+              tx = tx_of A.saved_state self.old.tx (handed (saves_of self.old.log));
+            } }
         ensures waits { waits_of self.new.waits ≡ no_waits }
         ensures sound { (p : Place) → is_sound p self.old ≡ true → is_sound p self.new ≡ true }
     {
@@ -298,7 +310,9 @@ impl<A: Actor> ThreadSlot<A, A::Saved> {
         requires tx { is_some self.old.tx ≡ true }
         ensures local { (holders : Holders) (t : ℕ) → local_of A.state A.saved_state holders t self.new
             ≡ record (local_of A.state A.saved_state holders t self.old) {
-                state = A.thread.after (A.state self.old.actor) Nothing; tx = closed_by holds (birth_in self.old.tx) } }
+              state = A.thread.after (A.state self.old.actor) Nothing;
+              tx = closed_by holds (birth_in self.old.tx);
+            } }
         ensures waits { waits_of self.new.waits ≡ no_waits }
         ensures sound { (p : Place) → is_sound p self.new ≡ true }
     {
@@ -330,7 +344,8 @@ impl<A: Actor> ThreadSlot<A, A::Saved> {
     pub(crate) fn give_up(&mut self)
         ensures local { (holders : Holders) (t : ℕ) (x : Transaction A.Saved) → self.old.tx ≡ Some x
             → local_of A.state A.saved_state holders t self.new ≡ record (local_of A.state A.saved_state holders t self.old) {
-                tx = GivingUp x.birth (A.saved_state x.kept) (saves_of self.old.log) } }
+              tx = GivingUp x.birth (A.saved_state x.kept) (saves_of self.old.log);
+            } }
         ensures waits { waits_of self.new.waits ≡ no_waits }
         ensures sound { (p : Place) → has_saves self.old.tx ≡ true → is_sound p self.old ≡ true → is_sound p self.new ≡ true }
     {
@@ -356,7 +371,9 @@ impl<A: Actor> ThreadSlot<A, A::Saved> {
         requires { IsFresh log }
         ensures local { (holders : Holders) (t : ℕ) (x : Transaction A.Saved) → self.old.tx ≡ Some x
             → local_of A.state A.saved_state holders t self.new ≡ record (local_of A.state A.saved_state holders t self.old) {
-                state = A.saved_state copy; tx = OpenTx x.birth (A.saved_state x.kept) (no_save ∷ []) } }
+              state = A.saved_state copy;
+              tx = OpenTx x.birth (A.saved_state x.kept) (no_save ∷ []);
+            } }
         ensures waits { waits_of self.new.waits ≡ no_waits }
         ensures sound { (p : Place) → is_some self.old.tx ≡ true → is_sound p self.new ≡ true }
     {
@@ -377,8 +394,9 @@ impl<A: Actor> ThreadSlot<A, A::Saved> {
         requires marks { marks_of self.old.log ≡ [] }
         ensures local { OnOk result ((holders : Holders) (t : ℕ) → local_of A.state A.saved_state holders t self.new
             ≡ record (local_of A.state A.saved_state holders t self.old) {
-                state = A.thread.after (A.state self.old.actor) Nothing;
-                tx = OpenTx birth (A.thread.after (A.state self.old.actor) Nothing) (no_save ∷ []) }) }
+              state = A.thread.after (A.state self.old.actor) Nothing;
+              tx = OpenTx birth (A.thread.after (A.state self.old.actor) Nothing) (no_save ∷ []);
+            }) }
         ensures waits { OnOk result (waits_of self.new.waits ≡ no_waits) }
         ensures sound { (p : Place) → is_sound p self.old ≡ true → is_sound p self.new ≡ true }
         ensures same { OnErr result ((holders : Holders) (t : ℕ) → local_of A.state A.saved_state holders t self.new ≡ local_of A.state A.saved_state holders t self.old) }
@@ -413,7 +431,8 @@ impl<A: Actor> ThreadSlot<A, A::Saved> {
             (kept_or (oldest (saves_of self.old.log) word) (words_of memory.old word)) }
         ensures local { (holders : Holders) (t : ℕ) → local_of A.state A.saved_state holders t self.new
             ≡ record (local_of A.state A.saved_state holders t self.old) {
-                tx = tx_of A.saved_state self.old.tx (forget_all (saves_of self.old.log) word) } }
+              tx = tx_of A.saved_state self.old.tx (forget_all (saves_of self.old.log) word);
+            } }
         ensures waits { waits_of self.new.waits ≡ no_waits }
         ensures sound { is_sound (place_of memory.old) self.new ≡ true }
         ensures tx { self.new.tx ≡ self.old.tx }
@@ -437,7 +456,8 @@ impl<A: Actor> ThreadSlot<A, A::Saved> {
             (kept_or (newest (saves_of self.old.log) w) (words_of memory.old w))) }
         ensures local { IfSome result (λ w. (holders : Holders) (t : ℕ) → local_of A.state A.saved_state holders t self.new
             ≡ record (local_of A.state A.saved_state holders t self.old) {
-                tx = tx_of A.saved_state self.old.tx (newest_without w (saves_of self.old.log)) }) }
+              tx = tx_of A.saved_state self.old.tx (newest_without w (saves_of self.old.log));
+            }) }
         ensures waits { IfSome result (λ w. waits_of self.new.waits ≡ no_waits) }
         ensures same_words { IfNone result (words_of memory.new ≡ words_of memory.old) }
         ensures same { IfNone result ((holders : Holders) (t : ℕ) → local_of A.state A.saved_state holders t self.new ≡ local_of A.state A.saved_state holders t self.old) }

@@ -77,7 +77,11 @@ impl<A: Actor> Engine<A, A::Saved> {
     }
 
     /// One turn of the thread. On `AllocError` the machine is as before.
-    pub(crate) fn turn<R: Rule, F: Fn(&Clash) -> Choice>(&mut self, t: u8, policy: &Policy<R, F>) -> Result<TurnKind, AllocError>
+    pub(crate) fn turn<R: Rule, F: Fn(&Clash) -> Choice>(
+        &mut self,
+        t: u8,
+        policy: &Policy<R, F>,
+    ) -> Result<TurnKind, AllocError>
         requires going { self.old.end ≡ None }
         requires births { self.old.births < 2 ^ 64 - 1 }
         requires depth { self.old.lock.depth < 2 ^ 64 - 1 }
@@ -107,8 +111,17 @@ impl<A: Actor> Engine<A, A::Saved> {
     {
         match event {
             Event::Silent => self.silent(t),
-            Event::Load { addr, size, volatile: _ } => self.load_outside(t, addr, size),
-            Event::Store { addr, size, value, volatile: _ } => self.store_outside(t, addr, size, value),
+            Event::Load {
+                addr,
+                size,
+                volatile: _,
+            } => self.load_outside(t, addr, size),
+            Event::Store {
+                addr,
+                size,
+                value,
+                volatile: _,
+            } => self.store_outside(t, addr, size, value),
             Event::BeginAtomic { kind: _ } => self.begin_outermost(t),
             Event::BeginSync => self.begin_sync(t),
             Event::EndSync => self.end_sync(t),
@@ -124,7 +137,12 @@ impl<A: Actor> Engine<A, A::Saved> {
     }
 
     /// The rows of a thread whose transaction is open.
-    fn turn_inside<R: Rule, F: Fn(&Clash) -> Choice>(&mut self, t: u8, event: Event, policy: &Policy<R, F>) -> Result<TurnKind, AllocError>
+    fn turn_inside<R: Rule, F: Fn(&Clash) -> Choice>(
+        &mut self,
+        t: u8,
+        event: Event,
+        policy: &Policy<R, F>,
+    ) -> Result<TurnKind, AllocError>
         requires here { GoesInside A.is_reached A.thread t (machine_in A.state A.saved_state self.old) event }
         requires keeps { KeepsRule (F.IsAlwaysCallable policy.now.answer) (FnReturnsAt F.Fn policy.now.answer) R.allows }
         ensures chosen { IfOk result (λ kind. Chosen A.thread (place_in self.old) (FnReturnsAt F.Fn policy.now.answer) R.allows t
@@ -133,8 +151,17 @@ impl<A: Actor> Engine<A, A::Saved> {
         ensures place { place_in self.new ≡ place_in self.old }
     {
         match event {
-            Event::Load { addr, size, volatile: _ } => self.load_inside(t, addr, size, policy),
-            Event::Store { addr, size, value, volatile: _ } => self.store_inside(t, addr, size, value, policy),
+            Event::Load {
+                addr,
+                size,
+                volatile: _,
+            } => self.load_inside(t, addr, size, policy),
+            Event::Store {
+                addr,
+                size,
+                value,
+                volatile: _,
+            } => self.store_inside(t, addr, size, value, policy),
             _ => self.turn_alone(t, event),
         }
     }

@@ -21,4 +21,4 @@ pub returns-clause-done : goal.returns-clause-done
 returns-clause-done g c =
     let self = c.args.self.now in
     waited_row g.A.Actor.state g.A.Actor.saved_state (machine_in g.A.Actor.state g.A.Actor.saved_state self) self.holders self.threads.items c.args.t c.args.word c.args.blockers.least c.args.blockers.eldest c.index_mut-thread.result.now c.wait.new.self
-      refl refl refl c.requires.started c.index_mut-thread.ensures.value (c.wait.ensures.local self.holders c.args.t) c.wait.ensures.waits c.requires.least
+    refl refl refl c.requires.started c.index_mut-thread.ensures.value (c.wait.ensures.local self.holders c.args.t) c.wait.ensures.waits c.requires.least

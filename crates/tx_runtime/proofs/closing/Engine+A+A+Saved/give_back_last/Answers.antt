@@ -87,10 +87,10 @@ returns-clause-turned g c = λ answer. giving_row g.A.Actor.state g.A.Actor.save
     let none = none_left self.holders held t word c.requires.last.0 one c.in-Some.ensures.held c.requires.last.1.1 in
     let rest_l = ap (λ (v : Local g.A.Actor.State). least (without v.held word) bound) (sym same) ∙ (ap (λ z. least z bound) (sym gone) ∙ none_held (place_in self) held t none) in
     ap (kinded (Undone word)) (stepped g.A.Actor.state g.A.Actor.saved_state (record m { memory = memory }) self.holders held self.threads.items t s c.start_again.new.self l (λ (v : Local g.A.Actor.State). again v b k) refl refl refl h c.index_mut-thread.ensures.value at (others_same t word None self.holders held one)
-      (again_hold g.A.Actor.state g.A.Actor.saved_state self.holders held t s c.start_again.new.self x b k (g.A.Actor.saved_state c.in_ok-restart.restart.copy)
-        (c.start_again.ensures.local held t x (c.undo_word.ensures.tx ∙ parts.0.is) ∙ ap (λ (v : Local g.A.Actor.State). record v { state = g.A.Actor.saved_state c.in_ok-restart.restart.copy; tx = OpenTx x.birth (g.A.Actor.saved_state x.kept) (no_save ∷ []) }) (c.undo_word.ensures.local held t))
-        none copy parts.0.birth parts.0.kept)
-      c.start_again.ensures.waits)
+    (again_hold g.A.Actor.state g.A.Actor.saved_state self.holders held t s c.start_again.new.self x b k (g.A.Actor.saved_state c.in_ok-restart.restart.copy)
+    (c.start_again.ensures.local held t x (c.undo_word.ensures.tx ∙ parts.0.is) ∙ ap (λ (v : Local g.A.Actor.State). record v { state = g.A.Actor.saved_state c.in_ok-restart.restart.copy; tx = OpenTx x.birth (g.A.Actor.saved_state x.kept) (no_save ∷ []) }) (c.undo_word.ensures.local held t))
+    none copy parts.0.birth parts.0.kept)
+    c.start_again.ensures.waits)
     ∙ (ap (λ z. kinded (Undone word) (record (steps t m (again l b k)) { memory = z })) mem
     ∙ gives_some (place_in self) t m l b k ss word (again l b k) (ap (λ (v : Local g.A.Actor.State). least v.held bound) (sym same) ∙ least_word (place_in self) self.holders t word (self.whole.words t word c.in-Some.ensures.held) c.in-Some.ensures.held c.in-Some.ensures.least)
-        (ap (given_back l b k ss word) (sym rest_l))))
+    (ap (given_back l b k ss word) (sym rest_l))))

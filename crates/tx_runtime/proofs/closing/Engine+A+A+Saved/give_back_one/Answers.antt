@@ -77,9 +77,9 @@ returns-clause-turned g c = λ answer. giving_row g.A.Actor.state g.A.Actor.save
     let rest = some_least (without (held_in self.holders t) word) bound more.0 (access_bound (place_in self) more.0 (self.whole.words t more.0 more.1)) more.2 in
     let rest_l = ap (λ (v : Local g.A.Actor.State). least (without v.held word) bound) (sym same) ∙ rest.1 in
     ap (kinded (Undone word)) (stepped g.A.Actor.state g.A.Actor.saved_state (record m { memory = memory }) self.holders held self.threads.items t s c.undo_word.new.self l f refl refl refl h c.index_mut-thread.ensures.value at (others_same t word None self.holders held one)
-      (hold_local g.A.Actor.state g.A.Actor.saved_state self.holders held t s c.undo_word.new.self _ _ _ _ (c.undo_word.ensures.local held t) gone (released_wrote t word self.holders held one)
-        (giving_with g.A.Actor.saved_state s.tx b k parts.0 (forget_all (saves_of s.log) word) ∙ ap (λ z. GivingUp b k (forget_all z word)) parts.1))
-      c.undo_word.ensures.waits)
+    (hold_local g.A.Actor.state g.A.Actor.saved_state self.holders held t s c.undo_word.new.self _ _ _ _ (c.undo_word.ensures.local held t) gone (released_wrote t word self.holders held one)
+    (giving_with g.A.Actor.saved_state s.tx b k parts.0 (forget_all (saves_of s.log) word) ∙ ap (λ z. GivingUp b k (forget_all z word)) parts.1))
+    c.undo_word.ensures.waits)
     ∙ (ap (λ z. kinded (Undone word) (record (steps t m (f l)) { memory = z })) mem
     ∙ gives_some (place_in self) t m l b k ss word (f l) (ap (λ (v : Local g.A.Actor.State). least v.held bound) (sym same) ∙ least_word (place_in self) self.holders t word (self.whole.words t word c.in-Some.ensures.held) c.in-Some.ensures.held c.in-Some.ensures.least)
-        (ap (given_back l b k ss word) (sym rest_l))))
+    (ap (given_back l b k ss word) (sym rest_l))))

@@ -27,5 +27,5 @@ pub returns : goal.returns
 returns g c = λ b.
     let self = c.args.self.now in
     closes_by b c.count.result (least (held_in self.holders c.args.t) (word_bound (place_in self)))
-      (λ e. none_held (place_in self) self.holders c.args.t (c.count.ensures.none e))
-      (λ h. let some = c.count.ensures.some h in some_held (place_in self) self.holders c.args.t some.0 (self.whole.words c.args.t some.0 some.1) some.1)
+    (λ e. none_held (place_in self) self.holders c.args.t (c.count.ensures.none e))
+    (λ h. let some = c.count.ensures.some h in some_held (place_in self) self.holders c.args.t some.0 (self.whole.words c.args.t some.0 some.1) some.1)

@@ -80,7 +80,7 @@ returns-clause-turned g c = λ answer. closing_row g.A.Actor.state g.A.Actor.sav
     let f = λ (v : Local g.A.Actor.State). record v { held = without v.held word; wrote = without v.wrote word; tx = closes b (least (without v.held word) bound) } in
     let gone = released_held t word self.holders held one in
     ap (kinded (Released word)) (stepped g.A.Actor.state g.A.Actor.saved_state m self.holders held self.threads.items t s c.close.new.self l f refl refl refl h c.index_mut-thread.ensures.value at (others_same t word None self.holders held one)
-      (hold_local g.A.Actor.state g.A.Actor.saved_state self.holders held t s c.close.new.self _ _ _ _ (c.close.ensures.local held t) gone (released_wrote t word self.holders held one)
-        (ap (closed_by c.holds_words-holds.result) birth ∙ (c.holds_words-holds.ensures b ∙ ap (λ z. closes b (least z bound)) gone)))
-      c.close.ensures.waits)
+    (hold_local g.A.Actor.state g.A.Actor.saved_state self.holders held t s c.close.new.self _ _ _ _ (c.close.ensures.local held t) gone (released_wrote t word self.holders held one)
+    (ap (closed_by c.holds_words-holds.result) birth ∙ (c.holds_words-holds.ensures b ∙ ap (λ z. closes b (least z bound)) gone)))
+    c.close.ensures.waits)
     ∙ lets_some (place_in self) t m l b word _ (ap (λ (v : Local g.A.Actor.State). least v.held bound) (sym same) ∙ least_word (place_in self) self.holders t word (self.whole.words t word c.in-Some.ensures.held) c.in-Some.ensures.held c.in-Some.ensures.least) refl)

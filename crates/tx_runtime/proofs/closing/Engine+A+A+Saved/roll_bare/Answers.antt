@@ -58,6 +58,6 @@ returns-clause-done g c = λ l b k ss at tx.
     let x = parts.0.tx in
     let copy : g.A.Actor.saved_state c.in_ok-restart.restart.copy ≡ k = c.in_ok-restart.ensures.copy s x (read_at self.threads.items t s h c.index_mut-thread.ensures.value) parts.0.is ∙ parts.0.kept in
     ap (kinded (Rolled c.args.word c.args.holder)) (stepped g.A.Actor.state g.A.Actor.saved_state m self.holders self.holders self.threads.items t s c.start_again.new.self l (λ (v : Local g.A.Actor.State). again v b k) refl refl refl h c.index_mut-thread.ensures.value at (same_holds t self.holders)
-      (again_hold g.A.Actor.state g.A.Actor.saved_state self.holders self.holders t s c.start_again.new.self x b k (g.A.Actor.saved_state c.in_ok-restart.restart.copy) (c.start_again.ensures.local self.holders t x parts.0.is) c.requires.bare copy parts.0.birth parts.0.kept)
-      c.start_again.ensures.waits)
+    (again_hold g.A.Actor.state g.A.Actor.saved_state self.holders self.holders t s c.start_again.new.self x b k (g.A.Actor.saved_state c.in_ok-restart.restart.copy) (c.start_again.ensures.local self.holders t x parts.0.is) c.requires.bare copy parts.0.birth parts.0.kept)
+    c.start_again.ensures.waits)
     ∙ rolls_none (place_in self) t m l b k ss c.args.word c.args.holder (ap (λ f. least f bound) (held_at g.A.Actor.state g.A.Actor.saved_state self.holders self.threads.items t l at) ∙ none_held (place_in self) self.holders t c.requires.bare)

@@ -53,9 +53,9 @@ returns-clause-done g c = λ l b k ss at tx.
     let some = c.requires.held in
     let least_is = some_least l.held bound some.0 (access_bound (place_in self) some.0 (self.whole.words t some.0 some.1)) (ap (λ (z : ℕ → Bool). z some.0) (held_at g.A.Actor.state g.A.Actor.saved_state self.holders self.threads.items t l at) ∙ some.1) in
     ap (kinded (Rolled c.args.word c.args.holder)) (stepped g.A.Actor.state g.A.Actor.saved_state m self.holders self.holders self.threads.items t s c.give_up.new.self l f refl refl refl h c.index_mut-thread.ensures.value at (same_holds t self.holders)
-      (c.give_up.ensures.local self.holders t x parts.0.is
-        ∙ (ap (λ z. record (local_of g.A.Actor.state g.A.Actor.saved_state self.holders t s) { tx = GivingUp z (g.A.Actor.saved_state x.kept) (saves_of s.log) }) parts.0.birth
-        ∙ (ap (λ z. record (local_of g.A.Actor.state g.A.Actor.saved_state self.holders t s) { tx = GivingUp b z (saves_of s.log) }) parts.0.kept
-        ∙ ap (λ z. record (local_of g.A.Actor.state g.A.Actor.saved_state self.holders t s) { tx = GivingUp b k z }) parts.1)))
-      c.give_up.ensures.waits)
+    (c.give_up.ensures.local self.holders t x parts.0.is
+    ∙ (ap (λ z. record (local_of g.A.Actor.state g.A.Actor.saved_state self.holders t s) { tx = GivingUp z (g.A.Actor.saved_state x.kept) (saves_of s.log) }) parts.0.birth
+    ∙ (ap (λ z. record (local_of g.A.Actor.state g.A.Actor.saved_state self.holders t s) { tx = GivingUp b z (saves_of s.log) }) parts.0.kept
+    ∙ ap (λ z. record (local_of g.A.Actor.state g.A.Actor.saved_state self.holders t s) { tx = GivingUp b k z }) parts.1)))
+    c.give_up.ensures.waits)
     ∙ rolls_some (place_in self) t m l b k ss least_is.0 c.args.word c.args.holder least_is.1

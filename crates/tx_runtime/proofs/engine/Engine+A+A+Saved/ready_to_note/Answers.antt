@@ -24,6 +24,6 @@ returns-clause-same g c =
     let self = c.args.self.now in
     let m = machine_in g.A.Actor.state g.A.Actor.saved_state self in
     changed m _ m.threads _ m.waits _
-      (same_thread g.A.Actor.state g.A.Actor.saved_state self.holders self.threads.items c.args.t c.index_mut-thread.result.now c.ready_to_note.new.self c.requires c.index_mut-thread.ensures.value (c.ready_to_note.ensures.local self.holders c.args.t))
-      (same_waits self.threads.items c.args.t c.index_mut-thread.result.now c.ready_to_note.new.self c.requires c.index_mut-thread.ensures.value c.ready_to_note.ensures.waits)
-      (length-set self.threads.items c.args.t c.ready_to_note.new.self)
+    (same_thread g.A.Actor.state g.A.Actor.saved_state self.holders self.threads.items c.args.t c.index_mut-thread.result.now c.ready_to_note.new.self c.requires c.index_mut-thread.ensures.value (c.ready_to_note.ensures.local self.holders c.args.t))
+    (same_waits self.threads.items c.args.t c.index_mut-thread.result.now c.ready_to_note.new.self c.requires c.index_mut-thread.ensures.value c.ready_to_note.ensures.waits)
+    (length-set self.threads.items c.args.t c.ready_to_note.new.self)

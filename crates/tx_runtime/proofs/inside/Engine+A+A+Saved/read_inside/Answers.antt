@@ -80,7 +80,7 @@ go_on-requires-clause-answers g c =
     let p = place_of q.memory in
     let sound = whole_sound p q.limit q.holders q.threads.items t s q.whole h c.index_mut-thread.ensures.value in
     answers_at g.A.Actor.thread (g.A.Actor.state s.actor) (Load c.args.addr c.requires.here.0 c.requires.here.1) (Loaded c.args.value) is.next
-      (subst (λ v. v < 2 ^ (8 * c.requires.here.0)) (sym c.requires.here.2) (read_fits c.args.addr c.requires.here.0 (words_of r.memory (word_of c.args.addr))))
+    (subst (λ v. v < 2 ^ (8 * c.requires.here.0)) (sym c.requires.here.2) (read_fits c.args.addr c.requires.here.0 (words_of r.memory (word_of c.args.addr))))
 
 pub invariant_of-self-2 : goal.invariant_of-self-2
 invariant_of-self-2 g c =
@@ -127,8 +127,8 @@ returns-clause-turned g c = λ answer. inside_row g.A.Actor.state g.A.Actor.save
     let one = one_after t word Read q.holders mid new c.reserve.ensures.same c.take.ensures.taken in
     let f = λ (v : Local g.A.Actor.State). record v { state = g.A.Actor.thread.after v.state (Loaded c.args.value); held = update v.held (word_of c.args.addr) true } in
     alone_row t n m _ (f l) same
-      (stepped g.A.Actor.state g.A.Actor.saved_state n q.holders new q.threads.items t s c.go_on.new.self l f refl refl refl h c.index_mut-thread.ensures.value (ap (λ z. z.threads t) same ∙ at) (others_same t word _ q.holders new one)
-        (step_local g.A.Actor.state g.A.Actor.saved_state q.holders new t s c.go_on.new.self _ _ _ (c.go_on.ensures.local new t)
-          (taken_held t word Read q.holders new one ∙ ap (λ x. update (held_in q.holders t) x true) we) (taken_read t word q.holders new one))
-        c.go_on.ensures.waits)
+    (stepped g.A.Actor.state g.A.Actor.saved_state n q.holders new q.threads.items t s c.go_on.new.self l f refl refl refl h c.index_mut-thread.ensures.value (ap (λ z. z.threads t) same ∙ at) (others_same t word _ q.holders new one)
+    (step_local g.A.Actor.state g.A.Actor.saved_state q.holders new t s c.go_on.new.self _ _ _ (c.go_on.ensures.local new t)
+    (taken_held t word Read q.holders new one ∙ ap (λ x. update (held_in q.holders t) x true) we) (taken_read t word q.holders new one))
+    c.go_on.ensures.waits)
     ∙ load_done_in g.A.Actor.thread (place_in c.args.self.now) answer c.args.t (machine_in g.A.Actor.state g.A.Actor.saved_state c.args.self.now) l i.birth i.kept i.saves c.args.addr c.requires.here.0 c.args.value c.requires.here.1 c.requires.here.3 c.requires.free c.requires.here.2 i.tx)

@@ -88,9 +88,9 @@ returns-in_default-clause-same g c =
     let sound = whole_sound p self.limit self.holders self.threads.items t s self.whole h c.index_mut-thread.ensures.value in
     ap (λ z. record m { memory = z; threads = threads_of g.A.Actor.state g.A.Actor.saved_state self.holders (set self.threads.items t c.undo_newest.new.self); waits = waits_by (set self.threads.items t c.undo_newest.new.self); started = length (set self.threads.items t c.undo_newest.new.self) }) c.in_default.ensures.same_words
     ∙ changed m (threads_of g.A.Actor.state g.A.Actor.saved_state self.holders (set self.threads.items t c.undo_newest.new.self)) m.threads (waits_by (set self.threads.items t c.undo_newest.new.self)) m.waits (length (set self.threads.items t c.undo_newest.new.self))
-      (same_thread g.A.Actor.state g.A.Actor.saved_state self.holders self.threads.items t s c.undo_newest.new.self h c.index_mut-thread.ensures.value (c.in_default.ensures.same self.holders t))
-      (same_waits self.threads.items t s c.undo_newest.new.self h c.index_mut-thread.ensures.value c.in_default.ensures.same_waits)
-      (length-set self.threads.items t c.undo_newest.new.self)
+    (same_thread g.A.Actor.state g.A.Actor.saved_state self.holders self.threads.items t s c.undo_newest.new.self h c.index_mut-thread.ensures.value (c.in_default.ensures.same self.holders t))
+    (same_waits self.threads.items t s c.undo_newest.new.self h c.index_mut-thread.ensures.value c.in_default.ensures.same_waits)
+    (length-set self.threads.items t c.undo_newest.new.self)
 
 pub returns-clause-done : goal.returns-clause-done
 returns-clause-done g c = λ l b k st ss at tx.
@@ -112,8 +112,8 @@ returns-clause-done g c = λ l b k st ss at tx.
     let mem : memory ≡ update m.memory word (kept_or (newest ss word) (m.memory word)) = c.in-Some.ensures.words ∙ ap (λ z. update m.memory word (kept_or (newest z word) (m.memory word))) mine.1 in
     let least_is : least (is_noted (newest ss)) bound ≡ Some word = ap (λ z. least (is_noted (newest z)) bound) (sym mine.1) ∙ first_least (is_noted (newest (saves_of s.log))) bound word (access_bound (place_in self) word c.in-Some.ensures.access) c.in-Some.ensures.noted c.in-Some.ensures.least in
     ap (kinded (Undone word)) (stepped g.A.Actor.state g.A.Actor.saved_state (record m { memory = memory }) self.holders self.holders self.threads.items t s c.undo_newest.new.self l f refl refl refl h c.index_mut-thread.ensures.value at (same_holds t self.holders)
-      (c.in-Some.ensures.local self.holders t
-        ∙ ap (λ z. record (local_of g.A.Actor.state g.A.Actor.saved_state self.holders t s) { tx = z }) (open_with g.A.Actor.saved_state s.tx b k mine.0 (newest_without word (saves_of s.log)) ∙ ap (λ z. OpenTx b k (newest_without word z)) mine.1))
-      c.in-Some.ensures.waits)
+    (c.in-Some.ensures.local self.holders t
+    ∙ ap (λ z. record (local_of g.A.Actor.state g.A.Actor.saved_state self.holders t s) { tx = z }) (open_with g.A.Actor.saved_state s.tx b k mine.0 (newest_without word (saves_of s.log)) ∙ ap (λ z. OpenTx b k (newest_without word z)) mine.1))
+    c.in-Some.ensures.waits)
     ∙ (ap (λ z. kinded (Undone word) (record (steps t m (f l)) { memory = z })) mem
     ∙ cancels_some (place_in self) t m l st b k ss word (c.requires.some l b k ss at tx) least_is)

@@ -156,8 +156,10 @@ invariant_of-self-2 g c =
     let one = one_after t word Write q.holders mid new c.reserve.ensures.same c.take.ensures.taken in
     let access_r : can_access (place_in c.args.self.now) c.word_of-word.result 8 ≡ true = ap (λ x. can_access (place_in c.args.self.now) x 8) c.word_of-word.ensures ∙ access_word (place_in c.args.self.now) c.args.addr c.args.size c.requires.access in
     let access : can_access p word 8 ≡ true = ap (λ z. can_access z word 8) c.in_ok-ready_to_note.ensures.place ∙ access_r in
-    record { whole = subst (λ z. IsWhole z q.limit new (set q.threads.items t c.write.new.self)) (sym c.store.ensures.place)
-      (whole_set p q.limit new q.threads.items t c.write.new.self (whole_hold p q.limit q.holders new q.threads.items t word _ q.whole h one (c.take.ensures.limit ∙ c.reserve.ensures.limit) (λ e. access)) (c.write.ensures.sound p access sound)) }
+    record {
+      whole = subst (λ z. IsWhole z q.limit new (set q.threads.items t c.write.new.self)) (sym c.store.ensures.place)
+          (whole_set p q.limit new q.threads.items t c.write.new.self (whole_hold p q.limit q.holders new q.threads.items t word _ q.whole h one (c.take.ensures.limit ∙ c.reserve.ensures.limit) (λ e. access)) (c.write.ensures.sound p access sound));
+    }
 
 pub returns-clause-turned : goal.returns-clause-turned
 returns-clause-turned g c = λ answer. inside_row g.A.Actor.state g.A.Actor.saved_state g.A.Actor.is_reached g.A.Actor.thread c.args.self.now answer c.args.t (Store c.args.addr c.args.size c.args.value c.requires.here.0) _ c.requires.here.1 (λ l at i.
@@ -187,15 +189,15 @@ returns-clause-turned g c = λ answer. inside_row g.A.Actor.state g.A.Actor.save
     let f = λ (v : Local g.A.Actor.State). record v { state = g.A.Actor.thread.after v.state Nothing; held = update v.held x true; wrote = update v.wrote x true; tx = OpenTx i.birth i.kept (note i.saves x (m.memory x)) } in
     let memory = words_of c.store.new.self in
     let mem : memory ≡ store m.memory c.args.addr c.args.size c.args.value =
-      c.store.ensures.words
-      ∙ (ap (λ b. cond b (store n.memory c.args.addr c.args.size c.args.value) n.memory) (ap (λ z. can_access z c.args.addr c.args.size) c.in_ok-ready_to_note.ensures.place ∙ c.requires.access)
-      ∙ ap (λ z. store z.memory c.args.addr c.args.size c.args.value) same) in
+    c.store.ensures.words
+    ∙ (ap (λ b. cond b (store n.memory c.args.addr c.args.size c.args.value) n.memory) (ap (λ z. can_access z c.args.addr c.args.size) c.in_ok-ready_to_note.ensures.place ∙ c.requires.access)
+    ∙ ap (λ z. store z.memory c.args.addr c.args.size c.args.value) same) in
     memory_row t n m _ (f l) memory (store m.memory c.args.addr c.args.size c.args.value) same mem
-      (stepped g.A.Actor.state g.A.Actor.saved_state (record n { memory = memory }) q.holders new q.threads.items t s c.write.new.self l f refl refl refl h c.index_mut-thread.ensures.value (ap (λ z. z.threads t) same ∙ at) (others_same t word _ q.holders new one)
-        (write_local g.A.Actor.state g.A.Actor.saved_state q.holders new t s c.write.new.self _ _ _ _ _ (c.write.ensures.local new t)
-          (taken_held t word Write q.holders new one ∙ ap (λ y. update (held_in q.holders t) y true) we) (taken_write t word q.holders new one ∙ ap (λ y. update (wrote_in q.holders t) y true) we)
-          (open_with g.A.Actor.saved_state s.tx i.birth i.kept mine.0 (note (saves_of s.log) word c.in-Some.old)
-          ∙ (ap (λ z. OpenTx i.birth i.kept (note z word c.in-Some.old)) mine.1
-          ∙ (ap (λ z. OpenTx i.birth i.kept (note i.saves z c.in-Some.old)) we ∙ ap (λ z. OpenTx i.birth i.kept (note i.saves x z)) old))))
-        c.write.ensures.waits)
+    (stepped g.A.Actor.state g.A.Actor.saved_state (record n { memory = memory }) q.holders new q.threads.items t s c.write.new.self l f refl refl refl h c.index_mut-thread.ensures.value (ap (λ z. z.threads t) same ∙ at) (others_same t word _ q.holders new one)
+    (write_local g.A.Actor.state g.A.Actor.saved_state q.holders new t s c.write.new.self _ _ _ _ _ (c.write.ensures.local new t)
+    (taken_held t word Write q.holders new one ∙ ap (λ y. update (held_in q.holders t) y true) we) (taken_write t word q.holders new one ∙ ap (λ y. update (wrote_in q.holders t) y true) we)
+    (open_with g.A.Actor.saved_state s.tx i.birth i.kept mine.0 (note (saves_of s.log) word c.in-Some.old)
+    ∙ (ap (λ z. OpenTx i.birth i.kept (note z word c.in-Some.old)) mine.1
+    ∙ (ap (λ z. OpenTx i.birth i.kept (note i.saves z c.in-Some.old)) we ∙ ap (λ z. OpenTx i.birth i.kept (note i.saves x z)) old))))
+    c.write.ensures.waits)
     ∙ store_done_in g.A.Actor.thread (place_in c.args.self.now) answer c.args.t (machine_in g.A.Actor.state g.A.Actor.saved_state c.args.self.now) l i.birth i.kept i.saves c.args.addr c.args.size c.args.value c.requires.here.0 c.requires.access c.requires.free)

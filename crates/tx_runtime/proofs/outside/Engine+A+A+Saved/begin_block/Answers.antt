@@ -89,9 +89,9 @@ returns-in_err-begin-clause-same g c =
     let sound = whole_sound p q.limit q.holders q.threads.items c.args.t s q.whole h c.index_mut-thread.ensures.value in
     let n = machine_in g.A.Actor.state g.A.Actor.saved_state q in
     on_err c.from_residual-in_err-begin.result (changed n (threads_of g.A.Actor.state g.A.Actor.saved_state q.holders (set q.threads.items c.args.t c.begin.new.self)) n.threads (waits_by (set q.threads.items c.args.t c.begin.new.self)) n.waits (length (set q.threads.items c.args.t c.begin.new.self))
-      (same_thread g.A.Actor.state g.A.Actor.saved_state q.holders q.threads.items c.args.t s c.begin.new.self h c.index_mut-thread.ensures.value (c.in_err-begin.ensures.same q.holders c.args.t))
-      (same_waits q.threads.items c.args.t s c.begin.new.self h c.index_mut-thread.ensures.value c.in_err-begin.ensures.same_waits)
-      (length-set q.threads.items c.args.t c.begin.new.self)
+    (same_thread g.A.Actor.state g.A.Actor.saved_state q.holders q.threads.items c.args.t s c.begin.new.self h c.index_mut-thread.ensures.value (c.in_err-begin.ensures.same q.holders c.args.t))
+    (same_waits q.threads.items c.args.t s c.begin.new.self h c.index_mut-thread.ensures.value c.in_err-begin.ensures.same_waits)
+    (length-set q.threads.items c.args.t c.begin.new.self)
     ∙ same)
 
 pub returns-clause-done : goal.returns-clause-done
@@ -106,5 +106,5 @@ returns-clause-done g c = λ l at.
     let sound = whole_sound p q.limit q.holders q.threads.items c.args.t s q.whole h c.index_mut-thread.ensures.value in
     let n = machine_in g.A.Actor.state g.A.Actor.saved_state q in
     begin_row c.args.t n m _ l (g.A.Actor.thread.after l.state Nothing) same
-      (stepped g.A.Actor.state g.A.Actor.saved_state n q.holders q.holders q.threads.items c.args.t s c.begin.new.self l
-        (λ (v : Local g.A.Actor.State). record v { state = g.A.Actor.thread.after v.state Nothing; tx = OpenTx q.births (g.A.Actor.thread.after v.state Nothing) (no_save ∷ []) }) refl refl refl h c.index_mut-thread.ensures.value (ap (λ z. z.threads c.args.t) same ∙ at) (same_holds c.args.t q.holders) (c.in_ok-begin.ensures.local q.holders c.args.t) c.in_ok-begin.ensures.waits)
+    (stepped g.A.Actor.state g.A.Actor.saved_state n q.holders q.holders q.threads.items c.args.t s c.begin.new.self l
+    (λ (v : Local g.A.Actor.State). record v { state = g.A.Actor.thread.after v.state Nothing; tx = OpenTx q.births (g.A.Actor.thread.after v.state Nothing) (no_save ∷ []) }) refl refl refl h c.index_mut-thread.ensures.value (ap (λ z. z.threads c.args.t) same ∙ at) (same_holds c.args.t q.holders) (c.in_ok-begin.ensures.local q.holders c.args.t) c.in_ok-begin.ensures.waits)

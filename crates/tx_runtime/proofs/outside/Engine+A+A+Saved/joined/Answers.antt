@@ -43,7 +43,7 @@ returns-in-Ok-clause-none g c = λ e.
 pub returns-in-Err-clause-none : goal.returns-in-Err-clause-none
 returns-in-Err-clause-none g c = λ e.
     no_target c.args.t c.args.id (machine_in g.A.Actor.state g.A.Actor.saved_state c.args.self.now).threads (λ n is other. no_thread g.A.Actor.state g.A.Actor.saved_state c.args.self.now.holders c.args.self.now.threads.items n
-      (elim (cases_lt n 256) [
-        | inl l ↦ absurd (c.in-Err.ensures (subst (FitsUnsignedBits 8) (sym (to_z-of_z w32 c.args.id c.ranges.id ∙ is)) (fits n l)))
-        | inr h ↦ omega (arith, h, c.args.self.now.whole.started, c.args.self.now.whole.few)
-      ]))
+    (elim (cases_lt n 256) [
+      | inl l ↦ absurd (c.in-Err.ensures (subst (FitsUnsignedBits 8) (sym (to_z-of_z w32 c.args.id c.ranges.id ∙ is)) (fits n l)))
+      | inr h ↦ omega (arith, h, c.args.self.now.whole.started, c.args.self.now.whole.few)
+    ]))

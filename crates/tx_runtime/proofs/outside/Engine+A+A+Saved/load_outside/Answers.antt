@@ -41,5 +41,5 @@ returns-in-Some-blockers-clause-turned g c = λ answer. outside_row g.A.Actor.st
 pub returns-in-None-clause-turned : goal.returns-in-None-clause-turned
 returns-in-None-clause-turned g c = if_ok c.step_told.result (λ kind done answer. outside_row g.A.Actor.state g.A.Actor.saved_state g.A.Actor.is_reached g.A.Actor.thread c.args.self.now answer c.args.t (Load c.args.addr c.args.size c.requires.here.0) _ c.requires.here.1
     (λ l at is.
-      let got = loaded_some _ _ _ _ c.load.ensures.value c.in-Some.is in
-      done l at ∙ load_done g.A.Actor.thread (place_in c.args.self.now) c.args.t (machine_in g.A.Actor.state g.A.Actor.saved_state c.args.self.now) l c.args.addr c.args.size c.word_of-word.result c.in-Some.value c.requires.here.0 got.0 c.word_of-word.ensures c.in-None.ensures.eldest got.1)) c.step_told.ensures.done
+    let got = loaded_some _ _ _ _ c.load.ensures.value c.in-Some.is in
+    done l at ∙ load_done g.A.Actor.thread (place_in c.args.self.now) c.args.t (machine_in g.A.Actor.state g.A.Actor.saved_state c.args.self.now) l c.args.addr c.args.size c.word_of-word.result c.in-Some.value c.requires.here.0 got.0 c.word_of-word.ensures c.in-None.ensures.eldest got.1)) c.step_told.ensures.done

@@ -93,7 +93,7 @@ step-requires-clause-answers g c = λ l at.
     let next : g.A.Actor.thread.next l.state ≡ Spawn c.args.func c.args.arg = ap (λ (z : Local g.A.Actor.State). g.A.Actor.thread.next z.state) (sym one) ∙ is.next in
     let id : to_z w32 (of_z w32 c.from.result) ≡ pos c.len-number.result = to_z-of_z w32 c.from.result (record { sfits = c.from.type_inv }) ∙ c.from.ensures in
     answers_at g.A.Actor.thread l.state (Spawn c.args.func c.args.arg) (Id (to_z w32 (of_z w32 c.from.result))) next
-      (subst IsInt (sym id) (omega (arith, c.len-number.ensures, r.whole.started, r.whole.few)))
+    (subst IsInt (sym id) (omega (arith, c.len-number.ensures, r.whole.started, r.whole.few)))
 
 pub returns-clause-turned : goal.returns-clause-turned
 returns-clause-turned g c = λ answer. outside_row g.A.Actor.state g.A.Actor.saved_state g.A.Actor.is_reached g.A.Actor.thread c.args.self.now answer c.args.t (Spawn c.args.func c.args.arg) _ c.requires.here (λ l at isl.
@@ -116,12 +116,12 @@ returns-clause-turned g c = λ answer. outside_row g.A.Actor.state g.A.Actor.sav
     let i = to_z w32 (of_z w32 c.from.result) in
     let child = g.A.Actor.state c.in_ok-child.child in
     spawn_row c.args.t n m _ (record l { state = g.A.Actor.thread.after l.state (Id i) }) child c.push_reserved.new.self.items
-      (threads_of g.A.Actor.state g.A.Actor.saved_state q.holders c.push_reserved-2.new.self.items) (waits_by c.push_reserved-2.new.self.items) (length c.push_reserved-2.new.self.items) same
-      (c.push_reserved.ensures.items ∙ ap (λ xs. xs ++ c.args.t ∷ []) c.reserve.ensures.items)
-      (threads_push g.A.Actor.state g.A.Actor.saved_state q.holders q.threads.items c.push_reserved-2.new.self.items c.new.result child pushed (λ x. q.whole.free (length q.threads.items) x (omega arith)) c.new.ensures.state c.new.ensures.runs c.new.ensures.tx)
-      (waits_push q.threads.items c.push_reserved-2.new.self.items c.new.result pushed c.new.ensures.waits)
-      (length_pushed q.threads.items c.push_reserved-2.new.self.items c.new.result pushed)
-      (c.step.ensures.done l (push_at g.A.Actor.state g.A.Actor.saved_state q.holders q.threads.items c.push_reserved-2.new.self.items c.new.result c.args.t pushed h ∙ (ap (λ z. z.threads c.args.t) same ∙ at)))
+    (threads_of g.A.Actor.state g.A.Actor.saved_state q.holders c.push_reserved-2.new.self.items) (waits_by c.push_reserved-2.new.self.items) (length c.push_reserved-2.new.self.items) same
+    (c.push_reserved.ensures.items ∙ ap (λ xs. xs ++ c.args.t ∷ []) c.reserve.ensures.items)
+    (threads_push g.A.Actor.state g.A.Actor.saved_state q.holders q.threads.items c.push_reserved-2.new.self.items c.new.result child pushed (λ x. q.whole.free (length q.threads.items) x (omega arith)) c.new.ensures.state c.new.ensures.runs c.new.ensures.tx)
+    (waits_push q.threads.items c.push_reserved-2.new.self.items c.new.result pushed c.new.ensures.waits)
+    (length_pushed q.threads.items c.push_reserved-2.new.self.items c.new.result pushed)
+    (c.step.ensures.done l (push_at g.A.Actor.state g.A.Actor.saved_state q.holders q.threads.items c.push_reserved-2.new.self.items c.new.result c.args.t pushed h ∙ (ap (λ z. z.threads c.args.t) same ∙ at)))
     ∙ spawn_done g.A.Actor.thread (place_in c.args.self.now) c.args.t (machine_in g.A.Actor.state g.A.Actor.saved_state c.args.self.now) l c.args.func number c.args.arg i child (less (length r.threads.items) (place_in r).limit (omega (arith, c.if-number-self.false, c.len-number.ensures, r.whole.fits)))
-      (to_z-of_z w32 c.from.result (record { sfits = c.from.type_inv }) ∙ (c.from.ensures ∙ ap pos counted))
-      (c.in_ok-child.ensures ∙ (ap (λ z. g.A.Actor.thread.child z number c.args.func (to_z w64 (of_z w64 c.args.arg))) (ap (λ (z : Local g.A.Actor.State). z.state) one) ∙ (ap (λ z. g.A.Actor.thread.child l.state z c.args.func (to_z w64 (of_z w64 c.args.arg))) counted ∙ ap (g.A.Actor.thread.child l.state (length r.threads.items) c.args.func) (to_z-of_z w64 c.args.arg c.ranges.arg)))))
+    (to_z-of_z w32 c.from.result (record { sfits = c.from.type_inv }) ∙ (c.from.ensures ∙ ap pos counted))
+    (c.in_ok-child.ensures ∙ (ap (λ z. g.A.Actor.thread.child z number c.args.func (to_z w64 (of_z w64 c.args.arg))) (ap (λ (z : Local g.A.Actor.State). z.state) one) ∙ (ap (λ z. g.A.Actor.thread.child l.state z c.args.func (to_z w64 (of_z w64 c.args.arg))) counted ∙ ap (g.A.Actor.thread.child l.state (length r.threads.items) c.args.func) (to_z-of_z w64 c.args.arg c.ranges.arg)))))

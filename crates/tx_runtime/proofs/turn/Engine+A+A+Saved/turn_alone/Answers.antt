@@ -52,10 +52,10 @@ use Rattle.tx_runtime.proofs.turn.Engine+A+A+Saved.turn_alone.Goals as goal
 pub returns-in-Stop-clause-turned : goal.returns-in-Stop-clause-turned
 returns-in-Stop-clause-turned g c = if_ok c.halt.result (λ kind done answer.
     inside_row g.A.Actor.state g.A.Actor.saved_state g.A.Actor.is_reached g.A.Actor.thread c.args.self.now answer c.args.t c.args.event _ c.requires.here
-      (λ l at i. done ∙ ap (in_does g.A.Actor.thread (place_in c.args.self.now) answer c.args.t (machine_in g.A.Actor.state g.A.Actor.saved_state c.args.self.now) l i.birth i.kept i.saves) (sym c.in-Stop.is))) c.halt.ensures.done
+    (λ l at i. done ∙ ap (in_does g.A.Actor.thread (place_in c.args.self.now) answer c.args.t (machine_in g.A.Actor.state g.A.Actor.saved_state c.args.self.now) l i.birth i.kept i.saves) (sym c.in-Stop.is))) c.halt.ensures.done
 
 pub returns-in_default-clause-turned : goal.returns-in_default-clause-turned
 returns-in_default-clause-turned g c answer =
     inside_row g.A.Actor.state g.A.Actor.saved_state g.A.Actor.is_reached g.A.Actor.thread c.args.self.now answer c.args.t c.args.event _ c.requires.here
-      (λ l at i. stays_in g.A.Actor.thread (place_in c.args.self.now) answer c.args.t (machine_in g.A.Actor.state g.A.Actor.saved_state c.args.self.now) l i.birth i.kept i.saves c.args.event c.requires.alone
-        c.in_default.not-Silent c.in_default.not-BeginSync c.in_default.not-EndSync c.in_default.not-BeginAtomic c.in_default.not-EndAtomic c.in_default.not-Raise c.in_default.not-Stop)
+    (λ l at i. stays_in g.A.Actor.thread (place_in c.args.self.now) answer c.args.t (machine_in g.A.Actor.state g.A.Actor.saved_state c.args.self.now) l i.birth i.kept i.saves c.args.event c.requires.alone
+    c.in_default.not-Silent c.in_default.not-BeginSync c.in_default.not-EndSync c.in_default.not-BeginAtomic c.in_default.not-EndAtomic c.in_default.not-Raise c.in_default.not-Stop)
