@@ -1,6 +1,5 @@
 // What tokens are to the grammar, and trees that are built.
 
-use crate::read::{around, leaf, node, node_at_name};
 use crate::{Builder, Symbol, TypeNames};
 use cpp_ast::{At, NodeId, NodeKind, Nodes};
 use cpp_lex::lex;
@@ -150,35 +149,6 @@ fn trees_are_built(rt: HostRuntime) -> Result<(), Fail> {
     Ok(())
 }
 
-// `int x[2]` as a declaration: its place is where the name begins.
-#[test]
-fn nodes_have_places(rt: HostRuntime) -> Result<(), Fail> {
-    let alloc = rt.alloc();
-    let tokens = lex(alloc, b"int x[2]")?;
-    let types = TypeNames::of(alloc, 0, &tokens)?;
-    let mut out = Builder::over(alloc, Nodes::new(alloc));
-    let start = out.checkpoint();
-    assert_eq!(rt;
-        leaf(&types, 0, NodeKind::SimpleTypeSpecifier, &mut out)?,
-        1
-    );
-    node(&types, 0, NodeKind::TypeSpecifierSeq, None, start, &mut out)?;
-    let name = out.checkpoint();
-    leaf(&types, 1, NodeKind::DeclaratorId, &mut out)?;
-    leaf(&types, 3, NodeKind::IntegerLiteral, &mut out)?;
-    around(&types, 2, NodeKind::ArrayDeclarator, 2, name, &mut out)?;
-    node_at_name(
-        &types,
-        0,
-        NodeKind::ParameterDeclaration,
-        None,
-        start,
-        &mut out,
-    )?;
-    assert_eq!(rt; out.first_place(0, at(9)), at(4));
-    Ok(())
-}
-
 // What is seen of shapes: a cast, a type in parentheses, parameters, a declaration.
 #[test]
 fn shapes_are_seen(rt: HostRuntime) -> Result<(), Fail> {
@@ -187,6 +157,7 @@ fn shapes_are_seen(rt: HostRuntime) -> Result<(), Fail> {
         alloc,
         b"class T; (T)-1 (x)-1 (T*)) x(T a, int) y(1) T x(a), z = (1, 2); T(x)+1;",
     )?;
+    assert!(rt; tokens.items.len() <= 1_048_576);
     let types = TypeNames::of(alloc, 0, &tokens)?;
     assert!(rt; types.sees_cast(3, 9)?);
     assert!(rt; !types.sees_cast(8, 9)?);
