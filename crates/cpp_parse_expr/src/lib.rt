@@ -6,8 +6,6 @@ mod depth;
 mod expressions;
 mod lambdas;
 mod parse;
-#[cfg(test)]
-mod tests;
 mod types;
 
 pub use parse::{BodyRange, ExprForm, ExprOut, ParseFault, parse_expr};
