@@ -367,7 +367,7 @@ fn optional_conditional_expression(
 
 /// Parameters in parentheses, and what follows them. Where an initializer may stand, they have to have the shape of some.
 #[cycle(expressions)]
-fn function_parameters(
+pub fn function_parameters(
     text: &TypeNames,
     at: usize,
     naming: Naming,

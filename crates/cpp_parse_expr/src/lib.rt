@@ -1,11 +1,11 @@
 //! Reads types, declarators and expressions.
 #![tactic(auto)]
 
-mod declarators;
-mod depth;
-mod expressions;
+pub mod declarators;
+pub mod depth;
+pub mod expressions;
 mod lambdas;
-mod parse;
-mod types;
+pub mod parse;
+pub mod types;
 
 pub use parse::{BodyRange, ExprForm, ExprOut, ParseFault, parse_expr};

@@ -245,7 +245,7 @@ fn measure(
 }
 
 /// The first token that has a place, or the number of tokens where none has.
-fn token_at(types: &TypeNames, place: At) -> u32
+pub fn token_at(types: &TypeNames, place: At) -> u32
     ensures inside { result ≤ length types.now.symbols }
     ensures place { (k : ℕ) → k ≤ length types.now.symbols → place_at types.now k ≡ place → place_at types.now result ≡ place }
 {
