@@ -1,0 +1,45 @@
+-- What the call that reads a unit answers.
+use Rattle.std.specs.Prelude.{◌≡◌, ℕ, ◌<◌, ◌≤◌, List, length, Some, Result, Ok, Err}
+use Rattle.cpp_lex.specs.Tokens.{Lexeme}
+use Rattle.cpp_ast.specs.declared.units.Unit.{Unit as UnitRecord}
+use Rattle.cpp_ast.specs.Trees.{Trees, unit_depth}
+use Rattle.cpp_ast.specs.Units.{ShowsUnit}
+use Rattle.cpp_syntax.specs.Source.{place_at}
+use Rattle.cpp_syntax.specs.Classes.{source_of}
+use Rattle.cpp_syntax.specs.Looks.{IsUnit}
+use Rattle.cpp_parse_expr.specs.Depths.{deep_kid}
+use Rattle.cpp_parse_expr.specs.declared.parse.ParseFault.{ParseFault}
+use Rattle.cpp_parse_expr.specs.declared.parse.ParseFault.TheVariants as fault
+
+-- how deep a unit may nest
+abbrev pub deepest_allowed : ℕ
+deepest_allowed = 200
+
+-- The one unit of the tokens was read, and it does not nest too deep.
+pub record IsUnitRead (number : ℕ) (tokens : List Lexeme) (unit : UnitRecord) : Type 0 where
+  pub decls : Trees
+  pub derives : IsUnit (source_of number tokens) decls
+  pub only : (other : Trees) → IsUnit (source_of number tokens) other → other ≡ decls
+  pub shallow : unit_depth decls ≤ deepest_allowed
+  pub shows : ShowsUnit unit number tokens decls
+
+-- The one unit of the tokens nests too deep: the token is the place of its first node that does.
+pub record IsUnitTooDeep (number : ℕ) (tokens : List Lexeme) (token : ℕ) : Type 0 where
+  pub decls : Trees
+  pub derives : IsUnit (source_of number tokens) decls
+  pub only : (other : Trees) → IsUnit (source_of number tokens) other → other ≡ decls
+  pub deep : deepest_allowed < unit_depth decls
+  pub place : deep_kid deepest_allowed 1 decls ≡ Some (place_at (source_of number tokens) token)
+  pub inside : token ≤ length tokens
+
+-- The tokens are no unit.
+pub record IsNoUnit (number : ℕ) (tokens : List Lexeme) (token : ℕ) : Type 0 where
+  pub nothing : (decls : Trees) → IsUnit (source_of number tokens) decls → ⊥
+  pub inside : token ≤ length tokens
+
+-- What is answered of the tokens of a source with this number.
+abbrev pub ParsesUnit : ℕ → List Lexeme → Result UnitRecord ParseFault → Type 0
+ParsesUnit number tokens (Ok unit) = IsUnitRead number tokens unit
+ParsesUnit number tokens (Err (fault.Syntax token)) = IsNoUnit number tokens token
+ParsesUnit number tokens (Err (fault.Nesting token)) = IsUnitTooDeep number tokens token
+ParsesUnit number tokens (Err fault.Memory) = Unit {0}
