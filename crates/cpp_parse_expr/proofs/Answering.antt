@@ -1,5 +1,5 @@
 -- What readers answer, from what the readers that they call answer.
-use Rattle.std.proofs.Common.{◌≡◌, ℕ, ◌+◌, ◌<◌, ◌≤◌, Bool, true, false, refl, sym as back, ◌∙◌, ap, arith, subst, length, Option, Some, None, Result, Ok, Err, true≢false}
+use Rattle.std.proofs.Common.{◌≡◌, ℕ, ◌+◌, ◌<◌, Bool, true, false, sym as back, ◌∙◌, ap, arith, subst, length, Option, Some, None, Result, Ok, Err, true≢false}
 use Rattle.std.specs.Result.{IsErr}
 use Rattle.std.specs.declared.alloc.AllocError.{AllocError}
 use Rattle.cpp_ast.specs.declared.kinds.NodeKind.{NodeKind}
@@ -8,7 +8,7 @@ use Rattle.cpp_syntax.specs.declared.places.Checkpoint.{Checkpoint}
 use Rattle.cpp_syntax.specs.Source.{Source, symbol_at, place_at}
 use Rattle.cpp_syntax.specs.Rules.{Form, Look, at_name, Rule, word, mark, ◌·◌, ◌∣◌, many, form, node, node_at}
 use Rattle.cpp_syntax.specs.Grammar.{production, leaf}
-use Rattle.cpp_syntax.specs.Texts.{Read, no_read, reads_node, placed, Bodies, Text, is_word, is_mark, is_both}
+use Rattle.cpp_syntax.specs.Texts.{Read, no_read, reads_node, placed, Bodies, is_word, is_mark, is_both}
 use Rattle.cpp_syntax.specs.Lookahead.{rule_may_be_empty}
 use Rattle.cpp_syntax.specs.Longest.{NoText, is_free}
 use Rattle.cpp_syntax.specs.View.{Building, gains, IsMark}

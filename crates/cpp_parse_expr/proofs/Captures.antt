@@ -1,5 +1,5 @@
 -- What a lambda captures: & before a name captures that name.
-use Rattle.std.proofs.Common.{◌≡◌, ℕ, ◌+◌, ◌<◌, Bool, true, false, not, refl, sym as back, ◌∙◌, ap, arith, length, Option, Some, None}
+use Rattle.std.proofs.Common.{◌≡◌, ℕ, ◌+◌, ◌<◌, true, false, not, refl, ◌∙◌, ap, arith, length, Option, Some, None}
 use Rattle.cpp_ast.specs.declared.kinds.NodeKind.TheVariants.{CaptureDefault, ReferenceCapture}
 use Rattle.cpp_syntax.specs.Source.{Source, symbol_at, place_at}
 use Rattle.cpp_syntax.specs.Symbols.{is_name, amp, is_capture_default}

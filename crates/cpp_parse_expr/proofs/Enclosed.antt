@@ -1,26 +1,22 @@
 -- What readers of declarators in parentheses, of pointers and references, of types and of parameters answer.
-use Rattle.std.proofs.Common.{◌≡◌, ℕ, ◌+◌, ◌<◌, ◌≤◌, ◌⊎◌, inl, inr, nat_lt, nat_eq, Bool, true, false, ◌&&◌, refl, sym as back, ◌∙◌, subst, ap, arith, length, Option, Some, None, true≢false}
+use Rattle.std.proofs.Common.{◌≡◌, ℕ, ◌+◌, ◌<◌, ◌≤◌, inl, inr, true, false, ◌&&◌, refl, sym as back, ◌∙◌, subst, arith, length, Option, Some, None, true≢false}
 use Rattle.std.proofs.lemmas.Bool.{and_from, and_parts}
-use Rattle.cpp_syntax.specs.declared.symbol.Symbol.{Symbol}
 use Rattle.cpp_syntax.specs.Source.{Source, symbol_at}
-use Rattle.cpp_syntax.specs.Symbols.{star, amp, close_paren, void_word, std, colon_colon, tx_exception_word, less, greater}
+use Rattle.cpp_syntax.specs.Symbols.{close_paren, void_word, std, colon_colon, tx_exception_word, less, greater}
 use Rattle.cpp_syntax.specs.Types.{holds_something}
 use Rattle.cpp_syntax.specs.Shapes.{begins_thrown_at}
-use Rattle.cpp_syntax.specs.Rules.{whole, Naming, named, unnamed, either, in_block, type_id, declarator, Look, Rule, word, mark, ◌·◌, ◌∣◌, form, optional}
-use Rattle.cpp_syntax.specs.Grammar.{cv_qualifiers, pointer_declarator, reference_declarator, parenthesized_declarator, parameter_list, tx_exception}
-use Rattle.cpp_syntax.specs.Texts.{Read, no_read, Bodies, Text, is_word, is_mark, is_both, is_node, is_where, kept_apart}
-use Rattle.cpp_syntax.specs.Looks.{sees}
-use Rattle.cpp_syntax.specs.Lookahead.{need_not_name, rule_may_be_empty}
-use Rattle.cpp_syntax.specs.Longest.{NoText}
+use Rattle.cpp_syntax.specs.Rules.{whole, Naming, named, unnamed, either, in_block, type_id, declarator, Look, Rule, word, mark, ◌·◌, form, optional}
+use Rattle.cpp_syntax.specs.Grammar.{cv_qualifiers, pointer_declarator, parenthesized_declarator, parameter_list, tx_exception}
+use Rattle.cpp_syntax.specs.Texts.{Read, no_read, Bodies, Text, is_word, is_mark, is_both, is_node, is_where}
+use Rattle.cpp_syntax.specs.Lookahead.{need_not_name}
 use Rattle.cpp_syntax.specs.View.{Building}
 use Rattle.cpp_syntax.specs.Parsed.{ReadsRule, NoneOf}
-use Rattle.cpp_syntax.proofs.Firsts.{ends_behind}
 use Rattle.cpp_syntax.proofs.Apart.{apart}
-use Rattle.cpp_syntax.proofs.Longest.{carry, where_none, node_none, word_none}
+use Rattle.cpp_syntax.proofs.Longest.{carry, node_none}
 use Rattle.cpp_syntax.proofs.Clauses.{clause, clause_void, clause_kept}
 use Rattle.cpp_syntax.proofs.Readers.{gains_none, reads_seq, reads_word, reads_mark, none_behind}
 use Rattle.cpp_parse_expr.proofs.Answering.{none_second, none_second_mark, reads_to}
-use Rattle.cpp_parse_expr.proofs.Heads.{Omits, omits}
+use Rattle.cpp_parse_expr.proofs.Heads.{omits}
 
 -- What holds of each naming.
 

@@ -1,12 +1,11 @@
 -- Rules whose texts add a tree, and the place of the first of the trees that were read.
-use Rattle.std.proofs.Common.{◌≡◌, ℕ, zero, suc, inl, inr, Bool, true, false, ◌&&◌, ◌||◌, refl, sym as back, ◌∙◌, ap, subst, Option, true≢false}
+use Rattle.std.proofs.Common.{◌≡◌, ℕ, zero, suc, inl, inr, Bool, true, false, ◌&&◌, ◌||◌, refl, sym as back, ◌∙◌, ap, Option, true≢false}
 use Rattle.std.proofs.lemmas.Bool.{and_parts, or_cases}
-use Rattle.cpp_ast.specs.declared.arena.At.{At}
-use Rattle.cpp_ast.specs.Trees.{Tree, Trees, none, more}
+use Rattle.cpp_ast.specs.Trees.{Trees, none, more}
 use Rattle.cpp_syntax.specs.Source.{Source}
 use Rattle.cpp_syntax.specs.Rules.{Form, primary_expression, lambda_expression, postfix_expression, unary_expression, cast_expression, binary_expression, conditional_expression, assignment_expression, expression, Look, Rule, nothing, word, mark, mark_next, mark_name, ◌·◌, ◌∣◌, many, form, node_at, around, with_body, where_, before_no, if_, unless}
 use Rattle.cpp_syntax.specs.Grammar.{production}
-use Rattle.cpp_syntax.specs.Texts.{Read, join, and_then, place_of_first, Bodies, Text, is_nothing, is_word, is_mark, is_mark_next, is_mark_name, is_both, is_left, is_right, is_last, is_more, is_form, is_node, is_around, is_kept_apart, is_in_tree, is_where, is_before, is_if, is_unless}
+use Rattle.cpp_syntax.specs.Texts.{Read, join, place_of_first, Bodies, Text, is_nothing, is_word, is_mark, is_mark_next, is_mark_name, is_both, is_left, is_right, is_last, is_more, is_form, is_node, is_around, is_kept_apart, is_in_tree, is_where, is_before, is_if, is_unless}
 use Rattle.cpp_syntax.specs.Parsed.{has_trees}
 
 -- forms of which each text adds a tree

@@ -1,16 +1,15 @@
 -- What readers of bounds and parameters behind declarators answer.
-use Rattle.std.proofs.Common.{◌≡◌, ℕ, ◌+◌, ◌<◌, ◌≤◌, ◌⊎◌, inl, inr, Bool, true, false, refl, sym as back, ◌∙◌, subst, ap, arith, length, Option, Some, None, Result, Ok, Err, true≢false}
+use Rattle.std.proofs.Common.{◌≡◌, ℕ, ◌⊎◌, inl, inr, true, false, refl, sym as back, ◌∙◌, subst, ap, arith, Option, Some, None, Result, Ok, Err, true≢false}
 use Rattle.std.specs.Result.{IsErr}
 use Rattle.std.specs.declared.alloc.AllocError.{AllocError}
 use Rattle.cpp_ast.specs.declared.arena.At.{At}
 use Rattle.cpp_ast.specs.declared.kinds.NodeKind.{NodeKind}
 use Rattle.cpp_ast.specs.declared.kinds.NodeKind.TheVariants.{ArrayDeclarator, FunctionDeclarator}
-use Rattle.cpp_syntax.specs.declared.symbol.Symbol.{Symbol}
 use Rattle.cpp_syntax.specs.declared.places.Checkpoint.{Checkpoint}
-use Rattle.cpp_syntax.specs.Source.{Source, symbol_at, place_at}
+use Rattle.cpp_syntax.specs.Source.{Source, symbol_at}
 use Rattle.cpp_syntax.specs.Symbols.{open_bracket, open_paren}
-use Rattle.cpp_syntax.specs.Rules.{whole, Naming, named, unnamed, either, in_block, Look, parameters, Rule, ◌·◌, ◌∣◌, many, around, optional}
-use Rattle.cpp_syntax.specs.Grammar.{declarator_id, omitted_id, array_bound, array_suffix, function_parameters, parameters_behind, suffix}
+use Rattle.cpp_syntax.specs.Rules.{whole, Naming, named, unnamed, either, in_block, Look, parameters, Rule, ◌·◌, many, around, optional}
+use Rattle.cpp_syntax.specs.Grammar.{declarator_id, array_bound, array_suffix, function_parameters, parameters_behind, suffix}
 use Rattle.cpp_syntax.specs.Texts.{Read, and_then, reads_node, place_of_first, Bodies, Text, is_nothing, is_left, is_right, is_last, is_more, is_both, kept_apart}
 use Rattle.cpp_syntax.specs.Looks.{sees}
 use Rattle.cpp_syntax.specs.Lookahead.{need_not_name, rule_may_be_empty}

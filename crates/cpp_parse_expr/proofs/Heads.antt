@@ -1,28 +1,27 @@
 -- What readers of declarators answer: by the symbol that stands there, and by whether a name begins there.
-use Rattle.std.proofs.Common.{◌≡◌, ℕ, ◌+◌, ◌<◌, ◌≤◌, ◌⊎◌, inl, inr, Bool, true, false, ◌&&◌, ◌||◌, refl, sym as back, ◌∙◌, subst, ap, arith, length, Option, Some, None, Result, Ok, Err, true≢false}
+use Rattle.std.proofs.Common.{◌≡◌, ℕ, ◌+◌, ◌≤◌, ◌⊎◌, inl, inr, Bool, true, false, ◌&&◌, ◌||◌, refl, sym as back, ◌∙◌, subst, arith, length, Option, Some, None, Result, Ok, Err, true≢false}
 use Rattle.std.proofs.lemmas.Bool.{and_from, or_left, or_right, or_cases, and_parts}
 use Rattle.std.specs.declared.alloc.AllocError.{AllocError}
 use Rattle.cpp_ast.specs.declared.kinds.NodeKind.TheVariants.{OmittedId}
 use Rattle.cpp_syntax.specs.declared.symbol.Symbol.{Symbol}
 use Rattle.cpp_syntax.specs.declared.places.Checkpoint.{Checkpoint}
 use Rattle.cpp_syntax.specs.Source.{Source, symbol_at, place_at}
-use Rattle.cpp_syntax.specs.Symbols.{is_name, is_type_name, colon_colon, star, amp, open_bracket}
+use Rattle.cpp_syntax.specs.Symbols.{is_name, is_type_name, colon_colon, star, amp}
 use Rattle.cpp_syntax.specs.Shapes.{is_qualified_name_at, begins_name_at}
 use Rattle.cpp_syntax.specs.Names.{may_name, is_in_block}
-use Rattle.cpp_syntax.specs.Rules.{Reading, whole, Naming, named, unnamed, either, in_block, declarator, direct_declarator, Look, Rule, ◌·◌, ◌∣◌, many, form, optional}
-use Rattle.cpp_syntax.specs.Grammar.{type_name, declarator_id, declarator_head, parenthesized_declarator, pointer_declarator, reference_declarator, omitted_id, array_suffix, suffix}
+use Rattle.cpp_syntax.specs.Rules.{whole, Naming, named, unnamed, either, in_block, declarator, direct_declarator, Look, Rule, ◌·◌, ◌∣◌, many, form, optional}
+use Rattle.cpp_syntax.specs.Grammar.{declarator_id, declarator_head, parenthesized_declarator, pointer_declarator, reference_declarator, omitted_id, array_suffix, suffix}
 use Rattle.cpp_syntax.specs.Texts.{Read, no_read, reads_node, Bodies, Text, is_nothing, is_word, is_mark, is_both, is_left, is_right, is_last, is_form, is_node, kept_apart}
 use Rattle.cpp_syntax.specs.Looks.{sees}
-use Rattle.cpp_syntax.specs.Lookahead.{need_not_name, rule_may_be_empty, BeginsRule, GoesOnRule}
+use Rattle.cpp_syntax.specs.Lookahead.{need_not_name}
 use Rattle.cpp_syntax.specs.Longest.{IsNoLonger, Long, NoText}
 use Rattle.cpp_syntax.specs.View.{Building, gains, IsMark}
-use Rattle.cpp_syntax.specs.Parsed.{Leaves, ReadsRule, ReadsBehind, NoneOf, ParsedRule, AlwaysRule, AlwaysBehind}
-use Rattle.cpp_syntax.proofs.Firsts.{not_empty}
+use Rattle.cpp_syntax.specs.Parsed.{ReadsRule, ReadsBehind, NoneOf, ParsedRule, AlwaysRule, AlwaysBehind}
 use Rattle.cpp_syntax.proofs.Apart.{goes_within, goes_wider}
-use Rattle.cpp_syntax.proofs.Longest.{left, right, neither, mark_none, seq_none, nothing_long, node_long, node_none, form_none}
+use Rattle.cpp_syntax.proofs.Longest.{neither, mark_none, seq_none, nothing_long, node_long, node_none, form_none}
 use Rattle.cpp_syntax.proofs.Choices.{OnlyEmpty, left_filled}
-use Rattle.cpp_syntax.proofs.DeclaratorForms.{unlike, stays, with_head, without_head, with_head_long, without_head_long, head_apart, omitted_apart}
-use Rattle.cpp_syntax.proofs.Readers.{reads_form, reads_left, reads_right, none_form}
+use Rattle.cpp_syntax.proofs.DeclaratorForms.{unlike, stays, with_head_long, without_head_long, head_apart, omitted_apart}
+use Rattle.cpp_syntax.proofs.Readers.{reads_form, reads_right}
 use Rattle.cpp_syntax.proofs.Loops.{seq_behind}
 use Rattle.cpp_parse_expr.proofs.Filled.{adds_tree, filled}
 use Rattle.cpp_parse_expr.proofs.Unmarked.{reads_unmarked}

@@ -1,5 +1,5 @@
 -- What readers of lambdas answer.
-use Rattle.std.proofs.Common.{◌≡◌, ℕ, ◌+◌, ◌<◌, ◌≤◌, Bool, true, false, inl, inr, refl, sym as back, ◌∙◌, subst, ap, length, Option, Some, None, Result, Ok, Err, true≢false}
+use Rattle.std.proofs.Common.{◌≡◌, ℕ, ◌+◌, ◌<◌, ◌≤◌, true, false, inl, inr, refl, sym as back, ◌∙◌, subst, ap, length, Option, Some, None, Result, Ok, Err, true≢false}
 use Rattle.std.specs.declared.alloc.AllocError.{AllocError}
 use Rattle.cpp_ast.specs.declared.arena.At.{At}
 use Rattle.cpp_ast.specs.declared.kinds.NodeKind.TheVariants.{Lambda, LambdaDeclarator}
@@ -10,7 +10,7 @@ use Rattle.cpp_syntax.specs.Symbols.{open_brace, close_brace, is_safety}
 use Rattle.cpp_syntax.specs.Balance.{closes, Partners}
 use Rattle.cpp_syntax.specs.Rules.{lambda_expression, lambda_introducer, lambda_declarator, Rule, word, mark_next, ◌·◌, form, node, optional}
 use Rattle.cpp_syntax.specs.Grammar.{tx_qualifier}
-use Rattle.cpp_syntax.specs.Texts.{Read, no_read, with_body_apart, is_mark_next, is_both, is_form, is_kept_apart, is_in_tree, kept_apart, in_trees}
+use Rattle.cpp_syntax.specs.Texts.{no_read, with_body_apart, is_mark_next, is_both, is_form, is_kept_apart, is_in_tree, kept_apart, in_trees}
 use Rattle.cpp_syntax.specs.Looks.{sees}
 use Rattle.cpp_syntax.specs.View.{Building, gains}
 use Rattle.cpp_syntax.specs.Parsed.{ReadsRule, NoneOf, AlwaysRule}

@@ -1,5 +1,5 @@
 -- From what readers answer to what the call does.
-use Rattle.std.proofs.Common.{◌≡◌, ℕ, zero, suc, ◌+◌, ◌-◌, ◌<◌, ◌≤◌, nat_lt, nat_le, ◌&&◌, Bool, true, false, if◌then◌else◌, List, [], ◌∷◌, ◌++◌, length, map, take, drop, get_or, slice_get, Option, Some, None, refl, sym, ◌∙◌, ap, subst, arith, length-take-le, Vec, Global}
+use Rattle.std.proofs.Common.{◌≡◌, ℕ, suc, ◌+◌, ◌-◌, ◌<◌, ◌≤◌, nat_lt, nat_le, ◌&&◌, Bool, true, false, if◌then◌else◌, List, [], ◌∷◌, length, map, take, drop, get_or, slice_get, Some, None, refl, sym, ◌∙◌, ap, subst, arith, length-take-le, Vec, Global}
 use Rattle.std.proofs.lemmas.Bool.{and_from, leb-true, ltb-true}
 use Rattle.std.proofs.lemmas.List.Sums.{get_or-le-sum_by}
 use Rattle.std.proofs.lemmas.Option.{get_or_from_slice_get, slice_get_within}
@@ -7,12 +7,12 @@ use Rattle.cpp_ast.proofs.Shown.{cut_back}
 use Rattle.cpp_ast.specs.declared.arena.At.{At}
 use Rattle.cpp_ast.specs.declared.arena.Node.{Node}
 use Rattle.cpp_ast.specs.declared.arena.NodeId.{NodeId}
-use Rattle.cpp_ast.specs.Trees.{Tree, node, Trees, none, more, Shows, ShowsAll, Extends, deepest}
+use Rattle.cpp_ast.specs.Trees.{Tree, Trees, none, more, Shows, ShowsAll, Extends, deepest}
 use Rattle.cpp_ast.specs.Units.{times_in, times_a_kid}
 use Rattle.cpp_syntax.specs.declared.places.OpenBody.{OpenBody}
 use Rattle.cpp_syntax.specs.Source.{Source, place_at}
 use Rattle.cpp_syntax.specs.Rules.{Form, form}
-use Rattle.cpp_syntax.specs.Texts.{Body, Read, no_read, one_tree, and_then, kept_apart}
+use Rattle.cpp_syntax.specs.Texts.{Read, no_read, one_tree, and_then, kept_apart}
 use Rattle.cpp_syntax.specs.View.{Building, building_of, gains, Shown, trees_at, body_of, lams_of, count_trees}
 use Rattle.cpp_syntax.specs.Looks.{sees}
 use Rattle.cpp_syntax.specs.Longest.{Long}
@@ -22,7 +22,7 @@ use Rattle.cpp_parse_expr.proofs.Singles.{is_single, one_tree_of}
 use Rattle.cpp_parse_expr.specs.declared.parse.ExprForm.{ExprForm}
 use Rattle.cpp_parse_expr.specs.declared.parse.ExprForm.TheVariants as asked
 use Rattle.cpp_parse_expr.specs.Depths.{HoldOwn, HoldOnce, HoldLower, are_from, AreDepths, IsDeep, deep_node}
-use Rattle.cpp_parse_expr.specs.Parse.{form_of, tree_read, IsText, IsRead, IsTooDeep, IsParsed, open_bodies, lambda_depths}
+use Rattle.cpp_parse_expr.specs.Parse.{form_of, tree_read, IsRead, IsTooDeep, IsParsed, open_bodies, lambda_depths}
 use Rattle.cpp_parse_expr.specs.declared.parse.BodyRange.{BodyRange}
 use Rattle.cpp_parse_expr.proofs.Placed.{text_placed, deep_place}
 use Rattle.cpp_parse_expr.proofs.LambdaDepths.{Pairs, lambda_pairs, BodyAt, body_at, body_depths}

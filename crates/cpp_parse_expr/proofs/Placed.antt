@@ -1,12 +1,12 @@
 -- Each node that derives has the place of a token.
-use Rattle.std.proofs.Common.{◌≡◌, ℕ, ◌+◌, ◌-◌, ◌<◌, ◌≤◌, nat_lt, Bool, true, false, if◌then◌else◌, Option, Some, None, refl, sym, ◌∙◌, ap, subst, arith, le_trans}
+use Rattle.std.proofs.Common.{◌≡◌, ℕ, ◌+◌, ◌≤◌, nat_lt, Bool, true, false, if◌then◌else◌, Option, Some, None, refl, sym, subst, arith, le_trans}
 use Rattle.cpp_ast.specs.declared.arena.At.{At}
 use Rattle.cpp_ast.specs.declared.kinds.NodeKind.{NodeKind}
 use Rattle.cpp_ast.specs.declared.kinds.NodeKind.TheVariants as kind
 use Rattle.cpp_ast.specs.Trees.{Tree, node, Trees, none, more, kind_of, kid_depth}
 use Rattle.cpp_syntax.specs.Source.{Source, place_at}
 use Rattle.cpp_syntax.specs.Rules.{Look, Placing, at_first, at_token, at_name, Rule}
-use Rattle.cpp_syntax.specs.Texts.{Read, Name, join, one_tree, and_then, no_read, reads_node, with_body_apart, first_or, token_of_name, declared, declared_in, name_by, leads_to_name, is_of_declarator, placed, place_of_first, Bodies, Text, is_nothing, is_word, is_mark, is_mark_next, is_mark_name, is_both, is_left, is_right, is_last, is_more, is_form, is_node, is_around, is_kept_apart, is_in_tree, is_where, is_before, is_if, is_unless}
+use Rattle.cpp_syntax.specs.Texts.{Read, Name, join, and_then, reads_node, with_body_apart, first_or, token_of_name, declared, declared_in, name_by, leads_to_name, is_of_declarator, placed, place_of_first, Bodies, Text, is_nothing, is_word, is_mark, is_mark_next, is_mark_name, is_both, is_left, is_right, is_last, is_more, is_form, is_node, is_around, is_kept_apart, is_in_tree, is_where, is_before, is_if, is_unless}
 use Rattle.cpp_syntax.proofs.Firsts.{ends_behind}
 use Rattle.cpp_parse_expr.specs.Depths.{deep_node, deep_kid, or_else}
 

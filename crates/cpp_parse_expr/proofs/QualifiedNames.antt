@@ -3,10 +3,10 @@ use Rattle.std.proofs.Common.{◌≡◌, ℕ, ◌+◌, ◌<◌, Bool, true, fals
 use Rattle.cpp_ast.specs.declared.kinds.NodeKind.{NodeKind}
 use Rattle.cpp_syntax.specs.declared.symbol.Symbol.{Symbol}
 use Rattle.cpp_syntax.specs.Source.{Source, symbol_at}
-use Rattle.cpp_syntax.specs.Symbols.{is_name, is_type_name, colon_colon}
-use Rattle.cpp_syntax.specs.Rules.{Look, Rule, word, mark, ◌·◌}
+use Rattle.cpp_syntax.specs.Symbols.{is_name, colon_colon}
+use Rattle.cpp_syntax.specs.Rules.{Look, word, mark, ◌·◌}
 use Rattle.cpp_syntax.specs.Grammar.{leaf, type_name}
-use Rattle.cpp_syntax.specs.Texts.{Read, Bodies, Text, is_node, is_mark, is_word, is_both}
+use Rattle.cpp_syntax.specs.Texts.{Read, Bodies, Text, is_node, is_mark, is_both}
 use Rattle.cpp_syntax.specs.Longest.{NoText}
 use Rattle.cpp_syntax.specs.View.{Building}
 use Rattle.cpp_syntax.specs.Parsed.{ReadsRule}

@@ -1,10 +1,9 @@
 -- Forms whose texts add one tree.
 use Rattle.std.proofs.Common.{◌≡◌, ℕ, zero, suc, ◌+◌, nat_eq, Bool, true, false, if◌then◌else◌, Option, Some, None, refl, sym, ◌∙◌, ap, arith}
 use Rattle.std.proofs.lemmas.Bool.{eqb-true}
-use Rattle.cpp_ast.specs.declared.kinds.NodeKind.{NodeKind}
 use Rattle.cpp_ast.specs.Trees.{Tree, node, Trees, none, more}
 use Rattle.cpp_syntax.specs.Source.{Source, place_at}
-use Rattle.cpp_syntax.specs.Rules.{Reading, whole, by_shape, Naming, named, unnamed, either, in_block, Form, primary_expression, lambda_expression, lambda_introducer, lambda_declarator, functional_type, expression_list, postfix_expression, unary_expression, cast_expression, binary_expression, conditional_expression, assignment_expression, expression, type_specifier, type_specifier_seq, type_id, declarator, direct_declarator, parameter_declaration, parameter_declaration_clause, function_qualifiers, Look, Placing, Rule, nothing, word, mark, mark_next, mark_name, ◌·◌, ◌∣◌, many, form, node_at, around, with_body, where_, before_no, if_, unless}
+use Rattle.cpp_syntax.specs.Rules.{named, unnamed, either, in_block, Form, primary_expression, lambda_expression, postfix_expression, unary_expression, cast_expression, binary_expression, conditional_expression, assignment_expression, expression, type_specifier_seq, type_id, declarator, direct_declarator, parameter_declaration, parameter_declaration_clause, function_qualifiers, Look, Rule, nothing, word, mark, mark_next, mark_name, ◌·◌, ◌∣◌, many, form, node_at, around, with_body, where_, before_no, if_, unless}
 use Rattle.cpp_syntax.specs.Grammar.{production}
 use Rattle.cpp_syntax.specs.Texts.{Read, no_read, join, one_tree, placed, Bodies, Text, is_nothing, is_word, is_mark, is_mark_next, is_mark_name, is_both, is_left, is_right, is_last, is_more, is_form, is_node, is_around, is_kept_apart, is_in_tree, is_where, is_before, is_if, is_unless}
 use Rattle.cpp_syntax.specs.View.{count_trees}

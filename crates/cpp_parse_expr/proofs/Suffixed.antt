@@ -4,30 +4,30 @@ use Rattle.std.proofs.lemmas.Bool.{or_cases}
 use Rattle.std.specs.Result.{IsErr}
 use Rattle.std.specs.declared.alloc.AllocError.{AllocError}
 use Rattle.cpp_ast.specs.declared.kinds.NodeKind.{NodeKind}
-use Rattle.cpp_ast.specs.declared.kinds.NodeKind.TheVariants.{BinaryExpression, StdAbort, IntegerLiteral, CharacterLiteral, StringLiteral, BooleanLiteral, PointerLiteral, This}
+use Rattle.cpp_ast.specs.declared.kinds.NodeKind.TheVariants.{StdAbort, IntegerLiteral, CharacterLiteral, StringLiteral, BooleanLiteral, PointerLiteral, This}
 use Rattle.cpp_syntax.specs.declared.symbol.Symbol.{Symbol}
 use Rattle.cpp_syntax.specs.declared.symbol.Symbol.TheVariants as symbol
 use Rattle.cpp_syntax.specs.declared.places.Checkpoint.{Checkpoint}
 use Rattle.cpp_parse_expr.specs.declared.expressions.Suffix.{Suffix}
 use Rattle.cpp_syntax.specs.Source.{Source, symbol_at, place_at}
 use Rattle.cpp_syntax.specs.Symbols.{level_of, is_type_name, is_integer, is_character, is_string, is_boolean, is_literal, nullptr_word, this_word, is_step, open_bracket, open_paren, dot, arrow, std, colon_colon, abort_word, tx_exception_word}
-use Rattle.cpp_syntax.specs.Rules.{Look, primary_expression, cast_expression, binary_expression, Rule, word, mark, ◌·◌, ◌∣◌, many, form, around, node_at, unless, whole}
+use Rattle.cpp_syntax.specs.Rules.{Look, primary_expression, cast_expression, binary_expression, Rule, word, mark, ◌·◌, ◌∣◌, many, form, around, unless, whole}
 use Rattle.cpp_syntax.specs.Grammar.{production, literal, qualified_id, subscript, arguments, member_access, pointer_member_access, postfix, std_abort, functional_cast, tx_exception}
 use Rattle.cpp_syntax.specs.Texts.{Read, no_read, and_then, first_or, reads_node, kept_apart, Bodies, Text, is_word, is_mark, is_both, is_left, is_right, is_around}
 use Rattle.cpp_syntax.specs.Lookahead.{rule_may_be_empty}
 use Rattle.cpp_syntax.specs.Looks.{sees}
 use Rattle.cpp_syntax.specs.Longest.{IsNoLonger, Long, NoText, is_free}
 use Rattle.cpp_syntax.specs.View.{Building, gains, IsMark}
-use Rattle.cpp_syntax.specs.Parsed.{Leaves, ReadsRule, ReadsBehind, NoneOf, ParsedRule, AlwaysRule, ReadsLeaf}
+use Rattle.cpp_syntax.specs.Parsed.{Leaves, ReadsRule, NoneOf, ParsedRule, AlwaysRule, ReadsLeaf}
 use Rattle.cpp_parse_expr.specs.Suffixes.{SuffixOf, a_subscript, a_call, a_member, a_pointer_member, a_step, ReadsSuffix, ParsedSuffix, literal_kind}
-use Rattle.cpp_syntax.proofs.Every.{passes, at_each, implies, implied}
+use Rattle.cpp_syntax.proofs.Every.{at_each, implies, implied}
 use Rattle.cpp_syntax.proofs.Apart.{apart, goes_within, goes_wider}
 use Rattle.cpp_syntax.proofs.Firsts.{not_empty}
 use Rattle.cpp_syntax.proofs.Free.{free_none}
 use Rattle.cpp_syntax.proofs.Longest.{seq, seq_ends, form_long, word_long, mark_long, left, right, neither, word_none, mark_none, seq_none, node_long, node_none, form_none, around_none, unless_none}
 use Rattle.cpp_syntax.proofs.Readers.{reads_seq, reads_left, reads_right, none_behind}
 use Rattle.cpp_syntax.proofs.Leaves.{always_leaf}
-use Rattle.cpp_syntax.proofs.Loops.{gained_then, within, reads_unless, ReadsChain, loop_around, loop_ends}
+use Rattle.cpp_syntax.proofs.Loops.{gained_then, reads_unless, ReadsChain, loop_around, loop_ends}
 use Rattle.cpp_syntax.proofs.Levels.{operated, level_read, levels_over}
 use Rattle.cpp_parse_expr.proofs.Answering.{parsed_form, mark_and, word_and, none_unlike, none_second, none_second_mark, reads_to}
 use Rattle.cpp_parse_expr.proofs.Rounded.{node_behind, chain_adds, no_around, Rounds}

@@ -1,5 +1,5 @@
 -- The words of a type, as many as spell one.
-use Rattle.std.proofs.Common.{◌≡◌, ℕ, ◌+◌, ◌<◌, ◌≤◌, ◌⊎◌, inl, inr, Bool, true, false, refl, sym as back, ◌∙◌, subst, ap, arith, length, Option, None}
+use Rattle.std.proofs.Common.{◌≡◌, ℕ, ◌<◌, inl, inr, true, refl, sym as back, subst, arith, Option, None}
 use Rattle.std.proofs.lemmas.Bool.{cases_lt}
 use Rattle.cpp_ast.specs.declared.kinds.NodeKind.TheVariants.{SimpleTypeSpecifier}
 use Rattle.cpp_syntax.specs.Source.{Source, symbol_at}

@@ -1,5 +1,5 @@
 -- What follows an operand, without the operand.
-use Rattle.std.specs.Prelude.{◌≡◌, ℕ, Option, Some, None, Result, Ok, Err}
+use Rattle.std.specs.Prelude.{ℕ, Option, Some, None, Result, Ok, Err}
 use Rattle.std.specs.declared.alloc.AllocError.{AllocError}
 use Rattle.cpp_ast.specs.declared.kinds.NodeKind.{NodeKind}
 use Rattle.cpp_ast.specs.declared.kinds.NodeKind.TheVariants.{Subscript, FunctionCall, MemberAccess, PointerMemberAccess, PostfixIncrement, IntegerLiteral, CharacterLiteral, StringLiteral, BooleanLiteral, PointerLiteral, This}

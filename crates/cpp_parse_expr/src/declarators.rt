@@ -260,6 +260,7 @@ fn parenthesized_declarator(
         return Ok(None);
     };
     if close == at + 1 {
+        out.refuse(close);
         return Ok(None);
     }
     if !text.is_at(close, Symbol::CloseParen) {

@@ -19,7 +19,7 @@ use std::mem;
 use thiserror::Error;
 
 /// How many calls may be nested. Each bracket, operator before an operand and operator between operands nests one.
-const ROOM: u32 = 1_000;
+const ROOM: u32 = 500;
 
 /// A form of the grammar that is read alone.
 #[derive(Clone, Copy, Debug, PartialEq, Eq)]

@@ -104,6 +104,7 @@ pub fn tx_exception(
     ensures { ParsedRule text.now (tx_exception whole) at None out.old out.new result }
 {
     let Some(from) = text.thrown_type(at) else {
+        out.refuse(at);
         return Ok(None);
     };
     let start = out.checkpoint();

@@ -1,5 +1,5 @@
 -- What the readers of declarators, types and expressions answer.
-use Rattle.std.proofs.Common.{◌≡◌, ◌+◌, ◌-◌, ◌<◌, ◌≤◌, ℕ, ◌⊎◌, inl, inr, true, false, refl, sym as back, ◌∙◌, ap, subst, arith, Option, Some, None, true≢false, rules, not}
+use Rattle.std.proofs.Common.{◌≡◌, ◌+◌, ℕ, ◌⊎◌, inl, inr, true, false, refl, sym as back, ◌∙◌, ap, subst, arith, Option, Some, None, true≢false, not}
 use Rattle.std.proofs.lemmas.Bool.{not_from_false}
 use Rattle.cpp_ast.specs.declared.arena.At.{At}
 use Rattle.cpp_ast.specs.declared.kinds.NodeKind.TheVariants.{OmittedId, SimpleTypeSpecifier, StdAbort}
@@ -8,7 +8,7 @@ use Rattle.cpp_syntax.specs.Symbols.{star, amp, comma, open_paren, close_paren, 
 use Rattle.cpp_syntax.specs.Types.{spells_a_type}
 use Rattle.cpp_syntax.specs.Shapes.{begins_name_at}
 use Rattle.cpp_syntax.specs.Names.{naming_of, may_name, is_in_block}
-use Rattle.cpp_syntax.specs.Rules.{whole, unnamed, either, type_id, type_specifier, parameters, word, ◌·◌, ◌∣◌, form, some, where_, conditional_expression, assignment_expression, cast_expression, unary_expression, functional_type, primary_expression, mark}
+use Rattle.cpp_syntax.specs.Rules.{whole, unnamed, either, type_id, type_specifier, parameters, word, ◌·◌, ◌∣◌, form, some, where_, cast_expression, unary_expression, functional_type, primary_expression, mark}
 use Rattle.cpp_syntax.specs.Grammar.{leaf, type_name, tx_exception, arguments}
 use Rattle.cpp_syntax.specs.Texts.{no_read, first_or, reads_node}
 use Rattle.cpp_syntax.specs.Looks.{sees}
@@ -30,7 +30,7 @@ use Rattle.cpp_syntax.proofs.Free.{free_none}
 use Rattle.cpp_syntax.proofs.Levels.{levels_apart, levels_apart_more, operated_none, level_read}
 use Rattle.cpp_parse_expr.proofs.QualifiedNames.{qualified_there, none_qualified, none_behind_colons}
 use Rattle.cpp_parse_expr.proofs.Rounded.{taken_behind, left_behind, right_behind, first_alone, no_around, round_both, loop_round}
-use Rattle.cpp_parse_expr.proofs.Suffixed.{parsed_mark, parsed_word, parsed_seq, parsed_unless, ended, at_level, none_two_on, reads_two_on, suffix_err, no_operand, level_test, level_cut, loop_suffix, suffix_ahead, suffix_inside, suffix_leaves, no_suffix, literal_read, no_std, no_abort, abort_there, no_call, named_primary, std_primary}
+use Rattle.cpp_parse_expr.proofs.Suffixed.{parsed_mark, parsed_word, parsed_seq, parsed_unless, ended, at_level, none_two_on, reads_two_on, suffix_err, no_operand, level_test, level_cut, loop_suffix, suffix_ahead, suffix_inside, suffix_leaves, no_suffix, no_std, no_abort, abort_there, no_call, named_primary, std_primary}
 use Rattle.cpp_parse_expr.proofs.Unmarked.{reads_unmarked}
 use Rattle.cpp_parse_expr.proofs.LambdaTexts.{captured, no_introducer, no_body, no_partner, partner_inside, body_there, safety_taken}
 use Rattle.cpp_parse_expr.proofs.+expressions.Goals.{declarators::function_parameters-else-not-may_be_unnamed-via-then-not-may_be_unnamed+else-not-sees_parameters, declarators::function_parameters-else-not-may_be_unnamed-via-else-not-may_be_unnamed, declarators::parameter_clause-else-is_at-via-then-is_at+else-next-at, declarators::parameter_clause-else-is_at-via-else-is_at, declarators::declarator_head-else-may_be_named-via-then-may_be_named+else-begins_name, declarators::declarator_head-else-may_be_named-via-else-may_be_named, declarators::direct_declarator-else-is_in_block-via-then-is_in_block+else-begins_name, declarators::direct_declarator-else-is_in_block-via-else-is_in_block}
@@ -217,7 +217,7 @@ declarators::parenthesized_declarator-returns-in_default t c =
 pub declarators::parenthesized_declarator-returns-then-close-at : goal.declarators::parenthesized_declarator-returns-then-close-at
 declarators::parenthesized_declarator-returns-then-close-at t c =
     let x = rw c.in-Some.is at c.in_ok-close.ensures in
-    (leaves_read x, nothing_held x c.if-close-at.true)
+    (leaves_both (leaves_read x) (leaves_same c.refuse-then-close-at.ensures), nothing_held x c.if-close-at.true)
 
 pub declarators::parenthesized_declarator-returns-then-not-is_at-2 : goal.declarators::parenthesized_declarator-returns-then-not-is_at-2
 declarators::parenthesized_declarator-returns-then-not-is_at-2 t c =
@@ -393,7 +393,7 @@ declarators::optional_conditional_expression-returns t c = reads_taken (rw c.in-
 -- Types.
 
 pub types::tx_exception-returns-in_default : goal.types::tx_exception-returns-in_default
-types::tx_exception-returns-in_default t c = (leaves_none _, not_thrown _ _ (rw c.in_default.is at c.thrown_type.ensures))
+types::tx_exception-returns-in_default t c = (leaves_same c.refuse.ensures, not_thrown _ _ (rw c.in_default.is at c.thrown_type.ensures))
 
 pub types::tx_exception-returns-in_err-less_room : goal.types::tx_exception-returns-in_err-less_room
 types::tx_exception-returns-in_err-less_room t c = parsed_err _ _ _ _ c.from_residual.result c.from_residual.ensures.0 (leaves_none _)
@@ -414,7 +414,7 @@ pub types::tx_exception-returns-then-not-is_at : goal.types::tx_exception-return
 types::tx_exception-returns-then-not-is_at t c =
     let b = rw c.in-Some.is at c.thrown_type.ensures in
     let x = rw c.in-Some-2.is at c.in_ok-greater.ensures in (
-      leaves_both (leaves_read x) (leaves_same c.refuse.ensures),
+      leaves_both (leaves_read x) (leaves_same c.refuse-then-not-is_at.ensures),
       thrown_none _ c.args.at (subst (λ (n : ℕ). NoneOf c.args.text.now (form (type_id whole) · word greater) n) b.behind (none_behind x (word_none (refused greater symbol.Greater refl _ (c.if-not-is_at.ensures.no refl))) refl refl refl)),
     )
 

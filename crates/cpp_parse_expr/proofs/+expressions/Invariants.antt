@@ -1,5 +1,5 @@
 -- Each nested call has less room, or is of a reader below.
-use Rattle.std.proofs.Common.{◌≡◌, ◌≤◌, true, length, Some, None, ℕ, ◌+◌, ◌-◌, ◌*◌, ◌<◌}
+use Rattle.std.proofs.Common.{◌≡◌, ◌≤◌, true, length, None, ◌+◌, ◌-◌, ◌*◌}
 use Rattle.cpp_ast.specs.declared.kinds.NodeKind.TheVariants.{CommaExpression}
 use Rattle.cpp_syntax.specs.Symbols.{comma}
 use Rattle.cpp_syntax.specs.Rules.{◌·◌, form, mark, word, around, whole, assignment_expression, primary_expression, binary_expression, parameter_declaration}

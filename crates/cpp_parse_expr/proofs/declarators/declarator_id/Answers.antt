@@ -3,7 +3,7 @@ use Rattle.cpp_syntax.specs.declared.symbol.Symbol.TheVariants as symbol
 use Rattle.cpp_syntax.specs.Symbols.{is_name, is_type_name, colon_colon}
 use Rattle.cpp_syntax.proofs.Alone.{passed, refused}
 use Rattle.cpp_syntax.proofs.Longest.{mark_none, word_none, node_none, seq_none, neither}
-use Rattle.cpp_syntax.proofs.Readers.{leaves_same, leaves_both, leaves_read, reads_left, reads_right, reads_node_at}
+use Rattle.cpp_syntax.proofs.Readers.{leaves_same, reads_left, reads_right}
 use Rattle.cpp_parse_expr.proofs.Answering.{parsed_err, made, leaf_there, none_unlike}
 use Rattle.cpp_parse_expr.proofs.QualifiedNames.{qualified_there, none_qualified, none_behind_colons}
 use Rattle.cpp_parse_expr.proofs.declarators.declarator_id.Goals as goal

@@ -1,4 +1,4 @@
-use Rattle.std.proofs.Common.{rules, ◌≡◌, ◌+◌, refl, sym as back, ◌∙◌, ap, Some}
+use Rattle.std.proofs.Common.{rules, ◌+◌, refl, sym as back, ◌∙◌, ap, Some}
 use Rattle.cpp_ast.specs.declared.arena.At.{At}
 use Rattle.cpp_ast.specs.declared.kinds.NodeKind.TheVariants.{ReferenceCapture}
 use Rattle.cpp_syntax.specs.Texts.{no_read, reads_node}

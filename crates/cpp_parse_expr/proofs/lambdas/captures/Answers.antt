@@ -1,10 +1,10 @@
-use Rattle.std.proofs.Common.{rules, ◌≡◌, ◌-◌, ◌<◌, ℕ, Option, None, refl, ap, arith}
+use Rattle.std.proofs.Common.{ℕ, Option, None, refl, ap}
 use Rattle.cpp_syntax.specs.declared.symbol.Symbol.TheVariants as symbol
 use Rattle.cpp_syntax.specs.Symbols.{comma}
 use Rattle.cpp_syntax.specs.Texts.{first_or}
 use Rattle.cpp_syntax.proofs.Alone.{passed, refused}
 use Rattle.cpp_syntax.proofs.Longest.{word_none, seq_none}
-use Rattle.cpp_syntax.proofs.Readers.{leaves_same, leaves_both, leaves_read, reads_taken, reads_left_out}
+use Rattle.cpp_syntax.proofs.Readers.{leaves_both, reads_taken, reads_left_out}
 use Rattle.cpp_syntax.proofs.Loops.{loop_begins, loop_more}
 use Rattle.cpp_parse_expr.proofs.Answering.{always_err, word_and, none_second, leaves_chain, chain_done}
 use Rattle.cpp_parse_expr.proofs.lambdas.captures.Goals as goal

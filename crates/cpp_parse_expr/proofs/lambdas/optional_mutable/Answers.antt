@@ -1,4 +1,4 @@
-use Rattle.std.proofs.Common.{◌≡◌, true, false, refl}
+use Rattle.std.proofs.Common.{refl}
 use Rattle.cpp_ast.specs.declared.kinds.NodeKind.TheVariants.{Mutable}
 use Rattle.cpp_syntax.specs.declared.symbol.Symbol.TheVariants as symbol
 use Rattle.cpp_syntax.specs.Symbols.{mutable_word}

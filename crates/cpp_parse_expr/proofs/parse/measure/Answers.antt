@@ -1,9 +1,9 @@
-use Rattle.std.proofs.Common.{◌≡◌, ◌≤◌, ◌<◌, ◌-◌, ◌^◌, ℕ, length, map, take, get_or, slice_get, Some, List, sym, ◌∙◌, ap, subst, arith}
+use Rattle.std.proofs.Common.{◌≡◌, ◌≤◌, ◌<◌, ◌-◌, ◌^◌, ℕ, length, map, get_or, slice_get, List, sym, ◌∙◌, ap, arith}
 use Rattle.std.proofs.lemmas.Option.{slice_get_within}
-use Rattle.cpp_ast.specs.Trees.{Tree, Shows, deepest}
+use Rattle.cpp_ast.specs.Trees.{deepest}
 use Rattle.cpp_syntax.specs.declared.places.OpenBody.{OpenBody}
 use Rattle.cpp_parse_expr.specs.Parse.{form_of}
-use Rattle.cpp_parse_expr.proofs.Parsing.{Ready, ready, too_deep, each_body, parsed}
+use Rattle.cpp_parse_expr.proofs.Parsing.{ready, too_deep, each_body, parsed}
 use Rattle.cpp_parse_expr.proofs.parse.measure.Goals as goal
 
 pub heights-requires-clause-own : goal.heights-requires-clause-own

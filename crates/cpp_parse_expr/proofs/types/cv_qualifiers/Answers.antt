@@ -1,4 +1,4 @@
-use Rattle.std.proofs.Common.{◌≡◌, ◌-◌, ◌<◌, ℕ, Option, None, refl, sym as back, ap, arith}
+use Rattle.std.proofs.Common.{ℕ, Option, None, refl, sym as back, ap}
 use Rattle.cpp_syntax.specs.Texts.{first_or}
 use Rattle.cpp_syntax.proofs.Longest.{mark_none, node_none}
 use Rattle.cpp_syntax.proofs.Readers.{gains_none}

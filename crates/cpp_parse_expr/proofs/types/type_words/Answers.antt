@@ -1,4 +1,4 @@
-use Rattle.std.proofs.Common.{◌≡◌, ◌≤◌, ◌<◌, ◌-◌, ℕ, Option, None, refl, ap, arith}
+use Rattle.std.proofs.Common.{ℕ, Option, None, refl, ap, arith}
 use Rattle.cpp_syntax.specs.Symbols.{is_type_word}
 use Rattle.cpp_syntax.specs.Texts.{first_or}
 use Rattle.cpp_ast.specs.declared.kinds.NodeKind.TheVariants.{SimpleTypeSpecifier}

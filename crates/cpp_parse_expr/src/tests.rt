@@ -1,7 +1,7 @@
 // Texts of each form with their trees, and texts that are refused.
 
 use crate::{ExprForm, ParseFault, parse_expr};
-use cpp_ast::{NodeId, Nodes};
+use cpp_ast::{Node, NodeId, Nodes};
 use cpp_lex::{Tokens, lex};
 use cpp_syntax::TypeNames;
 use std::alloc::Global;
@@ -21,26 +21,39 @@ fn word(alloc: Global, tokens: &Tokens, at: u32) -> Result<String, Fail> {
     }
 }
 
-// The tree of a node: its kind, its token, and in parentheses the trees of its kids.
-fn tree(alloc: Global, nodes: &Nodes, tokens: &Tokens, root: NodeId) -> Result<String, Fail> {
+// The trees of kids in parentheses, if there are some.
+fn kids(alloc: Global, trees: &[String], kids: &[NodeId]) -> Result<String, Fail> {
+    let mut text = String::new(alloc);
+    for kid in kids {
+        if let Some(tree) = trees.get(kid.0 as usize) {
+            text.push_str(if text.is_empty() { "(" } else { " " })?;
+            text.push_str(tree)?;
+        }
+    }
+    if !text.is_empty() {
+        text.push_str(")")?;
+    }
+    Ok(text)
+}
+
+// A node with the trees of its kids: its kind, its token, and in parentheses the trees.
+fn tree(alloc: Global, node: &Node, tokens: &Tokens, trees: &[String]) -> Result<String, Fail> {
+    let kids = kids(alloc, trees, &node.kids)?;
+    match node.token {
+        Some(token) => {
+            let word = word(alloc, tokens, token)?;
+            Ok(format!(in alloc; "{:?}:{word}{kids}", node.kind)?)
+        }
+        None => Ok(format!(in alloc; "{:?}{kids}", node.kind)?),
+    }
+}
+
+// The tree of a node.
+fn tree_of(alloc: Global, nodes: &Nodes, tokens: &Tokens, root: NodeId) -> Result<String, Fail> {
     let mut trees: Vec<String> = Vec::new(alloc);
     for id in 0..nodes.len() {
-        let node = nodes.node(NodeId(id));
-        let mut text = format!(in alloc; "{:?}", node.kind)?;
-        if let Some(token) = node.token {
-            text.push_str(&format!(in alloc; ":{}", word(alloc, tokens, token)?)?)?;
-        }
-        let mut before = "(";
-        for kid in node.kids.iter() {
-            if let Some(tree) = trees.get(kid.0 as usize) {
-                text.push_str(&format!(in alloc; "{before}{tree}")?)?;
-                before = " ";
-            }
-        }
-        if before == " " {
-            text.push_str(")")?;
-        }
-        trees.push(text)?;
+        let tree = tree(alloc, nodes.node(NodeId(id)), tokens, &trees)?;
+        trees.push(tree)?;
     }
     match trees.get(root.0 as usize) {
         Some(tree) => Ok(tree.clone()?),
@@ -66,7 +79,7 @@ fn answer(
     let mut nodes = Nodes::new(alloc);
     match parse_expr(alloc, form, FROM, &types, depth, 200, &mut nodes) {
         Ok(out) => {
-            let tree = tree(alloc, &nodes, &tokens, out.root)?;
+            let tree = tree_of(alloc, &nodes, &tokens, out.root)?;
             Ok(format!(in alloc; "{tree} {}", out.next.saturating_sub(FROM))?)
         }
         Err(ParseFault::Syntax { token }) => Ok(format!(in alloc;
