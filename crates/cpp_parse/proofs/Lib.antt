@@ -1,0 +1,2 @@
+pub mod NodeLambdas
+pub mod Once

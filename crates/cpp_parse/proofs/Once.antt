@@ -1,0 +1,169 @@
+-- Where each node is held once at most, each lambda below some nodes is met once there, and nothing else is.
+use Rattle.std.proofs.Common.{◌≡◌, ℕ, zero, suc, ◌+◌, ◌<◌, ◌≤◌, nat_eq, nat_le, nat_lt, ◌&&◌, Bool, true, false, if◌then◌else◌, cond, List, [], ◌∷◌, ◌++◌, length, take, drop, get_or, slice_get, Option, Some, None, refl, sym, ◌∙◌, ap, subst, arith, inl, inr, eq-eqb}
+use Rattle.std.specs.List.{concat, sum_by}
+use Rattle.std.proofs.lemmas.Bool.{cases_eq, cases_lt, true≢false}
+use Rattle.std.proofs.lemmas.List.{take_all}
+use Rattle.std.proofs.lemmas.List.Sums.{sum_by-cons, sum_by-append, sum_by_more, sum_by-take-drop}
+use Rattle.std.proofs.lemmas.Option.{get_or_from_slice_get}
+use Rattle.cpp_ast.specs.declared.arena.Node.{Node}
+use Rattle.cpp_ast.specs.declared.arena.NodeId.{NodeId}
+use Rattle.cpp_ast.specs.declared.kinds.NodeKind.{NodeKind}
+use Rattle.cpp_ast.specs.Orders.{are_below}
+use Rattle.cpp_ast.specs.Units.{times_in, times_a_kid}
+use Rattle.cpp_syntax.specs.declared.places.OpenBody.{OpenBody}
+use Rattle.cpp_syntax.specs.View.{lambdas_at, is_lambda, Shown, lams_of}
+use Rattle.cpp_syntax.proofs.Gathering.{own_lambda}
+use Rattle.cpp_parse_expr.specs.Depths.{HoldLower}
+use Rattle.cpp_parse_expr.proofs.Paths.{held, below_at}
+use Rattle.cpp_parse.specs.NotedBodies.{times, one_from, is_lambda_at, one_lambda}
+use Rattle.cpp_parse.proofs.NodeLambdas.{lambdas_of, lambdas_are}
+
+pub times-append : (k : ℕ) (xs ys : List ℕ) → times k (xs ++ ys) ≡ times k xs + times k ys
+times-append k xs ys = sum_by-append (λ (other : ℕ). cond (nat_eq other k) 1 0) xs ys
+
+-- how often a place is met among the lambdas below a node
+abbrev weight : List Node → ℕ → NodeId → ℕ
+weight nodes k id = times k (lambdas_of nodes id.0)
+
+times_below : (nodes : List Node) (k : ℕ) (ids : List NodeId) → times k (lambdas_at nodes ids) ≡ sum_by (weight nodes k) ids
+times_below nodes k [] = refl
+times_below nodes k (id ∷ ids) =
+    times-append k (lambdas_of nodes id.0) (lambdas_at nodes ids)
+    ∙ ap (λ (n : ℕ). weight nodes k id + n) (times_below nodes k ids)
+    ∙ sym (sum_by-cons (weight nodes k) id ids)
+
+nothing_in : (w : NodeId → ℕ) (ids : List NodeId) → ((j : ℕ) → times_in j ids ≤ 0) → sum_by w ids ≡ 0
+nothing_in w [] h = refl
+nothing_in w (id ∷ ids) h = absurd (let least = held (id ∷ ids) 0 id.0 refl in let none = h id.0 in omega (arith, least, none))
+
+abbrev one_for : ℕ → NodeId → ℕ
+one_for j id = cond (nat_eq id.0 j) 1 0
+
+-- a place among ids
+record SplitAt (m : ℕ) (ids : List NodeId) : Type 0 where
+  front : List NodeId
+  back : List NodeId
+  are : ids ≡ front ++ record { 0 = m } ∷ back
+
+split_at : (m : ℕ) (ids : List NodeId) → 1 ≤ times_in m ids → SplitAt m ids
+split_at m [] h = absurd (omega (arith, h))
+split_at m (id ∷ ids) h = elim (cases_eq id.0 m) [
+  | inl same ↦ record { front = []; back = ids; are = ap (λ (k : ℕ). let j : NodeId = record { 0 = k } in j ∷ ids) same }
+  | inr other ↦
+      let cons : times_in m (id ∷ ids) ≡ one_for m id + times_in m ids = sum_by-cons (one_for m) id ids in
+      let no : one_for m id ≡ 0 = grind (arith, other) in
+      let rest = split_at m ids (omega (arith, h, cons, no)) in
+      record { front = id ∷ rest.front; back = rest.back; are = ap (λ (is : List NodeId). id ∷ is) rest.are }
+]
+
+none_below : (place j : ℕ) (ids : List NodeId) → are_below place ids ≡ true → place ≤ j → times_in j ids ≡ 0
+none_below place j ids below le = none_at place j ids below le (times_in j ids) refl
+  where
+    none_at : (place j : ℕ) (ids : List NodeId) → are_below place ids ≡ true → place ≤ j → (n : ℕ) → times_in j ids ≡ n → times_in j ids ≡ 0
+    none_at place j ids below le zero e = e
+    none_at place j ids below le (suc n) e =
+        let s = split_at j ids (omega (arith, e)) in
+        absurd (lower place j s.front s.back (ap (λ (is : List NodeId). are_below place is) (sym s.are) ∙ below) le)
+      where
+        lower : (place j : ℕ) (front back : List NodeId) → are_below place (front ++ record { 0 = j } ∷ back) ≡ true → place ≤ j → ⊥
+        lower place j [] back below le = let less = below_at place (record { 0 = j } ∷ back) 0 (record { 0 = j }) below refl in omega (arith, less, le)
+        lower place j (id ∷ front) back below le = lower place j front back (and_rest (nat_lt id.0 place) (are_below place (front ++ record { 0 = j } ∷ back)) below) le
+          where
+            and_rest : (a b : Bool) → a && b ≡ true → b ≡ true
+            and_rest true b e = e
+            and_rest false b e = absurd (let f : false ≡ true = e in cc)
+
+record There (nodes : List Node) (i : ℕ) : Type 0 where
+  found : Node
+  stands : slice_get nodes i ≡ Some found
+
+node_there : (nodes : List Node) (i : ℕ) → i < length nodes → There nodes i
+node_there [] i h = absurd (omega (arith, h))
+node_there (n ∷ ns) zero h = record { found = n; stands = refl }
+node_there (n ∷ ns) (suc i) h = let rest = node_there ns i (omega (arith, h)) in record { found = rest.found; stands = rest.stands }
+
+-- how often the nodes before a place hold a node
+abbrev held_before : List Node → ℕ → ℕ → ℕ
+held_before nodes m j = times_a_kid j (take m nodes)
+
+held_more : (nodes : List Node) (i m j : ℕ) (n : Node) → m ≡ i + 1 → i < length nodes → slice_get nodes i ≡ Some n → held_before nodes m j ≡ held_before nodes i j + times_in j n.kids.items
+held_more nodes i m j n e inside stands =
+    ap (λ (z : ℕ). held_before nodes z j) e
+    ∙ sum_by_more (λ (node : Node). times_in j node.kids.items) nodes i n inside
+    ∙ ap (λ (node : Node). held_before nodes i j + times_in j node.kids.items) (get_or_from_slice_get nodes i n n stands)
+
+-- Numbers of a step.
+
+one_none : (base j : ℕ) → one_from base base j ≡ 0
+one_none base j = grind arith
+
+one_more : (base i m j : ℕ) → base ≤ i → m ≡ i + 1 → one_from base m j ≡ one_from base i j + cond (nat_eq i j) 1 0
+one_more base i m j from e = grind (arith, from, e)
+
+own_times : (own : Bool) (i k : ℕ) → times k (if own then i ∷ [] else []) ≡ (if own then cond (nat_eq i k) 1 0 else 0)
+own_times true i k = omega arith
+own_times false i k = refl
+
+by_node : (own there : Bool) (was one now : ℕ) → now ≡ was + one → (one ≡ 0) ⊎ (own ≡ there) → (if there then was else 0) + (if own then one else 0) ≤ (if there then now else 0)
+by_node true true was one now e h = omega (arith, e)
+by_node false false was one now e h = omega arith
+by_node false true was one now e h = omega (arith, e)
+by_node true false was one now e (inl f) = omega (arith, f)
+by_node true false was one now e (inr f) = absurd (true≢false f)
+
+-- the lambda at a place, beside those before it
+own_bound : (nodes : List Node) (base i m k : ℕ) (n : Node) → base ≤ i → m ≡ i + 1 → slice_get nodes i ≡ Some n → one_lambda nodes base i k + times k (own_lambda n.kind i) ≤ one_lambda nodes base m k
+own_bound nodes base i m k n from e stands =
+    let more = one_more base i m k from e in
+    let own = own_times (is_lambda n.kind) i k in
+    let here : (cond (nat_eq i k) 1 0 ≡ 0) ⊎ (is_lambda n.kind ≡ is_lambda_at nodes k) = elim (cases_eq i k) [
+      | inl same ↦ inr (sym (ap (λ (z : ℕ). is_lambda_at nodes z) (sym same) ∙ ap is_lambda_node stands))
+      | inr other ↦ inl (grind (arith, other))
+    ] in
+    let whole = by_node (is_lambda n.kind) (is_lambda_at nodes k) (one_from base i k) (cond (nat_eq i k) 1 0) (one_from base m k) more here in
+    omega (arith, own, whole)
+
+no_less : (there : Bool) (was now : ℕ) → was ≤ now → (if there then was else 0) ≤ (if there then now else 0)
+no_less true was now h = h
+no_less false was now h = omega arith
+
+module _ (nodes : List Node) (base k : ℕ) (lower : HoldLower base nodes) where
+  -- no node before a place is held more often than those before the first, where kids stand before their nodes
+  lower_none : (d m j : ℕ) → m ≡ base + d → m ≤ length nodes → m ≤ j → held_before nodes m j ≡ held_before nodes base j
+  lower_none zero m j e inside past = ap (λ (z : ℕ). held_before nodes z j) (omega (arith, e))
+  lower_none (suc d) m j e inside past =
+      let i = base + d in
+      let next : m ≡ i + 1 = omega (arith, e) in
+      let n = node_there nodes i (omega (arith, next, inside)) in
+      let below = none_below i j n.found.kids.items (lower.lower i n.found (omega arith) n.stands) (omega (arith, next, past)) in
+      let more = held_more nodes i m j n.found next (omega (arith, next, inside)) n.stands in
+      let rest = lower_none d i j refl (omega (arith, next, inside)) (omega (arith, next, past)) in
+      omega (arith, below, more, rest)
+
+  -- Each node is held once at most by the ids and the nodes from one on before another.
+  AreApart : ℕ → List NodeId → Type 0
+  AreApart m ids = (j : ℕ) → held_before nodes m j + times_in j ids ≤ one_from base m j + held_before nodes base j
+
+  once_to : (d m : ℕ) → m ≡ base + d → m ≤ length nodes → (ids : List NodeId) → AreApart m ids → sum_by (weight nodes k) ids ≤ one_lambda nodes base m k
+  once_to zero m e inside ids h =
+      let none = nothing_in (weight nodes k) ids (λ j.
+      let a = h j in
+      let at : m ≡ base = omega (arith, e) in
+      let b : held_before nodes m j ≡ held_before nodes base j = ap (λ (z : ℕ). held_before nodes z j) at in
+      let c : one_from base m j ≡ one_from base base j = ap (λ (z : ℕ). one_from base z j) at in
+      let f = one_none base j in
+      omega (arith, a, b, c, f)) in
+      omega (arith, none)
+  once_to (suc d) m e inside ids h =
+      let i = base + d in
+      let next : m ≡ i + 1 = omega (arith, e) in
+      let n = node_there nodes i (omega (arith, next, inside)) in
+      elim (cases_lt 0 (times_in i ids)) [
+        | inl some ↦ with_node d i m next inside n.found n.stands ids h (split_at i ids (omega (arith, some)))
+        | inr none ↦ without d i m next inside n.found n.stands ids h (omega (arith, none))
+      ]
+    where
+      with_node : (d i m : ℕ) → m ≡ i + 1 → m ≤ length nodes → (n : Node) → slice_get nodes i ≡ Some n → (ids : List NodeId) → AreApart m ids → SplitAt i ids → sum_by (weight nodes k) ids ≤ one_lambda nodes base m k
+      with_node d i m next inside n stands ids h s = ?
+      without : (d i m : ℕ) → m ≡ i + 1 → m ≤ length nodes → (n : Node) → slice_get nodes i ≡ Some n → (ids : List NodeId) → AreApart m ids → times_in i ids ≡ 0 → sum_by (weight nodes k) ids ≤ one_lambda nodes base m k
+      without d i m next inside n stands ids h none = ?
