@@ -1,13 +1,13 @@
 -- The lambdas below a node: those below its kids, and the node itself.
-use Rattle.std.proofs.Common.{◌≡◌, ℕ, zero, suc, ◌+◌, ◌<◌, List, [], ◌∷◌, ◌++◌, length, get_or, slice_get, Some, refl, sym, ◌∙◌, ap, arith, true, nat_lt, length-append}
+use Rattle.std.proofs.Common.{◌≡◌, ℕ, if◌then◌else◌, zero, suc, ◌+◌, ◌<◌, List, [], ◌∷◌, ◌++◌, length, get_or, slice_get, Some, refl, sym, ◌∙◌, ap, arith, true, nat_lt, length-append}
 use Rattle.std.proofs.lemmas.Bool.{and_parts, ltb-true}
 use Rattle.std.proofs.lemmas.List.{get_or_append_left, get_or_push}
 use Rattle.std.proofs.lemmas.Option.{none-some}
 use Rattle.cpp_ast.specs.declared.arena.Node.{Node}
 use Rattle.cpp_ast.specs.declared.arena.NodeId.{NodeId}
+use Rattle.cpp_ast.specs.declared.kinds.NodeKind.{NodeKind}
 use Rattle.cpp_ast.specs.Orders.{are_below}
-use Rattle.cpp_syntax.specs.View.{values_at, values_from, lambdas_made, lambdas_at}
-use Rattle.cpp_syntax.proofs.Gathering.{own_lambda}
+use Rattle.cpp_syntax.specs.View.{values_at, values_from, lambdas_made, lambdas_at, is_lambda}
 
 -- The value of a node is made of those of its kids, which stand before it.
 
@@ -44,6 +44,9 @@ module _ {A : Type 0} (other : A) (make : ℕ → Node → List A → A) where
       let v : A = make (length vs) m (values_at other vs m.kids.items) in
       let longer = length-append vs (v ∷ []) in
       value_from (vs ++ v ∷ []) ns k i n e (omega (arith, at, longer)) below
+
+abbrev pub own_lambda : NodeKind → ℕ → List ℕ
+own_lambda kind id = if is_lambda kind then id ∷ [] else []
 
 abbrev pub lambdas_of : List Node → ℕ → List ℕ
 lambdas_of nodes id = get_or (values_from [] lambdas_made [] nodes) id []

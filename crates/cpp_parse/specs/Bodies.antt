@@ -28,14 +28,14 @@ abbrev pub AreInside : ℕ → List OpenBody → Type 0
 AreInside most bodies = (k : ℕ) (body : OpenBody) → slice_get bodies k ≡ Some body → IsInside most body
 
 -- The longest compound statement from the brace of a body ends with its closing brace, and this is what was read.
-pub record IsBlock (source : Source) (body : OpenBody) (old new : List Node) (root : NodeId) (bodies : List OpenBody) : Type 0 where
+pub record IsBlock (source : Source) (body : OpenBody) (old new : List Node) (root : NodeId) (inner : List OpenBody) : Type 0 where
   pub got : Read
   pub long : Long (sees source) kept_apart source (form compound_statement) no_read (body.from - 1) (body.to + 1) None got
   pub grown : Extends old new
-  pub shown : Shown (length old) new (root ∷ []) bodies
+  pub shown : Shown (length old) new (root ∷ []) inner
   pub trees : trees_at new (root ∷ []) ≡ got.trees
-  pub bodies : map (body_of new) bodies ≡ got.bodies
-  pub inside : AreInside (length source.symbols) bodies
+  pub bodies : map (body_of new) inner ≡ got.bodies
+  pub inside : AreInside (length source.symbols) inner
 
 -- No tree is that of a body; the token up to which there could be one.
 pub record IsNoBody (source : Source) (body : OpenBody) (token : ℕ) : Type 0 where

@@ -21,7 +21,7 @@ roots_noted bodies = map (λ (body : LamBody). body.body) bodies
 abbrev pub one_from : ℕ → ℕ → ℕ → ℕ
 one_from from to id = if nat_le from id && nat_lt id to then 1 else 0
 
-abbrev is_lambda_node : Option Node → Bool
+abbrev pub is_lambda_node : Option Node → Bool
 is_lambda_node None = false
 is_lambda_node (Some n) = is_lambda n.kind
 

@@ -1,5 +1,5 @@
 -- What the steps of reading a unit answer.
-use Rattle.std.specs.Prelude.{◌≡◌, ℕ, ◌≤◌, List, [], ◌∷◌, length, map, Result, Ok, Err}
+use Rattle.std.specs.Prelude.{◌≡◌, ℕ, ◌+◌, ◌≤◌, List, [], ◌∷◌, length, map, Result, Ok, Err}
 use Rattle.std.specs.declared.alloc.AllocError.{AllocError}
 use Rattle.cpp_lex.specs.Tokens.{Lexeme}
 use Rattle.cpp_ast.specs.declared.arena.Node.{Node}
@@ -31,14 +31,14 @@ pub record HasNoUnit (source : Source) (token : ℕ) : Type 0 where
   pub inside : token ≤ length source.symbols
 
 -- All tokens were read as declarations, without the bodies of their lambdas.
-pub record AreDeclarations (source : Source) (old new : List Node) (decls : List NodeId) (bodies : List OpenBody) : Type 0 where
+pub record AreDeclarations (source : Source) (old new : List Node) (decls : List NodeId) (inner : List OpenBody) : Type 0 where
   pub got : Read
   pub whole : WholeUnit source got
   pub grown : Extends old new
-  pub shown : Shown (length old) new decls bodies
+  pub shown : Shown (length old) new decls inner
   pub trees : trees_at new decls ≡ got.trees
-  pub bodies : map (body_of new) bodies ≡ got.bodies
-  pub inside : AreInside (length source.symbols) bodies
+  pub bodies : map (body_of new) inner ≡ got.bodies
+  pub inside : AreInside (length source.symbols) inner
 
 abbrev pub ReadsDeclarations : Source → List Node → List Node → Result Declarations AllocError → Type 0
 ReadsDeclarations source old new (Ok (declarations.Read decls bodies)) = AreDeclarations source old new decls.items bodies.items

@@ -1,0 +1,4 @@
+use Rattle.cpp_parse.proofs.statements.compound_statement.Goals as goal
+
+pub returns : goal.returns
+returns c = ?
