@@ -11,6 +11,11 @@ use Rattle.cpp_syntax.specs.Texts.{join}
 use Rattle.cpp_parse_expr.specs.Depths.{or_else, deep_node, deep_kid}
 use Rattle.cpp_parse.specs.NotedBodies.{IsNotedIn, at_most_one}
 
+first_behind : (ids : List NodeId) (i : ℕ) (id d : NodeId) → i < length ids → id ≡ get_or ids i d → drop i ids ≡ id ∷ drop (i + 1) ids
+first_behind ids i id d inside at =
+    let next : suc i ≡ i + 1 = omega arith in
+    drop-cons ids i d inside ∙ ap (λ (k : ℕ). get_or ids i d ∷ drop k ids) next ∙ ap (λ (j : NodeId). j ∷ drop (i + 1) ids) (sym at)
+
 module _ (bodies : List LamBody) (nodes : List Node) where
   -- the first of some ids and the others
   pub record Front (id : NodeId) (ids : List NodeId) (trees : Trees) : Type 0 where
@@ -57,19 +62,18 @@ module _ (bodies : List LamBody) (nodes : List Node) where
 
   pub next_kid : (ids : List NodeId) (i limit depth : ℕ) (id d : NodeId) (trees : Trees) → i < length ids → id ≡ get_or ids i d → Passing ids i limit depth trees → Next ids i limit depth id trees
   next_kid ids i limit depth id d trees inside at p =
-      let next : suc i ≡ i + 1 = omega arith in
-      let f = front_of (drop i ids) (drop (i + 1) ids) id p.rest (drop-cons ids i d inside ∙ ap (λ (k : ℕ). get_or ids i d ∷ drop k ids) next ∙ ap (λ (j : NodeId). j ∷ drop (i + 1) ids) (sym at)) p.shows in
+      let f = front_of (drop i ids) (drop (i + 1) ids) id p.rest (first_behind ids i id d inside at) p.shows in
       record { tree = f.first; others = f.others; shows = f.shows; show = f.show; same = p.same ∙ ap (deep_kid limit depth) f.are }
 
   pub passing_more : (ids : List NodeId) (i limit depth : ℕ) (id : NodeId) (trees : Trees) → ((tree : Tree) → ShowsWith bodies nodes id.0 tree → None ≡ deep_node limit (kid_depth depth (kind_of tree)) tree) → Next ids i limit depth id trees → Passing ids (i + 1) limit depth trees
-  passing_more ids i limit depth id trees no n = record {
+  passing_more ids i limit depth id trees nothing n = record {
     rest = n.others;
     shows = n.show;
-    same = n.same ∙ ap (λ (o : Option At). or_else o (deep_kid limit depth n.others)) (sym (no n.tree n.shows));
+    same = n.same ∙ ap (λ (o : Option At). or_else o (deep_kid limit depth n.others)) (sym (nothing n.tree n.shows));
   }
 
   pub passing_found : (ids : List NodeId) (i limit depth : ℕ) (id : NodeId) (trees : Trees) (place : At) → ((tree : Tree) → ShowsWith bodies nodes id.0 tree → Some place ≡ deep_node limit (kid_depth depth (kind_of tree)) tree) → Next ids i limit depth id trees → Some place ≡ deep_kid limit depth trees
-  passing_found ids i limit depth id trees place yes n = sym (n.same ∙ ap (λ (o : Option At). or_else o (deep_kid limit depth n.others)) (sym (yes n.tree n.shows)))
+  passing_found ids i limit depth id trees place found n = sym (n.same ∙ ap (λ (o : Option At). or_else o (deep_kid limit depth n.others)) (sym (found n.tree n.shows)))
 
   drop-past : (i : ℕ) (ids : List NodeId) → length ids ≤ i → drop i ids ≡ []
   drop-past zero [] h = refl

@@ -1,5 +1,5 @@
 -- Where each node is held once at most, each lambda below some nodes is met once there, and nothing else is.
-use Rattle.std.proofs.Common.{◌≡◌, ℕ, zero, suc, ◌+◌, ◌<◌, ◌≤◌, nat_eq, nat_le, nat_lt, ◌&&◌, Bool, true, false, if◌then◌else◌, cond, List, [], ◌∷◌, ◌++◌, length, take, drop, get_or, slice_get, Option, Some, None, refl, sym, ◌∙◌, ap, subst, arith, inl, inr, eq-eqb}
+use Rattle.std.proofs.Common.{◌≡◌, ◌⊎◌, ℕ, zero, suc, ◌+◌, ◌-◌, ◌<◌, ◌≤◌, nat_eq, nat_le, nat_lt, ◌&&◌, Bool, true, false, if◌then◌else◌, cond, List, [], ◌∷◌, ◌++◌, length, take, drop, get_or, slice_get, Option, Some, None, refl, sym, ◌∙◌, ap, subst, arith, inl, inr, eq-eqb}
 use Rattle.std.specs.List.{concat, sum_by}
 use Rattle.std.proofs.lemmas.Bool.{cases_eq, cases_lt, true≢false}
 use Rattle.std.proofs.lemmas.List.{take_all}
@@ -44,10 +44,13 @@ record SplitAt (m : ℕ) (ids : List NodeId) : Type 0 where
   back : List NodeId
   are : ids ≡ front ++ record { 0 = m } ∷ back
 
+same_front : (i m : ℕ) (ids : List NodeId) → i ≡ m → ◌≡◌ {A = List NodeId} (record { 0 = i } ∷ ids) (record { 0 = m } ∷ ids)
+same_front i m ids same = ap (λ (k : ℕ). let j : NodeId = record { 0 = k } in j ∷ ids) same
+
 split_at : (m : ℕ) (ids : List NodeId) → 1 ≤ times_in m ids → SplitAt m ids
 split_at m [] h = absurd (omega (arith, h))
 split_at m (id ∷ ids) h = elim (cases_eq id.0 m) [
-  | inl same ↦ record { front = []; back = ids; are = ap (λ (k : ℕ). let j : NodeId = record { 0 = k } in j ∷ ids) same }
+  | inl same ↦ record { front = []; back = ids; are = same_front id.0 m ids same }
   | inr other ↦
       let cons : times_in m (id ∷ ids) ≡ one_for m id + times_in m ids = sum_by-cons (one_for m) id ids in
       let no : one_for m id ≡ 0 = grind (arith, other) in
@@ -110,16 +113,21 @@ by_node false true was one now e h = omega (arith, e)
 by_node true false was one now e (inl f) = omega (arith, f)
 by_node true false was one now e (inr f) = absurd (true≢false f)
 
+one_other : (i j : ℕ) → (i ≡ j → ⊥) → one_for j (record { 0 = i }) ≡ 0
+one_other i j other = grind (arith, other)
+
+own_here : (nodes : List Node) (i k : ℕ) (n : Node) → slice_get nodes i ≡ Some n → (one_for k (record { 0 = i }) ≡ 0) ⊎ (is_lambda n.kind ≡ is_lambda_at nodes k)
+own_here nodes i k n stands = elim (cases_eq i k) [
+  | inl same ↦ inr (sym (ap (λ (z : ℕ). is_lambda_at nodes z) (sym same) ∙ ap is_lambda_node stands))
+  | inr other ↦ inl (one_other i k other)
+]
+
 -- the lambda at a place, beside those before it
 own_bound : (nodes : List Node) (base i m k : ℕ) (n : Node) → base ≤ i → m ≡ i + 1 → slice_get nodes i ≡ Some n → one_lambda nodes base i k + times k (own_lambda n.kind i) ≤ one_lambda nodes base m k
 own_bound nodes base i m k n from e stands =
     let more = one_more base i m k from e in
     let own = own_times (is_lambda n.kind) i k in
-    let here : (cond (nat_eq i k) 1 0 ≡ 0) ⊎ (is_lambda n.kind ≡ is_lambda_at nodes k) = elim (cases_eq i k) [
-      | inl same ↦ inr (sym (ap (λ (z : ℕ). is_lambda_at nodes z) (sym same) ∙ ap is_lambda_node stands))
-      | inr other ↦ inl (grind (arith, other))
-    ] in
-    let whole = by_node (is_lambda n.kind) (is_lambda_at nodes k) (one_from base i k) (cond (nat_eq i k) 1 0) (one_from base m k) more here in
+    let whole = by_node (is_lambda n.kind) (is_lambda_at nodes k) (one_from base i k) (cond (nat_eq i k) 1 0) (one_from base m k) more (own_here nodes i k n stands) in
     omega (arith, own, whole)
 
 no_less : (there : Bool) (was now : ℕ) → was ≤ now → (if there then was else 0) ≤ (if there then now else 0)
@@ -140,8 +148,64 @@ module _ (nodes : List Node) (base k : ℕ) (lower : HoldLower base nodes) where
       omega (arith, below, more, rest)
 
   -- Each node is held once at most by the ids and the nodes from one on before another.
-  AreApart : ℕ → List NodeId → Type 0
+  abbrev AreApart : ℕ → List NodeId → Type 0
   AreApart m ids = (j : ℕ) → held_before nodes m j + times_in j ids ≤ one_from base m j + held_before nodes base j
+
+  -- The node before a place leaves its kids in its place.
+  record Before (i m : ℕ) (ids : List NodeId) : Type 0 where
+    left : List NodeId
+    apart : AreApart i left
+    bound : sum_by (weight nodes k) left ≤ one_lambda nodes base i k → sum_by (weight nodes k) ids ≤ one_lambda nodes base m k
+
+  own_weight : (i : ℕ) (n : Node) → base ≤ i → slice_get nodes i ≡ Some n → times k (lambdas_of nodes i) ≡ sum_by (weight nodes k) n.kids.items + times k (own_lambda n.kind i)
+  own_weight i n from stands =
+      ap (λ (ids : List ℕ). times k ids) (lambdas_are nodes i n stands (lower.lower i n from stands))
+      ∙ times-append k (lambdas_at nodes n.kids.items) (own_lambda n.kind i)
+      ∙ ap (λ (z : ℕ). z + times k (own_lambda n.kind i)) (times_below nodes k n.kids.items)
+
+  before_some : (i m : ℕ) (n : Node) (ids : List NodeId) → base ≤ i → m ≡ i + 1 → i < length nodes → slice_get nodes i ≡ Some n → AreApart m ids → SplitAt i ids → Before i m ids
+  before_some i m n ids from next inside stands h s =
+      let here : NodeId = record { 0 = i } in
+      let parts : (f : NodeId → ℕ) → sum_by f ids ≡ sum_by f s.front + (f here + sum_by f s.back) = λ f.
+      ap (sum_by f) s.are ∙ sum_by-append f s.front (here ∷ s.back) ∙ ap (λ (z : ℕ). sum_by f s.front + z) (sum_by-cons f here s.back) in
+      let changed : (f : NodeId → ℕ) → sum_by f (s.front ++ (n.kids.items ++ s.back)) ≡ sum_by f s.front + (sum_by f n.kids.items + sum_by f s.back) = λ f.
+      sum_by-append f s.front (n.kids.items ++ s.back) ∙ ap (λ (z : ℕ). sum_by f s.front + z) (sum_by-append f n.kids.items s.back) in
+      record {
+        left = s.front ++ (n.kids.items ++ s.back);
+        apart = λ j.
+            let whole = h j in
+            let more = held_more nodes i m j n next inside stands in
+            let was = parts (one_for j) in
+            let now = changed (one_for j) in
+            let one = one_more base i m j from next in
+            omega (arith, whole, more, was, now, one);
+        bound = λ b.
+            let was = parts (weight nodes k) in
+            let now = changed (weight nodes k) in
+            let own = own_weight i n from stands in
+            let one = own_bound nodes base i m k n from next stands in
+            omega (arith, b, was, now, own, one);
+      }
+
+  before_none : (i m : ℕ) (n : Node) (ids : List NodeId) → base ≤ i → m ≡ i + 1 → i < length nodes → slice_get nodes i ≡ Some n → AreApart m ids → times_in i ids ≡ 0 → held_before nodes i i ≡ held_before nodes base i → Before i m ids
+  before_none i m n ids from next inside stands h none lowest = record {
+    left = ids;
+    apart = λ j.
+        let whole = h j in
+        let more = held_more nodes i m j n next inside stands in
+        let one = one_more base i m j from next in
+        elim (cases_eq i j) [
+          | inl same ↦
+              let a : times_in i ids ≡ times_in j ids = ap (λ (z : ℕ). times_in z ids) same in
+              let b : held_before nodes i i ≡ held_before nodes i j = ap (λ (z : ℕ). held_before nodes i z) same in
+              let c : held_before nodes base i ≡ held_before nodes base j = ap (λ (z : ℕ). held_before nodes base z) same in
+              omega (arith, a, b, c, none, lowest)
+          | inr other ↦
+              let zero_one = one_other i j other in
+              omega (arith, whole, more, one, zero_one)
+        ];
+    bound = λ b. let one = own_bound nodes base i m k n from next stands in omega (arith, b, one);
+  }
 
   once_to : (d m : ℕ) → m ≡ base + d → m ≤ length nodes → (ids : List NodeId) → AreApart m ids → sum_by (weight nodes k) ids ≤ one_lambda nodes base m k
   once_to zero m e inside ids h =
@@ -156,13 +220,22 @@ module _ (nodes : List Node) (base k : ℕ) (lower : HoldLower base nodes) where
   once_to (suc d) m e inside ids h =
       let i = base + d in
       let next : m ≡ i + 1 = omega (arith, e) in
-      let n = node_there nodes i (omega (arith, next, inside)) in
-      elim (cases_lt 0 (times_in i ids)) [
-        | inl some ↦ with_node d i m next inside n.found n.stands ids h (split_at i ids (omega (arith, some)))
-        | inr none ↦ without d i m next inside n.found n.stands ids h (omega (arith, none))
-      ]
-    where
-      with_node : (d i m : ℕ) → m ≡ i + 1 → m ≤ length nodes → (n : Node) → slice_get nodes i ≡ Some n → (ids : List NodeId) → AreApart m ids → SplitAt i ids → sum_by (weight nodes k) ids ≤ one_lambda nodes base m k
-      with_node d i m next inside n stands ids h s = ?
-      without : (d i m : ℕ) → m ≡ i + 1 → m ≤ length nodes → (n : Node) → slice_get nodes i ≡ Some n → (ids : List NodeId) → AreApart m ids → times_in i ids ≡ 0 → sum_by (weight nodes k) ids ≤ one_lambda nodes base m k
-      without d i m next inside n stands ids h none = ?
+      let within : i < length nodes = omega (arith, next, inside) in
+      let n = node_there nodes i within in
+      let lowest = lower_none d i i refl (omega (arith, within)) (omega arith) in
+      let s : Before i m ids = elim (cases_lt 0 (times_in i ids)) [
+        | inl some ↦ before_some i m n.found ids (omega arith) next within n.stands h (split_at i ids (omega (arith, some)))
+        | inr none ↦ before_none i m n.found ids (omega arith) next within n.stands h (omega (arith, none)) lowest
+      ] in
+      s.bound (once_to d i refl (omega (arith, within)) s.left s.apart)
+
+-- Each lambda in trees that are shown is met once, and each of the lambdas is one.
+pub lambdas_once : (nodes : List Node) (base k : ℕ) (ids : List NodeId) (bodies : List OpenBody) → base ≤ length nodes → HoldLower base nodes → Shown base nodes ids bodies → times k (lams_of bodies) ≤ one_lambda nodes base (length nodes) k
+lambdas_once nodes base k ids bodies within lower s =
+    let here : times k (lams_of bodies) ≡ sum_by (weight nodes k) ids = ap (λ (z : List ℕ). times k z) s.lambdas ∙ times_below nodes k ids in
+    let most = once_to nodes base k lower (length nodes - base) (length nodes) (omega (arith, within)) (omega arith) ids (λ j.
+    let apart = s.apart j in
+    let whole : held_before nodes (length nodes) j ≡ times_a_kid j nodes = ap (λ (ns : List Node). times_a_kid j ns) (take_all (length nodes) nodes (omega arith)) in
+    let parts = sum_by-take-drop (λ (node : Node). times_in j node.kids.items) nodes base in
+    omega (arith, apart, whole, parts)) in
+    omega (arith, here, most)

@@ -1,0 +1,14 @@
+use Rattle.std.proofs.Common.{rules, ◌≡◌, ◌≤◌, IfOk, length, map, ℕ, ◌+◌, ◌-◌, ◌*◌, ◌<◌, ◌/◌, ◌%◌, Bool, true, false, nat_eq, nat_lt, List, [], ◌∷◌, ◌++◌, slice_index_or, slice_set, bit_and, bit_or, Fits, w8, w32, w64, Bor, MutBor}
+use Rattle.cpp_lex.specs.Tokens.{lexeme_of, lexemes_of}
+use Rattle.cpp_syntax.specs.Classes.{source_of}
+use Rattle.cpp_parse.specs.Units.{ParsesUnit}
+use Rattle.cpp_parse.specs.Pieces.{ReadsDeclarations, ReadsWhole, AnswersUnit, IsWholeRead}
+use Rattle.cpp_parse.proofs.parse.read_whole.Goals as goal
+
+-- src/parse.rt:96:1
+pub returns-in-None : goal.returns-in-None
+returns-in-None c = ?
+
+-- src/parse.rt:96:1
+pub returns-in-Some : goal.returns-in-Some
+returns-in-Some c = ?
