@@ -148,3 +148,46 @@ at_depth limit depth kind at token kids h = ap (λ (b : Bool). by_test b at (dee
 
 pub below_depth : (limit depth : ℕ) (kind : NodeKind) (at : At) (token : Option ℕ) (kids : Trees) → depth ≤ limit → deep_node limit depth (node kind at token kids) ≡ deep_kid limit depth kids
 below_depth limit depth kind at token kids h = ap (λ (b : Bool). by_test b at (deep_kid limit depth kids)) (le-ltb limit depth h)
+
+or_none : (o : Option At) → or_else o None ≡ o
+or_none None = refl
+or_none (Some at) = refl
+
+-- A node in one of a depth, of which the kids and the noted body are known.
+module _ (bodies : List LamBody) (nodes : List Node) (holder limit : ℕ) (found : Node) (body : List NodeId) (tree : Tree) (p : Parts bodies nodes found body tree) where
+  same_depth : kid_depth holder (kind_of tree) ≡ kid_depth holder found.kind
+  same_depth = ap (λ (t : Tree). kid_depth holder (kind_of t)) p.is
+
+  pub node_beyond : limit < kid_depth holder found.kind → Some found.at ≡ deep_node limit (kid_depth holder (kind_of tree)) tree
+  node_beyond h = sym (
+      ap (λ (d : ℕ). deep_node limit d tree) same_depth
+      ∙ ap (deep_node limit (kid_depth holder found.kind)) p.is
+      ∙ at_depth limit (kid_depth holder found.kind) found.kind found.at found.token (join p.kids p.last) h)
+
+  module _ (depth : ℕ) (is : depth ≡ kid_depth holder found.kind) (low : depth ≤ limit) where
+    by_parts : deep_node limit (kid_depth holder (kind_of tree)) tree ≡ or_else (deep_kid limit depth p.kids) (deep_kid limit depth p.last)
+    by_parts =
+        ap (λ (d : ℕ). deep_node limit d tree) (same_depth ∙ sym is)
+        ∙ ap (deep_node limit depth) p.is
+        ∙ below_depth limit depth found.kind found.at found.token (join p.kids p.last) low
+        ∙ deep_join limit depth p.kids p.last
+
+    pub found_in_kids : (place : At) → ((trees : Trees) → ShowsAllWith bodies nodes found.kids.items trees → Some place ≡ deep_kid limit depth trees) → Some place ≡ deep_node limit (kid_depth holder (kind_of tree)) tree
+    found_in_kids place h = sym (by_parts ∙ ap (λ (o : Option At). or_else o (deep_kid limit depth p.last)) (sym (h p.kids p.show_kids)))
+
+    past_kids : ((trees : Trees) → ShowsAllWith bodies nodes found.kids.items trees → None ≡ deep_kid limit depth trees) → deep_node limit (kid_depth holder (kind_of tree)) tree ≡ deep_kid limit depth p.last
+    past_kids h = by_parts ∙ ap (λ (o : Option At). or_else o (deep_kid limit depth p.last)) (sym (h p.kids p.show_kids))
+
+    pub past_both : ((trees : Trees) → ShowsAllWith bodies nodes found.kids.items trees → None ≡ deep_kid limit depth trees) → body ≡ [] → None ≡ deep_node limit (kid_depth holder (kind_of tree)) tree
+    past_both h e = sym (past_kids h ∙ ap (deep_kid limit depth) (none_of bodies nodes body p.last e p.show_last))
+
+    pub found_in_body : ((trees : Trees) → ShowsAllWith bodies nodes found.kids.items trees → None ≡ deep_kid limit depth trees) → (id : NodeId) (place : Option At) → body ≡ id ∷ [] → ((t : Tree) → ShowsWith bodies nodes id.0 t → place ≡ deep_node limit (kid_depth depth (kind_of t)) t) → place ≡ deep_node limit (kid_depth holder (kind_of tree)) tree
+    found_in_body h id place e g =
+        let f = front_of bodies nodes body [] id p.last e p.show_last in
+        let rest : f.others ≡ none = none_of bodies nodes [] f.others refl f.show in
+        g f.first f.shows
+        ∙ sym (
+        past_kids h
+        ∙ ap (deep_kid limit depth) f.are
+        ∙ ap (λ (ts : Trees). or_else (deep_node limit (kid_depth depth (kind_of f.first)) f.first) (deep_kid limit depth ts)) rest
+        ∙ or_none (deep_node limit (kid_depth depth (kind_of f.first)) f.first))

@@ -1,13 +1,13 @@
 //! Where a unit nests too deep.
 
-ghost use Rattle.std.specs.Prelude.{◌≡◌, ◌≤◌, ◌<◌, ◌+◌, ℕ, List, length, IfOk, Some, true, slice_get};
+ghost use Rattle.std.specs.Prelude.{◌≡◌, ◌≤◌, ◌<◌, ◌+◌, ℕ, List, length, IfOk, MatchOption, true};
 ghost use Rattle.cpp_ast.specs.declared.units.LamBody.{LamBody as LamBodyRecord};
 ghost use Rattle.cpp_ast.specs.Orders.{are_below};
 ghost use Rattle.cpp_ast.specs.Trees.{Tree, Trees, ShowsWith, ShowsAllWith, kind_of, kid_depth};
 ghost use Rattle.cpp_parse_expr.specs.Depths.{deep_node, deep_kid, HoldLower};
 ghost use Rattle.cpp_parse.specs.NotedBodies.{AreWithin, IsNotedIn, IsOnceEach, HaveNodes};
 
-use cpp_ast::{At, LamBody, NodeId, Nodes};
+use cpp_ast::{At, LamBody, NodeId, NodeKind, Nodes};
 use cpp_syntax::shapes::less_room;
 use std::alloc::{AllocError, Global};
 
@@ -81,10 +81,9 @@ fn first_deep(
     ensures { IfOk result (λ place. (bodies : List LamBodyRecord) (tree : Tree) → IsNotedIn bodies noted.now → ShowsWith bodies nodes.now id.0 tree → place ≡ deep_node limit (kid_depth holder (kind_of tree)) tree) }
 {
     let node = nodes.node(id);
-    if node.kind.counts_one() && holder == limit {
+    let Some(depth) = depth_within(node.kind, holder, limit) else {
         return Ok(Some(node.at));
-    }
-    let depth = if node.kind.counts_one() { holder + 1 } else { holder };
+    };
     if let Some(place) = first_deep_kid(nodes, noted, &node.kids, depth, limit, less_room(room)?)? {
         return Ok(Some(place));
     }
@@ -92,4 +91,15 @@ fn first_deep(
         Some(body) => first_deep(nodes, noted, body, depth, limit, less_room(room)?),
         None => Ok(None),
     }
+}
+
+/// The depth of a node of a kind in a node of a depth, if it is within a limit.
+fn depth_within(kind: NodeKind, holder: u32, limit: u32) -> Option<u32>
+    requires { holder ≤ limit }
+    ensures { MatchOption result (limit < kid_depth holder kind) (λ depth. (depth ≡ kid_depth holder kind) × (depth ≤ limit)) }
+{
+    if !kind.counts_one() {
+        return Some(holder);
+    }
+    if holder < limit { Some(holder + 1) } else { None }
 }
