@@ -1,3 +1,4 @@
 pub mod Down
 pub mod NodeLambdas
 pub mod Once
+pub mod Table

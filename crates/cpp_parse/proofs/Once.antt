@@ -35,7 +35,7 @@ nothing_in : (w : NodeId → ℕ) (ids : List NodeId) → ((j : ℕ) → times_i
 nothing_in w [] h = refl
 nothing_in w (id ∷ ids) h = absurd (let least = held (id ∷ ids) 0 id.0 refl in let none = h id.0 in omega (arith, least, none))
 
-abbrev one_for : ℕ → NodeId → ℕ
+abbrev pub one_for : ℕ → NodeId → ℕ
 one_for j id = cond (nat_eq id.0 j) 1 0
 
 -- a place among ids
@@ -113,7 +113,7 @@ by_node false true was one now e h = omega (arith, e)
 by_node true false was one now e (inl f) = omega (arith, f)
 by_node true false was one now e (inr f) = absurd (true≢false f)
 
-one_other : (i j : ℕ) → (i ≡ j → ⊥) → one_for j (record { 0 = i }) ≡ 0
+pub one_other : (i j : ℕ) → (i ≡ j → ⊥) → one_for j (record { 0 = i }) ≡ 0
 one_other i j other = grind (arith, other)
 
 own_here : (nodes : List Node) (i k : ℕ) (n : Node) → slice_get nodes i ≡ Some n → (one_for k (record { 0 = i }) ≡ 0) ⊎ (is_lambda n.kind ≡ is_lambda_at nodes k)

@@ -1,19 +1,38 @@
-use Rattle.std.proofs.Common.{rules, ◌≡◌, ◌≤◌, ◌<◌, ◌+◌, ℕ, List, length, IfOk, Some, true, slice_get, ◌-◌, ◌*◌, ◌/◌, ◌%◌, Bool, false, nat_eq, nat_lt, [], ◌∷◌, ◌++◌, slice_index_or, slice_set, bit_and, bit_or, Fits, w8, w32, w64, Bor, MutBor}
-use Rattle.cpp_ast.specs.declared.units.LamBody.{LamBody as LamBodyRecord}
-use Rattle.cpp_ast.specs.Orders.{are_below}
-use Rattle.cpp_ast.specs.Trees.{Tree, Trees, ShowsWith, ShowsAllWith, kind_of, kid_depth}
-use Rattle.cpp_parse_expr.specs.Depths.{deep_node, deep_kid, HoldLower}
-use Rattle.cpp_parse.specs.NotedBodies.{AreWithin, IsNotedIn, IsOnceEach, HaveNodes}
+use Rattle.std.proofs.Common.{◌≡◌, ◌<◌, ℕ, List, Option, Some, None, length, get_or, replicate, refl, sym, ◌∙◌, ap, arith}
+use Rattle.std.proofs.lemmas.List.{length-set, length-replicate}
+use Rattle.std.proofs.lemmas.Option.{slice_get-get_or}
+use Rattle.cpp_ast.specs.declared.arena.NodeId.{NodeId}
+use Rattle.cpp_ast.specs.declared.units.LamBody.{LamBody}
+use Rattle.cpp_parse.proofs.Table.{no_entry, none_or, table_empty, nodes_empty, table_more, nodes_more}
 use Rattle.cpp_parse.proofs.depth.bodies_by_node.Goals as goal
 
--- src/depth.rt:36:5
+abbrev first_id : NodeId
+first_id = record { 0 = 0 }
+
+abbrev no_body : LamBody
+no_body = record { lam = first_id; body = first_id }
+
 pub bodies-init : goal.bodies-init
-bodies-init c = ?
+bodies-init c =
+    let are : c.in_ok-noted.noted.items ≡ replicate (length c.args.nodes.now) no_entry = c.in_ok-noted.ensures.items_if_clones_equal (none_or _ (λ x e. e)) ∙ ap (λ (n : ℕ). replicate n no_entry) c.len.ensures in
+    (ap (λ (t : List (Option NodeId)). length t) are ∙ length-replicate (length c.args.nodes.now) no_entry, table_empty (length c.args.nodes.now) c.in_ok-noted.noted.items are, nodes_empty (length c.args.nodes.now) (length c.args.nodes.now) c.in_ok-noted.noted.items are)
 
--- src/depth.rt:37:9
 pub index_mut-requires : goal.index_mut-requires
-index_mut-requires c = ?
+index_mut-requires c =
+    let body : LamBody = get_or c.args.bodies.now c.bodies.body-index no_body in
+    let low : body.lam.0 < length c.args.nodes.now = (c.requires.within c.bodies.body-index body (slice_get-get_or c.args.bodies.now c.bodies.body-index no_body c.bodies-test.true)).0 in
+    let long = c.bodies.invariant.0 in
+    let ok = c.bodies.noted.ok.0 in
+    omega (arith, low, long, ok)
 
--- src/depth.rt:36:5
 pub bodies-preserved : goal.bodies-preserved
-bodies-preserved c = ?
+bodies-preserved c =
+    let body : LamBody = get_or c.args.bodies.now c.bodies.body-index no_body in
+    let low = c.requires.within c.bodies.body-index body (slice_get-get_or c.args.bodies.now c.bodies.body-index no_body c.bodies-test.true) in
+    let long : length c.bodies.noted.items ≡ length c.args.nodes.now = c.bodies.invariant.0 in
+    let within : body.lam.0 < length c.bodies.noted.items = (let l = low.0 in omega (arith, l, long)) in
+    (
+      length-set c.bodies.noted.items body.lam.0 (Some body.body) ∙ long,
+      table_more c.args.bodies.now c.bodies.body-index body c.bodies.noted.items c.requires.once c.bodies-test.true (slice_get-get_or c.args.bodies.now c.bodies.body-index no_body c.bodies-test.true) within c.bodies.invariant.1,
+      nodes_more (length c.args.nodes.now) body.lam.0 body.body c.bodies.noted.items within low.1 c.bodies.invariant.2,
+    )
