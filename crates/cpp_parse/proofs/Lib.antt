@@ -1,4 +1,7 @@
 pub mod Down
+pub mod Inside
+pub mod Joined
 pub mod NodeLambdas
 pub mod Once
+pub mod Showing
 pub mod Table

@@ -60,6 +60,10 @@ nodes_more most k body noted inside low h = λ i other e. elim (cases_eq i k) [
 
 -- What is noted for a node.
 
+pub left_out : (here : Bool) (more kids : List NodeId) (bodies : List LamBody) (id : ℕ) → ◌≡◌ {A = ℕ} (cond here 1 0) 0 → kids_with (if here then more else kids) bodies id ≡ kids_with kids bodies id
+left_out true more kids bodies id e = absurd (omega (arith, e))
+left_out false more kids bodies id e = refl
+
 pub kids_without : (bodies : List LamBody) (kids : List NodeId) (id : ℕ) → times_in id (lams_noted bodies) ≡ 0 → kids_with kids bodies id ≡ kids
 kids_without [] kids id h = refl
 kids_without (b ∷ bodies) kids id h =
@@ -67,16 +71,12 @@ kids_without (b ∷ bodies) kids id h =
     let not_here : one_for id b.lam ≡ 0 = omega (arith, cons, h) in
     left_out (nat_eq b.lam.0 id) (kids ++ b.body ∷ []) kids bodies id not_here
     ∙ kids_without bodies kids id (omega (arith, cons, h))
-  where
-    left_out : (here : Bool) (more kids : List NodeId) (bodies : List LamBody) (id : ℕ) → ◌≡◌ {A = ℕ} (cond here 1 0) 0 → kids_with (if here then more else kids) bodies id ≡ kids_with kids bodies id
-    left_out true more kids bodies id e = absurd (omega (arith, e))
-    left_out false more kids bodies id e = refl
 
 kids_with-snoc : (bodies : List LamBody) (b : LamBody) (kids : List NodeId) (id : ℕ) → kids_with kids (bodies ++ b ∷ []) id ≡ (if nat_eq b.lam.0 id then kids_with kids bodies id ++ b.body ∷ [] else kids_with kids bodies id)
 kids_with-snoc [] b kids id = refl
 kids_with-snoc (c ∷ bodies) b kids id = kids_with-snoc bodies b (if nat_eq c.lam.0 id then kids ++ c.body ∷ [] else kids) id
 
-chosen : (here : Bool) (more kids : List NodeId) (n : ℕ) → ◌≡◌ {A = ℕ} (cond here 1 0) n → n ≡ 1 → (if here then more else kids) ≡ more
+pub chosen : (here : Bool) (more kids : List NodeId) (n : ℕ) → ◌≡◌ {A = ℕ} (cond here 1 0) n → n ≡ 1 → (if here then more else kids) ≡ more
 chosen true more kids n e f = refl
 chosen false more kids n e f = absurd (omega (arith, e, f))
 
@@ -84,7 +84,7 @@ left : (here : Bool) (more kids : List NodeId) → ◌≡◌ {A = ℕ} (cond her
 left true more kids e = absurd (omega (arith, e))
 left false more kids e = refl
 
-one_same : (id : ℕ) → one_for id (record { 0 = id }) ≡ 1
+pub one_same : (id : ℕ) → one_for id (record { 0 = id }) ≡ 1
 one_same id = grind arith
 
 -- how often a lambda is among the first bodies
