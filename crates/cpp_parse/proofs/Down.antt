@@ -1,5 +1,5 @@
 -- The first node of some trees that lies too deep, where the bodies of lambdas are noted apart from their nodes.
-use Rattle.std.proofs.Common.{◌≡◌, ℕ, zero, suc, ◌+◌, ◌<◌, ◌≤◌, nat_lt, Bool, true, false, if◌then◌else◌, List, [], ◌∷◌, ◌++◌, length, drop, get_or, drop-cons, slice_get, Option, Some, None, refl, sym, ◌∙◌, ap, subst, arith}
+use Rattle.std.proofs.Common.{◌≡◌, ℕ, zero, suc, ◌+◌, ◌<◌, ◌≤◌, nat_lt, Bool, true, false, if◌then◌else◌, List, [], ◌∷◌, ◌++◌, length, drop, get_or, drop-cons, slice_get, Option, Some, None, refl, sym, ◌∙◌, ap, ap₂, subst, arith}
 use Rattle.std.proofs.lemmas.Bool.{lt-ltb, le-ltb}
 use Rattle.cpp_ast.specs.declared.arena.At.{At}
 use Rattle.cpp_ast.specs.declared.arena.Node.{Node}
@@ -11,10 +11,10 @@ use Rattle.cpp_syntax.specs.Texts.{join}
 use Rattle.cpp_parse_expr.specs.Depths.{or_else, deep_node, deep_kid}
 use Rattle.cpp_parse.specs.NotedBodies.{IsNotedIn, at_most_one}
 
-first_behind : (ids : List NodeId) (i : ℕ) (id d : NodeId) → i < length ids → id ≡ get_or ids i d → drop i ids ≡ id ∷ drop (i + 1) ids
-first_behind ids i id d inside at =
+pub first_behind : {A : Type 0} (xs : List A) (i : ℕ) (x d : A) → i < length xs → x ≡ get_or xs i d → drop i xs ≡ x ∷ drop (i + 1) xs
+first_behind xs i x d inside at =
     let next : suc i ≡ i + 1 = omega arith in
-    drop-cons ids i d inside ∙ ap (λ (k : ℕ). get_or ids i d ∷ drop k ids) next ∙ ap (λ (j : NodeId). j ∷ drop (i + 1) ids) (sym at)
+    drop-cons xs i d inside ∙ ap₂ (λ y ys. y ∷ ys) (sym at) (ap (λ (k : ℕ). drop k xs) next)
 
 module _ (bodies : List LamBody) (nodes : List Node) where
   -- the first of some ids and the others
