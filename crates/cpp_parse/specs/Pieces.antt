@@ -13,7 +13,6 @@ use Rattle.cpp_syntax.specs.Texts.{Read}
 use Rattle.cpp_syntax.specs.Looks.{IsUnit}
 use Rattle.cpp_syntax.specs.WithBodies.{WholeUnit}
 use Rattle.cpp_syntax.specs.View.{Shown, body_of, trees_at}
-use Rattle.cpp_parse_expr.specs.Depths.{HoldLower}
 use Rattle.cpp_parse.specs.declared.parse.Declarations.{Declarations}
 use Rattle.cpp_parse.specs.declared.parse.Declarations.TheVariants as declarations
 use Rattle.cpp_parse.specs.declared.parse.Whole.{Whole}
@@ -45,7 +44,7 @@ ReadsDeclarations source old new (Ok (declarations.Read decls bodies)) = AreDecl
 ReadsDeclarations source old new (Ok (declarations.Refused token)) = HasNoUnit source token
 ReadsDeclarations source old new (Err e) = Unit {0}
 
--- What is known of the nodes of a unit, whose kids stand before them.
+-- What is known of the nodes of a unit.
 pub record UnitIn (nodes : List Node) (decls : List NodeId) (bodies : List LamBody) (trees : Trees) : Type 0 where
   pub noted : AreNoted nodes bodies
   pub each : (id : ℕ) → times_a_kid id nodes + times_in id decls + times_in id (roots_noted bodies) ≤ one_from 0 (length nodes) id
@@ -56,7 +55,7 @@ pub record IsWholeRead (source : Source) (whole : Whole) : Type 0 where
   pub decls : Trees
   pub derives : IsUnit source decls
   pub only : (other : Trees) → IsUnit source other → other ≡ decls
-  pub later : HoldLower 0 whole.nodes → UnitIn whole.nodes whole.decls.items whole.bodies.items decls
+  pub known : UnitIn whole.nodes whole.decls.items whole.bodies.items decls
 
 abbrev pub ReadsWhole : Source → Result Reading AllocError → Type 0
 ReadsWhole source (Ok (reading.Read whole)) = IsWholeRead source whole

@@ -4,21 +4,12 @@ ghost use Rattle.std.specs.Prelude.{◌≡◌, ◌≤◌, ◌<◌, ◌+◌, ℕ,
 ghost use Rattle.cpp_ast.specs.declared.units.LamBody.{LamBody as LamBodyRecord};
 ghost use Rattle.cpp_ast.specs.Orders.{are_below};
 ghost use Rattle.cpp_ast.specs.Trees.{Tree, Trees, ShowsWith, ShowsAllWith, kind_of, kid_depth};
-ghost use Rattle.cpp_parse_expr.specs.Depths.{deep_node, deep_kid, HoldLower};
+ghost use Rattle.cpp_parse_expr.specs.Depths.{deep_node, deep_kid};
 ghost use Rattle.cpp_parse.specs.NotedBodies.{AreWithin, IsNotedIn, IsOnceEach, HaveNodes};
 
 use cpp_ast::{At, LamBody, NodeId, NodeKind, Nodes};
 use cpp_syntax::shapes::less_room;
 use std::alloc::{AllocError, Global};
-
-/// Shows that the kids of each node stand before it.
-pub fn see_order(nodes: &Nodes)
-    ensures { HoldLower 0 nodes.now }
-{
-    'nodes: for id in 0..nodes.len() {
-        let _node = nodes.node(NodeId(id));
-    }
-}
 
 /// The body of each node, by the place of the node.
 pub fn bodies_by_node(

@@ -8,7 +8,7 @@ ghost use Rattle.cpp_parse.specs.Pieces.{ReadsDeclarations, ReadsWhole, AnswersU
 
 use crate::bodies::read_bodies;
 use crate::declarations::translation_unit;
-use crate::depth::{bodies_by_node, first_deep_kid, see_order};
+use crate::depth::{bodies_by_node, first_deep_kid};
 use cpp_ast::{LamBody, NodeId, Nodes, Unit};
 use cpp_lex::{Token, Tokens};
 use cpp_parse_expr::ParseFault;
@@ -159,7 +159,6 @@ fn measure(
     requires read { IsWholeRead types.now whole }
     ensures { AnswersUnit source (lexemes_of tokens.now) result }
 {
-    see_order(&whole.nodes);
     let noted = bodies_by_node(alloc, &whole.nodes, &whole.bodies)?;
     if let Some(place) = first_deep_kid(&whole.nodes, &noted, &whole.decls, 1, DEEPEST, DEPTH_ROOM)? {
         let token = token_at(types, place);
