@@ -1,10 +1,7 @@
-use Rattle.std.proofs.Common.{rules, ◌≡◌, ◌≤◌, IfOk, length, map, ℕ, ◌+◌, ◌-◌, ◌*◌, ◌<◌, ◌/◌, ◌%◌, Bool, true, false, nat_eq, nat_lt, List, [], ◌∷◌, ◌++◌, slice_index_or, slice_set, bit_and, bit_or, Fits, w8, w32, w64, Bor, MutBor}
-use Rattle.cpp_lex.specs.Tokens.{lexeme_of, lexemes_of}
-use Rattle.cpp_syntax.specs.Classes.{source_of}
-use Rattle.cpp_parse.specs.Units.{ParsesUnit}
-use Rattle.cpp_parse.specs.Pieces.{ReadsDeclarations, ReadsWhole, AnswersUnit, IsWholeRead}
+use Rattle.std.proofs.Common.{◌≡◌}
+use Rattle.cpp_lex.specs.Tokens.{lexemes_of}
+use Rattle.cpp_parse.proofs.UnitRead.{no_unit}
 use Rattle.cpp_parse.proofs.parse.answer_unit.Goals as goal
 
--- src/parse.rt:84:1
 pub returns : goal.returns
-returns c = ?
+returns c = no_unit c.args.source (lexemes_of c.args.tokens.now) c.in_ok-types.types c.in-Refused.token c.in_ok-types.ensures (rw c.in-Refused.is at c.in_ok-whole.ensures)

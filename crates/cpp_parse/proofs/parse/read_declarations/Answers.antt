@@ -1,14 +1,11 @@
-use Rattle.std.proofs.Common.{rules, ◌≡◌, ◌≤◌, IfOk, length, map, ℕ, ◌+◌, ◌-◌, ◌*◌, ◌<◌, ◌/◌, ◌%◌, Bool, true, false, nat_eq, nat_lt, List, [], ◌∷◌, ◌++◌, slice_index_or, slice_set, bit_and, bit_or, Fits, w8, w32, w64, Bor, MutBor}
-use Rattle.cpp_lex.specs.Tokens.{lexeme_of, lexemes_of}
-use Rattle.cpp_syntax.specs.Classes.{source_of}
-use Rattle.cpp_parse.specs.Units.{ParsesUnit}
-use Rattle.cpp_parse.specs.Pieces.{ReadsDeclarations, ReadsWhole, AnswersUnit, IsWholeRead}
+use Rattle.std.proofs.Common.{◌∙◌, arith}
+use Rattle.cpp_parse.proofs.UnitRead.{are_declarations, ends_before}
 use Rattle.cpp_parse.proofs.parse.read_declarations.Goals as goal
 
--- src/parse.rt:117:1
 pub returns-then-next-len : goal.returns-then-next-len
-returns-then-next-len c = ?
+returns-then-next-len c = are_declarations c.args.types.now c.in-Ok.next c.over-out.result c.translation_unit-read.new.out c.into_parts-grown.result.nodes c.into_parts-grown.result.roots.items c.into_parts-grown.result.bodies.items c.in-Ok.ensures c.args.nodes.now (c.if-next-len.true ∙ c.len-len.ensures.len) c.over-out.ensures.nothing c.into_parts-grown.ensures.built (c.over-out.ensures.base ∙ c.replace.ensures.value) c.into_parts-grown.ensures.grown c.into_parts-grown.ensures.shown
 
--- src/parse.rt:117:1
 pub returns-else-next-len : goal.returns-else-next-len
-returns-else-next-len c = ?
+returns-else-next-len c =
+    let long = c.len-len.ensures.len in
+    ends_before c.args.types.now c.in-Ok.next c.over-out.result c.translation_unit-read.new.out c.into_parts-grown.result.nodes c.into_parts-grown.result.roots.items c.into_parts-grown.result.bodies.items c.in-Ok.ensures c.min-token.result (λ e. c.if-next-len.false (omega (arith, e, long))) (let least = c.min-token.ensures in omega (arith, least, long))
