@@ -1,9 +1,8 @@
 -- The bodies of a text begin behind one of its tokens; and a compound statement is one tree.
-use Rattle.std.proofs.Common.{◌≡◌, ℕ, zero, suc, ◌+◌, ◌≤◌, List, [], ◌∷◌, ◌++◌, map, slice_get, Option, Some, refl, sym, ◌∙◌, ap, subst, arith, le_trans}
+use Rattle.std.proofs.Common.{◌≡◌, ℕ, zero, suc, ◌+◌, ◌≤◌, List, [], ◌∷◌, ◌++◌, map, Option, Some, sym, ◌∙◌, ap, subst, arith, le_trans}
 use Rattle.std.proofs.lemmas.Option.{none-some}
 use Rattle.cpp_ast.specs.declared.arena.Node.{Node}
-use Rattle.cpp_ast.specs.Trees.{Tree, node, Trees}
-use Rattle.cpp_ast.specs.declared.kinds.NodeKind.TheVariants.{CompoundStatement}
+use Rattle.cpp_ast.specs.Trees.{Tree, node}
 use Rattle.cpp_syntax.specs.declared.places.OpenBody.{OpenBody}
 use Rattle.cpp_syntax.specs.Source.{Source, place_at}
 use Rattle.cpp_syntax.specs.Rules.{Look, Rule, form, compound_statement}

@@ -1,5 +1,5 @@
 -- What is known of bodies that were read one behind the other, and of one with those in it.
-use Rattle.std.proofs.Common.{◌≡◌, ℕ, zero, suc, ◌+◌, ◌<◌, ◌≤◌, nat_eq, nat_le, nat_lt, ◌&&◌, Bool, true, false, if◌then◌else◌, cond, List, [], ◌∷◌, ◌++◌, length, map, drop, slice_get, Option, Some, refl, sym, ◌∙◌, ap, ap₂, subst, arith, append_assoc, append-nil, length-append}
+use Rattle.std.proofs.Common.{◌≡◌, ℕ, ◌+◌, ◌≤◌, nat_eq, Bool, true, false, if◌then◌else◌, cond, List, [], ◌∷◌, ◌++◌, length, drop, slice_get, Option, Some, refl, sym, ◌∙◌, ap, ap₂, subst, arith, append_assoc, length-append}
 use Rattle.std.proofs.lemmas.List.{map-append}
 use Rattle.std.proofs.Math.Seq.{drop-append_seam, drop-length}
 use Rattle.std.proofs.lemmas.List.Sums.{sum_by-cons, sum_by-append}
@@ -7,15 +7,14 @@ use Rattle.cpp_ast.proofs.Shown.{extends_trans}
 use Rattle.cpp_ast.specs.declared.arena.Node.{Node}
 use Rattle.cpp_ast.specs.declared.arena.NodeId.{NodeId}
 use Rattle.cpp_ast.specs.declared.units.LamBody.{LamBody}
-use Rattle.cpp_ast.specs.Orders.{are_below}
-use Rattle.cpp_ast.specs.Trees.{Tree, Trees, none, more, ShowsWith, ShowsAllWith, Extends}
+use Rattle.cpp_ast.specs.Trees.{Tree, none, more, ShowsWith, ShowsAllWith, Extends}
 use Rattle.cpp_ast.specs.Units.{times_in, times_a_kid}
 use Rattle.cpp_syntax.specs.declared.places.OpenBody.{OpenBody}
 use Rattle.cpp_syntax.specs.Texts.{one_tree}
 use Rattle.cpp_syntax.specs.View.{lams_of, trees_at, Shown}
 use Rattle.cpp_syntax.specs.WithBodies.{Filled}
 use Rattle.cpp_parse_expr.specs.Depths.{HoldLower}
-use Rattle.cpp_parse.specs.NotedBodies.{times, lams_noted, roots_noted, one_from, is_lambda_node, is_lambda_at, one_lambda, AreNoted, Among, first, later, noted_for, BodiesShow}
+use Rattle.cpp_parse.specs.NotedBodies.{times, lams_noted, roots_noted, one_from, is_lambda_node, is_lambda_at, one_lambda, Among, first, later, BodiesShow}
 use Rattle.cpp_parse.specs.Bodies.{BodiesIn}
 use Rattle.cpp_parse.proofs.Once.{one_for, times-append, lambdas_once}
 use Rattle.cpp_parse.proofs.Showing.{filled_shown, get_grown}

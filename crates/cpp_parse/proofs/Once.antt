@@ -1,13 +1,12 @@
 -- Where each node is held once at most, each lambda below some nodes is met once there, and nothing else is.
-use Rattle.std.proofs.Common.{◌≡◌, ◌⊎◌, ℕ, zero, suc, ◌+◌, ◌-◌, ◌<◌, ◌≤◌, nat_eq, nat_le, nat_lt, ◌&&◌, Bool, true, false, if◌then◌else◌, cond, List, [], ◌∷◌, ◌++◌, length, take, drop, get_or, slice_get, Option, Some, None, refl, sym, ◌∙◌, ap, subst, arith, inl, inr, eq-eqb}
-use Rattle.std.specs.List.{concat, sum_by}
+use Rattle.std.proofs.Common.{◌≡◌, ◌⊎◌, ℕ, zero, suc, ◌+◌, ◌-◌, ◌<◌, ◌≤◌, nat_eq, nat_lt, ◌&&◌, Bool, true, false, if◌then◌else◌, cond, List, [], ◌∷◌, ◌++◌, length, take, slice_get, Some, refl, sym, ◌∙◌, ap, arith, inl, inr}
+use Rattle.std.specs.List.{sum_by}
 use Rattle.std.proofs.lemmas.Bool.{cases_eq, cases_lt, true≢false}
 use Rattle.std.proofs.lemmas.List.{take_all}
 use Rattle.std.proofs.lemmas.List.Sums.{sum_by-cons, sum_by-append, sum_by_more, sum_by-take-drop}
 use Rattle.std.proofs.lemmas.Option.{get_or_from_slice_get}
 use Rattle.cpp_ast.specs.declared.arena.Node.{Node}
 use Rattle.cpp_ast.specs.declared.arena.NodeId.{NodeId}
-use Rattle.cpp_ast.specs.declared.kinds.NodeKind.{NodeKind}
 use Rattle.cpp_ast.specs.Orders.{are_below}
 use Rattle.cpp_ast.specs.Units.{times_in, times_a_kid}
 use Rattle.cpp_syntax.specs.declared.places.OpenBody.{OpenBody}
@@ -47,6 +46,9 @@ record SplitAt (m : ℕ) (ids : List NodeId) : Type 0 where
 same_front : (i m : ℕ) (ids : List NodeId) → i ≡ m → ◌≡◌ {A = List NodeId} (record { 0 = i } ∷ ids) (record { 0 = m } ∷ ids)
 same_front i m ids same = ap (λ (k : ℕ). let j : NodeId = record { 0 = k } in j ∷ ids) same
 
+behind_one : (id : NodeId) (m : ℕ) (ids : List NodeId) → SplitAt m ids → SplitAt m (id ∷ ids)
+behind_one id m ids s = record { front = id ∷ s.front; back = s.back; are = ap (λ (is : List NodeId). id ∷ is) s.are }
+
 split_at : (m : ℕ) (ids : List NodeId) → 1 ≤ times_in m ids → SplitAt m ids
 split_at m [] h = absurd (omega (arith, h))
 split_at m (id ∷ ids) h = elim (cases_eq id.0 m) [
@@ -55,7 +57,7 @@ split_at m (id ∷ ids) h = elim (cases_eq id.0 m) [
       let cons : times_in m (id ∷ ids) ≡ one_for m id + times_in m ids = sum_by-cons (one_for m) id ids in
       let no : one_for m id ≡ 0 = grind (arith, other) in
       let rest = split_at m ids (omega (arith, h, cons, no)) in
-      record { front = id ∷ rest.front; back = rest.back; are = ap (λ (is : List NodeId). id ∷ is) rest.are }
+      behind_one id m ids rest
 ]
 
 none_below : (place j : ℕ) (ids : List NodeId) → are_below place ids ≡ true → place ≤ j → times_in j ids ≡ 0

@@ -1,12 +1,12 @@
 -- From what readers answer to bodies with their trees, and to units.
-use Rattle.std.proofs.Common.{◌≡◌, ℕ, zero, suc, ◌+◌, ◌-◌, ◌<◌, ◌≤◌, List, [], ◌∷◌, ◌++◌, length, map, take, drop, get_or, Option, Some, None, Result, Ok, Err, refl, sym, ◌∙◌, ap, ap₂, subst, arith, append_assoc, append-nil}
+use Rattle.std.proofs.Common.{◌≡◌, ℕ, ◌+◌, ◌-◌, ◌<◌, ◌≤◌, List, [], ◌∷◌, ◌++◌, length, map, take, drop, get_or, Option, Some, None, Result, Ok, Err, refl, sym, ◌∙◌, ap, subst, arith, append_assoc, append-nil}
 use Rattle.std.proofs.lemmas.List.{map-append, take-append-drop}
 use Rattle.std.specs.declared.alloc.AllocError.{AllocError}
 use Rattle.cpp_ast.proofs.Shown.{extends_trans, extends_refl}
 use Rattle.cpp_ast.specs.declared.arena.Node.{Node}
 use Rattle.cpp_ast.specs.declared.arena.NodeId.{NodeId}
 use Rattle.cpp_ast.specs.declared.units.LamBody.{LamBody}
-use Rattle.cpp_ast.specs.Trees.{Tree, Trees, none, more, Extends}
+use Rattle.cpp_ast.specs.Trees.{Tree, Trees, none, Extends}
 use Rattle.cpp_syntax.specs.declared.places.OpenBody.{OpenBody}
 use Rattle.cpp_syntax.specs.Source.{Source}
 use Rattle.cpp_syntax.specs.Rules.{Form, form, Look, compound_statement}
@@ -15,12 +15,12 @@ use Rattle.cpp_syntax.specs.Looks.{sees}
 use Rattle.cpp_syntax.specs.Longest.{Long, NoText}
 use Rattle.cpp_syntax.specs.Parsed.{ReadsRule}
 use Rattle.cpp_syntax.specs.View.{Building, building_of, count_trees, trees_at, body_of, Shown}
-use Rattle.cpp_syntax.specs.WithBodies.{Filled, no_trees, more_trees, HasBody, Whole, whole, Wholes, no_wholes, more_wholes}
+use Rattle.cpp_syntax.specs.WithBodies.{Filled, no_trees, more_trees, whole, Wholes, no_wholes, more_wholes}
 use Rattle.cpp_syntax.proofs.Marks.{trees_count}
 use Rattle.cpp_syntax.proofs.LambdaBodies.{bodies_in}
 use Rattle.cpp_syntax.proofs.Wholes.{wholes_have, broken_body, ended_body, none_body}
 use Rattle.cpp_parse_expr.proofs.Parsing.{base_kept, grown_from}
-use Rattle.cpp_parse.specs.Bodies.{IsInside, IsBlock, IsNoBody, AreRead, IsBroken, ReadsBodies, ReadsBody}
+use Rattle.cpp_parse.specs.Bodies.{IsBlock, IsNoBody, AreRead, IsBroken, ReadsBodies, ReadsBody}
 use Rattle.cpp_parse.proofs.Down.{first_behind}
 use Rattle.cpp_parse.proofs.Inside.{text_inside, compound_tree}
 use Rattle.cpp_parse.proofs.Joined.{none_in, both_in, body_in}

@@ -1,13 +1,11 @@
 -- Nodes show the trees with the bodies of lambdas in them, where they show those without, and each body shows its tree.
-use Rattle.std.proofs.Common.{◌≡◌, ℕ, zero, suc, ◌+◌, ◌<◌, ◌≤◌, nat_eq, Bool, true, false, if◌then◌else◌, cond, List, [], ◌∷◌, ◌++◌, length, slice_get, Option, Some, refl, sym, ◌∙◌, ap, ap₂, subst, arith, append_assoc, append-nil}
+use Rattle.std.proofs.Common.{◌≡◌, ℕ, zero, suc, ◌+◌, ◌≤◌, nat_eq, Bool, true, false, if◌then◌else◌, List, [], ◌∷◌, ◌++◌, slice_get, Some, refl, sym, ◌∙◌, ap, subst, arith, append_assoc, append-nil}
 use Rattle.std.proofs.lemmas.Option.{none-some}
 use Rattle.std.proofs.lemmas.List.Sums.{sum_by-cons}
-use Rattle.cpp_ast.specs.declared.arena.At.{At}
 use Rattle.cpp_ast.specs.declared.arena.Node.{Node}
 use Rattle.cpp_ast.specs.declared.arena.NodeId.{NodeId}
-use Rattle.cpp_ast.specs.declared.kinds.NodeKind.{NodeKind}
 use Rattle.cpp_ast.specs.declared.units.LamBody.{LamBody}
-use Rattle.cpp_ast.specs.Trees.{Tree, node, Trees, none, more, Stands, Shows, ShowsAll, ShowsWith, ShowsAllWith, Extends, kids_with}
+use Rattle.cpp_ast.specs.Trees.{Tree, Trees, none, more, Shows, ShowsAll, ShowsWith, ShowsAllWith, Extends, kids_with}
 use Rattle.cpp_ast.specs.Units.{times_in}
 use Rattle.cpp_syntax.specs.declared.places.OpenBody.{OpenBody}
 use Rattle.cpp_syntax.specs.Texts.{join, one_tree}

@@ -1,10 +1,8 @@
 -- A unit, of its declarations and the bodies of its lambdas.
-use Rattle.std.proofs.Common.{◌≡◌, ℕ, zero, suc, ◌+◌, ◌<◌, ◌≤◌, nat_le, nat_lt, ◌&&◌, Bool, true, false, if◌then◌else◌, List, [], ◌∷◌, ◌++◌, length, map, drop, slice_get, option_map, Option, Some, None, refl, sym, ◌∙◌, ap, subst, arith, inl, inr, length-append, Vec, Global}
-use Rattle.std.proofs.lemmas.Bool.{cases_lt, ltb-true}
+use Rattle.std.proofs.Common.{◌≡◌, ℕ, zero, suc, ◌+◌, ◌<◌, ◌≤◌, nat_le, nat_lt, ◌&&◌, Bool, true, false, if◌then◌else◌, List, [], ◌∷◌, ◌++◌, length, map, slice_get, option_map, Option, Some, None, refl, sym, ◌∙◌, ap, subst, arith, length-append}
 use Rattle.std.proofs.lemmas.List.{map-append}
 use Rattle.std.proofs.lemmas.Option.{slice_get-map, slice_get_within}
-use Rattle.cpp_lex.specs.Tokens.{Lexeme, lexemes_of}
-use Rattle.cpp_lex.specs.declared.Tokens.{Tokens}
+use Rattle.cpp_lex.specs.Tokens.{Lexeme}
 use Rattle.cpp_ast.proofs.Shown.{extends_refl}
 use Rattle.cpp_ast.specs.declared.arena.At.{At}
 use Rattle.cpp_ast.specs.declared.arena.Node.{Node}
@@ -15,27 +13,26 @@ use Rattle.cpp_ast.specs.Orders.{IsOrdered}
 use Rattle.cpp_ast.specs.Trees.{Tree, node, Trees, Extends, unit_depth}
 use Rattle.cpp_ast.specs.Units.{times_in, times_a_kid}
 use Rattle.cpp_syntax.specs.declared.places.OpenBody.{OpenBody}
-use Rattle.cpp_syntax.specs.declared.symbol.Symbol.{Symbol}
 use Rattle.cpp_syntax.specs.Source.{Source, place_at}
-use Rattle.cpp_syntax.specs.Classes.{source_of, symbols_of, class_at, each_below}
-use Rattle.cpp_syntax.specs.Rules.{Form, form, translation_unit}
-use Rattle.cpp_syntax.specs.Texts.{Body, Read, no_read, kept_apart}
+use Rattle.cpp_syntax.specs.Classes.{source_of, class_at, each_below}
+use Rattle.cpp_syntax.specs.Rules.{form, translation_unit}
+use Rattle.cpp_syntax.specs.Texts.{Body, no_read, kept_apart}
 use Rattle.cpp_syntax.specs.Looks.{sees, IsUnit}
 use Rattle.cpp_syntax.specs.Longest.{Long}
 use Rattle.cpp_syntax.specs.Parsed.{ReadsRule}
-use Rattle.cpp_syntax.specs.View.{Building, building_of, body_of, lams_of, Shown}
+use Rattle.cpp_syntax.specs.View.{Building, building_of, body_of, Shown}
 use Rattle.cpp_syntax.specs.WithBodies.{Filled, Wholes}
 use Rattle.cpp_syntax.proofs.LambdaBodies.{bodies_in}
 use Rattle.cpp_syntax.proofs.Wholes.{wholes_have, unit_of, unit_only, no_unit_ends, no_unit_broken}
-use Rattle.cpp_parse_expr.specs.Depths.{HoldLower, deep_node, deep_kid}
+use Rattle.cpp_parse_expr.specs.Depths.{HoldLower, deep_kid}
 use Rattle.cpp_parse_expr.proofs.Deeper.{none_low, some_high}
 use Rattle.cpp_parse_expr.proofs.Paths.{held}
 use Rattle.cpp_parse_expr.proofs.Parsing.{base_kept, grown_from}
 use Rattle.cpp_parse_expr.proofs.Placed.{IsPlaced, IsPlace, text_placed, deep_place}
 use Rattle.cpp_parse.specs.declared.parse.Whole.{Whole as WholeRecord}
-use Rattle.cpp_parse.specs.NotedBodies.{times, lams_noted, roots_noted, one_from, is_lambda_node, is_lambda_at, one_lambda, AreNoted, AreWithin, IsOnceEach}
+use Rattle.cpp_parse.specs.NotedBodies.{lams_noted, roots_noted, one_from, is_lambda_node, is_lambda_at, AreNoted, AreWithin, IsOnceEach}
 use Rattle.cpp_parse.specs.Bodies.{AreRead, IsBroken}
-use Rattle.cpp_parse.specs.Pieces.{AreDeclarations, HasNoUnit, UnitIn, IsWholeRead}
+use Rattle.cpp_parse.specs.Steps.{AreDeclarations, HasNoUnit, UnitIn, IsWholeRead}
 use Rattle.cpp_parse.specs.Units.{deepest_allowed, IsUnitTooDeep, IsNoUnit}
 use Rattle.cpp_parse.proofs.Inside.{text_inside}
 use Rattle.cpp_parse.proofs.Joined.{grown_long, held_both, one_split, lambda_split, lambdas_new, lower_before}

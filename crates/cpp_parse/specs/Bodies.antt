@@ -9,7 +9,7 @@ use Rattle.cpp_ast.specs.Units.{times_in, times_a_kid}
 use Rattle.cpp_syntax.specs.declared.places.OpenBody.{OpenBody}
 use Rattle.cpp_syntax.specs.Source.{Source}
 use Rattle.cpp_syntax.specs.Rules.{compound_statement, form}
-use Rattle.cpp_syntax.specs.Texts.{Body, Read, no_read, one_tree, kept_apart}
+use Rattle.cpp_syntax.specs.Texts.{Body, Read, no_read, kept_apart}
 use Rattle.cpp_syntax.specs.Looks.{sees}
 use Rattle.cpp_syntax.specs.Longest.{Long}
 use Rattle.cpp_syntax.specs.WithBodies.{HasBody, Wholes}

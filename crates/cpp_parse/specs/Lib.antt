@@ -1,4 +1,4 @@
 pub mod Bodies
 pub mod NotedBodies
-pub mod Pieces
+pub mod Steps
 pub mod Units

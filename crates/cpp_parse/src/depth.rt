@@ -92,5 +92,9 @@ fn depth_within(kind: NodeKind, holder: u32, limit: u32) -> Option<u32>
     if !kind.counts_one() {
         return Some(holder);
     }
-    if holder < limit { Some(holder + 1) } else { None }
+    if holder < limit {
+        Some(holder + 1)
+    } else {
+        None
+    }
 }

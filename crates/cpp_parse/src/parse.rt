@@ -4,7 +4,7 @@ ghost use Rattle.std.specs.Prelude.{◌≡◌, ◌≤◌, IfOk, length, map};
 ghost use Rattle.cpp_lex.specs.Tokens.{lexeme_of, lexemes_of};
 ghost use Rattle.cpp_syntax.specs.Classes.{source_of};
 ghost use Rattle.cpp_parse.specs.Units.{ParsesUnit};
-ghost use Rattle.cpp_parse.specs.Pieces.{ReadsDeclarations, ReadsWhole, AnswersUnit, IsWholeRead};
+ghost use Rattle.cpp_parse.specs.Steps.{ReadsDeclarations, ReadsWhole, AnswersUnit, IsWholeRead};
 
 use crate::bodies::read_bodies;
 use crate::declarations::translation_unit;
@@ -38,7 +38,9 @@ enum Declarations {
         bodies: Vec<OpenBody>,
     },
     /// The tokens are no declarations; the token up to which they could be.
-    Refused { token: u32 },
+    Refused {
+        token: u32,
+    },
 }
 
 /// The nodes of a unit with its declarations and the bodies of its lambdas.
@@ -160,7 +162,14 @@ fn measure(
     ensures { AnswersUnit source (lexemes_of tokens.now) result }
 {
     let noted = bodies_by_node(alloc, &whole.nodes, &whole.bodies)?;
-    if let Some(place) = first_deep_kid(&whole.nodes, &noted, &whole.decls, 1, DEEPEST, DEPTH_ROOM)? {
+    if let Some(place) = first_deep_kid(
+        &whole.nodes,
+        &noted,
+        &whole.decls,
+        1,
+        DEEPEST,
+        DEPTH_ROOM,
+    )? {
         let token = token_at(types, place);
         return Ok(Answer::TooDeep { token });
     }

@@ -1,5 +1,5 @@
 -- Bodies are read one behind the other, and each with those in it.
-use Rattle.std.proofs.Common.{◌≡◌, ◌+◌, ◌∷◌, ◌++◌, [], List, get_or, take, length, refl, sym, ◌∙◌, ap, subst, rules}
+use Rattle.std.proofs.Common.{◌∷◌, [], List, get_or, take, refl, sym, subst, rules}
 use Rattle.std.proofs.lemmas.List.{take_more}
 use Rattle.std.proofs.lemmas.Option.{slice_get-get_or}
 use Rattle.cpp_syntax.specs.declared.places.OpenBody.{OpenBody}

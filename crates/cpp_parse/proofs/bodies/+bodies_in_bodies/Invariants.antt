@@ -1,5 +1,5 @@
 -- Each body that is read in a body has less room.
-use Rattle.std.proofs.Common.{◌≡◌, ℕ, ◌+◌, ◌*◌, take}
+use Rattle.std.proofs.Common.{◌+◌, ◌*◌, take}
 use Rattle.cpp_parse.specs.Bodies.{AreRead}
 use Rattle.cpp_parse.proofs.bodies.+bodies_in_bodies.Given as goal
 

@@ -1,4 +1,4 @@
-use Rattle.std.proofs.Common.{◌≡◌, ◌-◌, ◌∙◌, ℕ, Option, Some, None, Result, Ok, ap, sym, subst, length, arith, rules}
+use Rattle.std.proofs.Common.{◌≡◌, ◌-◌, ◌∙◌, ℕ, Option, Some, None, Result, Ok, ap, subst, arith}
 use Rattle.std.specs.declared.alloc.AllocError.{AllocError}
 use Rattle.cpp_syntax.specs.Rules.{form, compound_statement}
 use Rattle.cpp_syntax.specs.Parsed.{ParsedRule, ReadsRule, Leaves, NoneOf}

@@ -1,16 +1,13 @@
 -- Where the first node of some trees stands that lies too deep.
-use Rattle.std.proofs.Common.{rules, ◌≡◌, ◌≤◌, ◌<◌, ◌+◌, ◌∙◌, refl, sym, ap, subst, arith, ℕ, List, length, Option, Some, None, get_or, slice_get, true}
+use Rattle.std.proofs.Common.{rules, ◌≡◌, ◌∙◌, refl, sym, ap, subst, arith, List, length, Option, Some, None, get_or, slice_get, true}
 use Rattle.std.proofs.lemmas.Option.{slice_get-get_or}
 use Rattle.std.proofs.lemmas.Result.{IfOk-weaker}
-use Rattle.cpp_ast.specs.declared.arena.At.{At}
 use Rattle.cpp_ast.specs.declared.arena.NodeId.{NodeId}
-use Rattle.cpp_ast.specs.declared.units.LamBody.{LamBody}
 use Rattle.cpp_ast.specs.Orders.{are_below}
-use Rattle.cpp_ast.specs.Trees.{Tree, Trees, ShowsWith, ShowsAllWith, kind_of, kid_depth}
-use Rattle.cpp_parse_expr.specs.Depths.{deep_node, deep_kid}
+use Rattle.cpp_ast.specs.Trees.{ShowsAllWith}
 use Rattle.cpp_parse_expr.proofs.Paths.{below_more}
-use Rattle.cpp_parse.specs.NotedBodies.{IsNotedIn, at_most_one}
-use Rattle.cpp_parse.proofs.Down.{Parts, parts_of, node_beyond, found_in_kids, found_in_body, past_both, next_kid, passing_more, passing_found, passing_all}
+use Rattle.cpp_parse.specs.NotedBodies.{at_most_one}
+use Rattle.cpp_parse.proofs.Down.{parts_of, found_in_kids, found_in_body, past_both, next_kid, passing_more, passing_found, passing_all}
 use Rattle.cpp_parse.proofs.depth.+down.Goals as goal
 
 abbrev first_id : NodeId

@@ -1,5 +1,5 @@
 -- Each call further down has less room.
-use Rattle.std.proofs.Common.{◌≡◌, ℕ, ◌+◌, ◌*◌, List}
+use Rattle.std.proofs.Common.{◌+◌, ◌*◌, List}
 use Rattle.cpp_ast.specs.declared.units.LamBody.{LamBody}
 use Rattle.cpp_ast.specs.Trees.{Trees, ShowsAllWith}
 use Rattle.cpp_parse.specs.NotedBodies.{IsNotedIn}

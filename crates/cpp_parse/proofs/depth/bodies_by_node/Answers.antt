@@ -1,4 +1,4 @@
-use Rattle.std.proofs.Common.{◌≡◌, ◌<◌, ℕ, List, Option, Some, None, length, get_or, replicate, refl, sym, ◌∙◌, ap, arith}
+use Rattle.std.proofs.Common.{◌≡◌, ◌<◌, ℕ, List, Option, Some, length, get_or, replicate, ◌∙◌, ap, arith}
 use Rattle.std.proofs.lemmas.List.{length-set, length-replicate}
 use Rattle.std.proofs.lemmas.Option.{slice_get-get_or}
 use Rattle.cpp_ast.specs.declared.arena.NodeId.{NodeId}
@@ -30,8 +30,7 @@ bodies-preserved c =
     let body : LamBody = get_or c.args.bodies.now c.bodies.body-index no_body in
     let low = c.requires.within c.bodies.body-index body (slice_get-get_or c.args.bodies.now c.bodies.body-index no_body c.bodies-test.true) in
     let long : length c.bodies.noted.items ≡ length c.args.nodes.now = c.bodies.invariant.0 in
-    let within : body.lam.0 < length c.bodies.noted.items = (let l = low.0 in omega (arith, l, long)) in
-    (
+    let within : body.lam.0 < length c.bodies.noted.items = (let l = low.0 in omega (arith, l, long)) in (
       length-set c.bodies.noted.items body.lam.0 (Some body.body) ∙ long,
       table_more c.args.bodies.now c.bodies.body-index body c.bodies.noted.items c.requires.once c.bodies-test.true (slice_get-get_or c.args.bodies.now c.bodies.body-index no_body c.bodies-test.true) within c.bodies.invariant.1,
       nodes_more (length c.args.nodes.now) body.lam.0 body.body c.bodies.noted.items within low.1 c.bodies.invariant.2,

@@ -1,4 +1,3 @@
-use Rattle.std.proofs.Common.{◌≡◌}
 use Rattle.cpp_lex.specs.Tokens.{lexemes_of}
 use Rattle.cpp_parse.proofs.UnitRead.{no_unit}
 use Rattle.cpp_parse.proofs.parse.answer_unit.Goals as goal

@@ -3,7 +3,7 @@ use Rattle.cpp_ast.proofs.Shown.{all_below}
 use Rattle.cpp_ast.specs.declared.arena.NodeId.{NodeId}
 use Rattle.cpp_ast.specs.declared.units.LamBody.{LamBody}
 use Rattle.cpp_ast.specs.Orders.{are_below}
-use Rattle.cpp_ast.specs.Trees.{Trees, ShowsAllWith, unit_depth}
+use Rattle.cpp_ast.specs.Trees.{Trees, ShowsAllWith}
 use Rattle.cpp_syntax.specs.Source.{Source}
 use Rattle.cpp_syntax.specs.Looks.{IsUnit}
 use Rattle.cpp_parse.specs.NotedBodies.{AreWithin, IsOnceEach, IsNotedIn}

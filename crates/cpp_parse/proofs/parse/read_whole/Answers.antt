@@ -3,8 +3,8 @@ use Rattle.cpp_ast.specs.declared.arena.Node.{Node}
 use Rattle.cpp_ast.specs.declared.units.LamBody.{LamBody}
 use Rattle.cpp_ast.specs.Orders.{IsOrdered}
 use Rattle.cpp_syntax.specs.declared.places.OpenBody.{OpenBody}
-use Rattle.cpp_parse.specs.Bodies.{AreRead, IsBroken, ReadsBodies}
-use Rattle.cpp_parse.specs.Pieces.{AreDeclarations}
+use Rattle.cpp_parse.specs.Bodies.{AreRead, IsBroken}
+use Rattle.cpp_parse.specs.Steps.{AreDeclarations}
 use Rattle.cpp_parse.proofs.UnitRead.{whole_read, broken_unit}
 use Rattle.cpp_parse.proofs.parse.read_whole.Goals as goal
 

@@ -1,4 +1,0 @@
-use Rattle.cpp_parse.proofs.statements.compound_statement.Goals as goal
-
-pub returns : goal.returns
-returns c = ?
