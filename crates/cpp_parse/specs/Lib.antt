@@ -1,1 +1,4 @@
+pub mod Bodies
+pub mod NotedBodies
+pub mod Steps
 pub mod Units

@@ -1,7 +1,12 @@
 //! Reads statements, declarations and units.
 #![tactic(auto)]
 
+mod bodies;
 pub mod declarations;
+mod depth;
 pub mod initializers;
 pub mod members;
+pub mod parse;
 pub mod statements;
+
+pub use parse::parse_unit;

@@ -1,0 +1,107 @@
+//! Bodies of lambdas: C++14 5.1.2. A lambda is read without its body, and each body is read alone.
+
+ghost use Rattle.std.specs.Prelude.{length};
+ghost use Rattle.cpp_parse.specs.Bodies.{AreInside, IsInside, ReadsBodies, ReadsBody, ReadsBlock};
+
+use crate::statements::compound_statement;
+use cpp_ast::{LamBody, NodeId, Nodes};
+use cpp_syntax::shapes::less_room;
+use cpp_syntax::{Builder, OpenBody, Parts, TypeNames};
+use std::alloc::{AllocError, Global};
+use std::mem;
+
+/// How many calls may be nested in one body.
+const ROOM: u32 = 1_000;
+
+/// What the tokens of a body are.
+#[derive(Drop)]
+enum Block {
+    /// A compound statement, with the bodies of its lambdas, which are not read yet.
+    Read { root: NodeId, bodies: Vec<OpenBody> },
+    /// None; the token up to which they could be one.
+    Refused { token: u32 },
+}
+
+/// Reads bodies and the bodies in them, and notes each at its lambda. It answers the token up to which it could go on
+/// where one of them is no compound statement.
+#[cycle(bodies_in_bodies)]
+pub fn read_bodies(
+    alloc: Global,
+    types: &TypeNames,
+    bodies: &[OpenBody],
+    room: u32,
+    nodes: &mut Nodes,
+    noted: &mut Vec<LamBody>,
+) -> Result<Option<u32>, AllocError>
+    requires { AreInside (length types.now.symbols) bodies.now }
+    ensures { ReadsBodies types.now bodies.now nodes.old nodes.new noted.old.items noted.new.items result }
+{
+    'bodies: for body in bodies {
+        if let Some(token) = read_body(alloc, types, *body, room, nodes, noted)? {
+            return Ok(Some(token));
+        }
+    }
+    Ok(None)
+}
+
+/// Reads a body and the bodies in it.
+#[cycle(bodies_in_bodies)]
+fn read_body(
+    alloc: Global,
+    types: &TypeNames,
+    body: OpenBody,
+    room: u32,
+    nodes: &mut Nodes,
+    noted: &mut Vec<LamBody>,
+) -> Result<Option<u32>, AllocError>
+    requires { IsInside (length types.now.symbols) body }
+    ensures { ReadsBody types.now body nodes.old nodes.new noted.old.items noted.new.items result }
+{
+    match read_block(alloc, types, body, nodes)? {
+        Block::Read { root, bodies } => {
+            noted.push(LamBody {
+                lam: body.lam,
+                body: root,
+            })?;
+            read_bodies(alloc, types, &bodies, less_room(room)?, nodes, noted)
+        }
+        Block::Refused { token } => Ok(Some(token)),
+    }
+}
+
+/// Reads the tokens between the braces of a body, with the braces.
+fn read_block(
+    alloc: Global,
+    types: &TypeNames,
+    body: OpenBody,
+    nodes: &mut Nodes,
+) -> Result<Block, AllocError>
+    requires { IsInside (length types.now.symbols) body }
+    ensures { ReadsBlock types.now body nodes.old nodes.new result }
+{
+    let len = types.len();
+    let start = (body.from - 1) as usize;
+    let mut out = Builder::over(alloc, mem::replace(nodes, Nodes::new(alloc)));
+    let read = compound_statement(types, start, ROOM, &mut out);
+    let token = out.reached().max(start).min(len) as u32;
+    let Parts {
+        nodes: grown,
+        roots,
+        bodies,
+    } = out.into_parts();
+    *nodes = grown;
+    match read {
+        Ok(Some(next)) => {
+            if next == body.to as usize + 1 {
+                Ok(Block::Read {
+                    root: roots[0],
+                    bodies,
+                })
+            } else {
+                Ok(Block::Refused { token })
+            }
+        }
+        Ok(None) => Ok(Block::Refused { token }),
+        Err(error) => Err(error),
+    }
+}

@@ -1,0 +1,208 @@
+//! The one call of this crate.
+
+ghost use Rattle.std.specs.Prelude.{◌≡◌, ◌≤◌, IfOk, length, map};
+ghost use Rattle.cpp_lex.specs.Tokens.{lexeme_of, lexemes_of};
+ghost use Rattle.cpp_syntax.specs.Classes.{source_of};
+ghost use Rattle.cpp_parse.specs.Units.{ParsesUnit};
+ghost use Rattle.cpp_parse.specs.Steps.{ReadsDeclarations, ReadsWhole, AnswersUnit, IsWholeRead};
+
+use crate::bodies::read_bodies;
+use crate::declarations::translation_unit;
+use crate::depth::{bodies_by_node, first_deep_kid};
+use cpp_ast::{LamBody, NodeId, Nodes, Unit};
+use cpp_lex::{Token, Tokens};
+use cpp_parse_expr::ParseFault;
+use cpp_parse_expr::parse::token_at;
+use cpp_syntax::{Builder, OpenBody, Parts, TypeNames};
+use std::alloc::{AllocError, Global};
+use std::mem;
+
+/// How many calls may be nested.
+const ROOM: u32 = 1_000;
+
+/// How many lambdas may be nested, so that the machine's own stack is never used up.
+const BODY_ROOM: u32 = 1_000;
+
+/// How far the calls that look for a node that nests too deep may be nested.
+const DEPTH_ROOM: u32 = 10_000;
+
+/// How deep a unit may nest.
+const DEEPEST: u32 = 200;
+
+/// What the declarations of a unit were read as.
+#[derive(Drop)]
+enum Declarations {
+    /// All tokens; the bodies of lambdas are not read yet.
+    Read {
+        decls: Vec<NodeId>,
+        bodies: Vec<OpenBody>,
+    },
+    /// The tokens are no declarations; the token up to which they could be.
+    Refused {
+        token: u32,
+    },
+}
+
+/// The nodes of a unit with its declarations and the bodies of its lambdas.
+#[derive(Drop)]
+struct Whole {
+    pub nodes: Nodes,
+    pub decls: Vec<NodeId>,
+    pub bodies: Vec<LamBody>,
+}
+
+/// What all tokens were read as.
+#[derive(Drop)]
+enum Reading {
+    Read(Whole),
+    /// They are no unit; the token up to which they could be one.
+    Refused { token: u32 },
+}
+
+/// What is answered of a unit, but for want of memory.
+#[derive(Drop)]
+enum Answer {
+    Parsed(Unit),
+    Refused { token: u32 },
+    TooDeep { token: u32 },
+}
+
+/// The one unit of the tokens of a source.
+///
+/// Its trees are those of the grammar ([`cpp_syntax`]): its declarations, with the body of each lambda as its last kid.
+pub fn parse_unit(alloc: Global, source: u32, tokens: &Tokens) -> Result<Unit, ParseFault>
+    requires { length tokens.now.items.items ≤ 1048576 }
+    ensures { ParsesUnit source (lexemes_of tokens.now) result }
+{
+    match answer_unit(alloc, source, tokens) {
+        Ok(Answer::Parsed(unit)) => Ok(unit),
+        Ok(Answer::Refused { token }) => Err(ParseFault::Syntax { token }),
+        Ok(Answer::TooDeep { token }) => Err(ParseFault::Nesting { token }),
+        Err(_) => Err(ParseFault::Memory),
+    }
+}
+
+/// Reads a unit, and measures it.
+fn answer_unit(alloc: Global, source: u32, tokens: &Tokens) -> Result<Answer, AllocError>
+    requires { length tokens.now.items.items ≤ 1048576 }
+    ensures { AnswersUnit source (lexemes_of tokens.now) result }
+{
+    let types = TypeNames::of(alloc, source, tokens)?;
+    match read_whole(alloc, &types)? {
+        Reading::Read(whole) => measure(alloc, source, tokens, &types, whole),
+        Reading::Refused { token } => Ok(Answer::Refused { token }),
+    }
+}
+
+/// Reads all tokens as declarations, and then the bodies of their lambdas.
+fn read_whole(alloc: Global, types: &TypeNames) -> Result<Reading, AllocError>
+    ensures { ReadsWhole types.now result }
+{
+    let mut nodes = Nodes::new(alloc);
+    match read_declarations(alloc, types, &mut nodes)? {
+        Declarations::Read { decls, bodies } => {
+            let mut noted = Vec::new(alloc);
+            match read_bodies(alloc, types, &bodies, BODY_ROOM, &mut nodes, &mut noted)? {
+                None => Ok(Reading::Read(Whole {
+                    nodes,
+                    decls,
+                    bodies: noted,
+                })),
+                Some(token) => Ok(Reading::Refused { token }),
+            }
+        }
+        Declarations::Refused { token } => Ok(Reading::Refused { token }),
+    }
+}
+
+/// Reads all tokens as declarations.
+fn read_declarations(
+    alloc: Global,
+    types: &TypeNames,
+    nodes: &mut Nodes,
+) -> Result<Declarations, AllocError>
+    ensures { ReadsDeclarations types.now nodes.old nodes.new result }
+{
+    let len = types.len();
+    let mut out = Builder::over(alloc, mem::replace(nodes, Nodes::new(alloc)));
+    let read = translation_unit(types, 0, ROOM, &mut out);
+    let reached = out.reached();
+    let Parts {
+        nodes: grown,
+        roots,
+        bodies,
+    } = out.into_parts();
+    *nodes = grown;
+    match read {
+        Ok(next) => {
+            if next == len {
+                Ok(Declarations::Read {
+                    decls: roots,
+                    bodies,
+                })
+            } else {
+                let token = reached.max(next).min(len) as u32;
+                Ok(Declarations::Refused { token })
+            }
+        }
+        Err(error) => Err(error),
+    }
+}
+
+/// Answers a unit that was read, if it does not nest too deep.
+fn measure(
+    alloc: Global,
+    source: u32,
+    tokens: &Tokens,
+    types: &TypeNames,
+    whole: Whole,
+) -> Result<Answer, AllocError>
+    requires types { types.now ≡ source_of source (lexemes_of tokens.now) }
+    requires read { IsWholeRead types.now whole }
+    ensures { AnswersUnit source (lexemes_of tokens.now) result }
+{
+    let noted = bodies_by_node(alloc, &whole.nodes, &whole.bodies)?;
+    if let Some(place) = first_deep_kid(
+        &whole.nodes,
+        &noted,
+        &whole.decls,
+        1,
+        DEEPEST,
+        DEPTH_ROOM,
+    )? {
+        let token = token_at(types, place);
+        return Ok(Answer::TooDeep { token });
+    }
+    let tokens = copy_of(alloc, tokens)?;
+    Ok(Answer::Parsed(Unit {
+        source,
+        tokens,
+        nodes: whole.nodes,
+        decls: whole.decls,
+        bodies: whole.bodies,
+    }))
+}
+
+/// The same tokens once more.
+fn copy_of(alloc: Global, tokens: &Tokens) -> Result<Tokens, AllocError>
+    ensures { IfOk result (λ copy. lexemes_of copy ≡ lexemes_of tokens.now) }
+{
+    let mut items = Vec::with_capacity(alloc, tokens.items.len())?;
+    'tokens: for token in &tokens.items {
+        items.push(copy_of_token(token)?)?;
+    }
+    Ok(Tokens { items })
+}
+
+/// The same token once more.
+fn copy_of_token(token: &Token) -> Result<Token, AllocError>
+    ensures { IfOk result (λ copy. lexeme_of copy ≡ lexeme_of token.now) }
+{
+    Ok(Token {
+        kind: token.kind,
+        from: token.from,
+        to: token.to,
+        value: token.value,
+        bytes: token.bytes.clone()?,
+    })
+}
