@@ -1,0 +1,5 @@
+pub mod Branches
+pub mod Dispatch
+pub mod Initialised
+pub mod Listing
+pub mod Parts

@@ -1,7 +1,7 @@
 //! Reads statements, declarations and units.
 #![tactic(auto)]
 
-pub mod declarations;
+mod blocks;
 pub mod initializers;
-pub mod members;
+mod loops;
 pub mod statements;
