@@ -1,6 +1,6 @@
 //! Blocks that handle exceptions, C++14 clause 15, and transactional ones, ISO/IEC TS 19841:2015.
 
-ghost use Rattle.std.specs.Prelude.{◌≡◌, ◌≤◌, Bool, true, false, length, Some, None};
+ghost use Rattle.std.specs.Prelude.{◌≡◌, ◌+◌, ◌≤◌, Bool, true, false, length, Some, None};
 ghost use Rattle.cpp_syntax.specs.declared.symbol.Symbol.{Symbol};
 ghost use Rattle.cpp_syntax.specs.Source.{symbol_at};
 ghost use Rattle.cpp_syntax.specs.Symbols.{try_word};
