@@ -22,44 +22,23 @@ use Rattle.cpp_parse.proofs.+statements.Goals as goal
 pub statements::statement-returns-in-OpenBrace : goal.statements::statement-returns-in-OpenBrace
 statements::statement-returns-in-OpenBrace t c = statement_line _ open_brace _ _ _ c.compound_statement.result (ap open_brace (back c.symbol.ensures.symbol ∙ c.in-OpenBrace.is)) refl c.compound_statement.ensures
 
-pub statements::statement-if_statement-requires-clause-begins : goal.statements::statement-if_statement-requires-clause-begins
-statements::statement-if_statement-requires-clause-begins t c = ap if_word (back c.symbol.ensures.symbol ∙ c.in-If.is)
-
 pub statements::statement-returns-in-If : goal.statements::statement-returns-in-If
 statements::statement-returns-in-If t c = statement_line _ if_word _ _ _ c.if_statement.result (ap if_word (back c.symbol.ensures.symbol ∙ c.in-If.is)) refl c.if_statement.ensures
-
-pub statements::statement-while_statement-requires-clause-begins : goal.statements::statement-while_statement-requires-clause-begins
-statements::statement-while_statement-requires-clause-begins t c = ap while_word (back c.symbol.ensures.symbol ∙ c.in-While.is)
 
 pub statements::statement-returns-in-While : goal.statements::statement-returns-in-While
 statements::statement-returns-in-While t c = statement_line _ while_word _ _ _ c.while_statement.result (ap while_word (back c.symbol.ensures.symbol ∙ c.in-While.is)) refl c.while_statement.ensures
 
-pub statements::statement-do_statement-requires-clause-begins : goal.statements::statement-do_statement-requires-clause-begins
-statements::statement-do_statement-requires-clause-begins t c = ap do_word (back c.symbol.ensures.symbol ∙ c.in-Do.is)
-
 pub statements::statement-returns-in-Do : goal.statements::statement-returns-in-Do
 statements::statement-returns-in-Do t c = statement_line _ do_word _ _ _ c.do_statement.result (ap do_word (back c.symbol.ensures.symbol ∙ c.in-Do.is)) refl c.do_statement.ensures
-
-pub statements::statement-for_statement-requires-clause-begins : goal.statements::statement-for_statement-requires-clause-begins
-statements::statement-for_statement-requires-clause-begins t c = ap for_word (back c.symbol.ensures.symbol ∙ c.in-For.is)
 
 pub statements::statement-returns-in-For : goal.statements::statement-returns-in-For
 statements::statement-returns-in-For t c = statement_line _ for_word _ _ _ c.for_statement.result (ap for_word (back c.symbol.ensures.symbol ∙ c.in-For.is)) refl c.for_statement.ensures
 
-pub statements::statement-switch_statement-requires-clause-begins : goal.statements::statement-switch_statement-requires-clause-begins
-statements::statement-switch_statement-requires-clause-begins t c = ap switch_word (back c.symbol.ensures.symbol ∙ c.in-Switch.is)
-
 pub statements::statement-returns-in-Switch : goal.statements::statement-returns-in-Switch
 statements::statement-returns-in-Switch t c = statement_line _ switch_word _ _ _ c.switch_statement.result (ap switch_word (back c.symbol.ensures.symbol ∙ c.in-Switch.is)) refl c.switch_statement.ensures
 
-pub statements::statement-case_statement-requires-clause-begins : goal.statements::statement-case_statement-requires-clause-begins
-statements::statement-case_statement-requires-clause-begins t c = ap case_word (back c.symbol.ensures.symbol ∙ c.in-Case.is)
-
 pub statements::statement-returns-in-Case : goal.statements::statement-returns-in-Case
 statements::statement-returns-in-Case t c = statement_line _ case_word _ _ _ c.case_statement.result (ap case_word (back c.symbol.ensures.symbol ∙ c.in-Case.is)) refl c.case_statement.ensures
-
-pub statements::statement-default_statement-requires-clause-begins : goal.statements::statement-default_statement-requires-clause-begins
-statements::statement-default_statement-requires-clause-begins t c = ap default_word (back c.symbol.ensures.symbol ∙ c.in-Default.is)
 
 pub statements::statement-returns-in-Default : goal.statements::statement-returns-in-Default
 statements::statement-returns-in-Default t c = statement_line _ default_word _ _ _ c.default_statement.result (ap default_word (back c.symbol.ensures.symbol ∙ c.in-Default.is)) refl c.default_statement.ensures
@@ -80,9 +59,6 @@ statements::statement-return_statement-requires-clause-begins t c = ap return_wo
 pub statements::statement-returns-in-Return : goal.statements::statement-returns-in-Return
 statements::statement-returns-in-Return t c = statement_line _ return_word _ _ _ c.return_statement.result (ap return_word (back c.symbol.ensures.symbol ∙ c.in-Return.is)) refl c.return_statement.ensures
 
-pub statements::statement-try_block-requires-clause-begins : goal.statements::statement-try_block-requires-clause-begins
-statements::statement-try_block-requires-clause-begins t c = ap try_word (back c.symbol.ensures.symbol ∙ c.in-Try.is)
-
 pub statements::statement-returns-in-Try : goal.statements::statement-returns-in-Try
 statements::statement-returns-in-Try t c = statement_line _ try_word _ _ _ c.try_block.result (ap try_word (back c.symbol.ensures.symbol ∙ c.in-Try.is)) refl c.try_block.ensures
 
@@ -90,12 +66,6 @@ pub statements::statement-returns-in-Synchronized : goal.statements::statement-r
 statements::statement-returns-in-Synchronized t c =
     let u = ap synchronized_word (back c.symbol.ensures.symbol ∙ c.in-Synchronized.is) in
     statement_line _ synchronized_word _ _ _ c.marked_block.result u refl (c.marked_block.ensures synchronized_word u)
-
-pub statements::statement-marked_block-requires-clause-inside : goal.statements::statement-marked_block-requires-clause-inside
-statements::statement-marked_block-requires-clause-inside t c = let i = c.symbol.ensures.inside (ap is_end c.in-Synchronized.is) in omega (arith, i)
-
-pub statements::statement-marked_block-requires-in-AtomicNoexcept-clause-inside : goal.statements::statement-marked_block-requires-in-AtomicNoexcept-clause-inside
-statements::statement-marked_block-requires-in-AtomicNoexcept-clause-inside t c = let i = c.symbol.ensures.inside (token_by is_atomic refl _ (atomic_there c.in-AtomicNoexcept.is)) in omega (arith, i)
 
 pub statements::statement-returns-in-AtomicNoexcept : goal.statements::statement-returns-in-AtomicNoexcept
 statements::statement-returns-in-AtomicNoexcept t c =
@@ -106,12 +76,12 @@ pub statements::statement-leaf-requires-clause-inside : goal.statements::stateme
 statements::statement-leaf-requires-clause-inside t c = c.symbol.ensures.inside (ap is_end c.in-Semicolon.is)
 
 pub statements::statement-returns-in_err-leaf-in-Semicolon : goal.statements::statement-returns-in_err-leaf-in-Semicolon
-statements::statement-returns-in_err-leaf-in-Semicolon t c = parsed_err _ _ _ _ c.from_residual.result c.from_residual.ensures.0 (leaves_same c.in_err-leaf.ensures)
+statements::statement-returns-in_err-leaf-in-Semicolon t c = parsed_err _ _ _ _ c.from_residual.result c.from_residual.ensures.0 (leaves_same c.in_err-leaf-in-Semicolon.ensures)
 
 pub statements::statement-returns-in_ok-leaf-in-Semicolon : goal.statements::statement-returns-in_ok-leaf-in-Semicolon
 statements::statement-returns-in_ok-leaf-in-Semicolon t c =
     let u = ap semicolon (back c.symbol.ensures.symbol ∙ c.in-Semicolon.is) in
-    statement_line _ semicolon _ _ _ (Ok (Some c.in_ok-leaf.result)) u refl (leaf_there u (c.symbol.ensures.inside (ap is_end c.in-Semicolon.is)) c.in_ok-leaf.ensures)
+    statement_line _ semicolon _ _ _ (Ok (Some _)) u refl (leaf_there u (c.symbol.ensures.inside (ap is_end c.in-Semicolon.is)) c.in_ok-leaf-in-Semicolon.ensures)
 
 pub statements::statement-returns-in_default : goal.statements::statement-returns-in_default
 statements::statement-returns-in_default t c =
