@@ -1,6 +1,6 @@
 -- Statements that end where a word does not follow: an if without else, and the handlers of a try.
 use Rattle.std.proofs.Common.{◌≡◌, ℕ, true, refl, Option, None}
-use Rattle.cpp_ast.specs.declared.kinds.NodeKind.TheVariants.{IfStatement, TryBlock}
+use Rattle.cpp_ast.specs.declared.kinds.NodeKind.TheVariants.{IfStatement}
 use Rattle.cpp_syntax.specs.Source.{Source, symbol_at}
 use Rattle.cpp_syntax.specs.Symbols.{if_word, else_word, try_word, catch_word}
 use Rattle.cpp_syntax.specs.Rules.{compound_statement, statement, handler, Rule, word, mark, ◌·◌, form, node, some}

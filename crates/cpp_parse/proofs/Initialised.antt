@@ -1,8 +1,8 @@
 -- Declarators with what initialises them.
-use Rattle.std.proofs.Common.{◌≡◌, ℕ, true, false, refl, sym as back, ◌∙◌, ap, subst, arith, Option, None, true≢false}
+use Rattle.std.proofs.Common.{◌≡◌, ℕ, true, false, refl, sym as back, ◌∙◌, subst, arith, Option, None, true≢false}
 use Rattle.cpp_syntax.specs.Source.{Source}
 use Rattle.cpp_syntax.specs.Symbols.{comma}
-use Rattle.cpp_syntax.specs.Rules.{whole, Naming, named, unnamed, either, in_block, declarator, init_declarator, Rule, word, mark_name, ◌·◌, form, optional}
+use Rattle.cpp_syntax.specs.Rules.{whole, Naming, named, unnamed, either, in_block, declarator, init_declarator, word, mark_name, ◌·◌, form, optional}
 use Rattle.cpp_syntax.specs.Grammar.{initializers}
 use Rattle.cpp_syntax.specs.Texts.{no_read, and_then, token_of_name, declared_in, kept_apart}
 use Rattle.cpp_syntax.specs.Looks.{sees}

@@ -1,5 +1,5 @@
 -- Lists with commas, behind the last item of which a comma may stand, as their readers go over them.
-use Rattle.std.proofs.Common.{◌≡◌, ℕ, ◌+◌, ◌<◌, ◌≤◌, true, false, refl, sym as back, ◌∙◌, ap, subst, arith, length, Option, None}
+use Rattle.std.proofs.Common.{◌≡◌, ℕ, ◌+◌, ◌<◌, ◌≤◌, true, false, refl, ◌∙◌, arith, length, Option, None}
 use Rattle.cpp_syntax.specs.Source.{Source, symbol_at}
 use Rattle.cpp_syntax.specs.Symbols.{comma}
 use Rattle.cpp_syntax.specs.Rules.{initializer, Rule, word, form, optional}
@@ -12,7 +12,7 @@ use Rattle.cpp_syntax.proofs.Free.{free_long, free_none}
 use Rattle.cpp_syntax.proofs.Lists.{comma_and, AreItems, Listed, listed_begins, listed_more, open_list, begins_goes, open_listed, are_initializers, initializers_go}
 use Rattle.cpp_syntax.proofs.Longest.{word_long, word_none, seq_none, taken, left_out}
 use Rattle.cpp_syntax.proofs.Loops.{gained_then}
-use Rattle.cpp_parse_expr.proofs.Answering.{word_and, none_second}
+use Rattle.cpp_parse_expr.proofs.Answering.{none_second}
 use Rattle.cpp_parse_expr.proofs.Unmarked.{reads_unmarked}
 
 -- The items that were read so far.

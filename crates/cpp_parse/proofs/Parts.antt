@@ -1,5 +1,5 @@
 -- What readers of the parts of statements answer.
-use Rattle.std.proofs.Common.{◌≡◌, ℕ, ◌+◌, ◌<◌, ◌≤◌, Bool, true, false, not, refl, sym as back, ap, arith, length, Option, Some, None, Result, Ok, Err}
+use Rattle.std.proofs.Common.{◌≡◌, ℕ, ◌+◌, ◌<◌, ◌≤◌, Bool, true, false, not, refl, sym as back, arith, length, Option, Some, None, Result, Ok, Err}
 use Rattle.std.proofs.lemmas.Bool.{not_from_false}
 use Rattle.std.specs.declared.alloc.AllocError.{AllocError}
 use Rattle.cpp_ast.specs.declared.kinds.NodeKind.{NodeKind}
@@ -17,7 +17,6 @@ use Rattle.cpp_syntax.specs.Parsed.{ReadsRule, NoneOf, ParsedRule}
 use Rattle.cpp_syntax.proofs.Choices.{left_filled, empty_always}
 use Rattle.cpp_syntax.proofs.Free.{free_none}
 use Rattle.cpp_syntax.proofs.Longest.{nothing_long, word_long, mark_long, seq, node_long, node_none, form_none, mark_next_long, seq_ends, if_none}
-use Rattle.cpp_syntax.proofs.Readers.{reads_seq, reads_word}
 use Rattle.cpp_syntax.proofs.Loops.{ReadsMany, any_ends, at_start, reads_if, reads_as}
 use Rattle.cpp_parse_expr.proofs.Answering.{none_unlike, reads_to}
 use Rattle.cpp_parse_expr.proofs.Unmarked.{marks_none, reads_unmarked}

@@ -1,5 +1,5 @@
 -- What the readers of initializers answer.
-use Rattle.std.proofs.Common.{◌+◌, ◌<◌, refl, arith, None}
+use Rattle.std.proofs.Common.{refl, arith, None}
 use Rattle.cpp_syntax.specs.declared.symbol.Symbol.TheVariants as symbol
 use Rattle.cpp_syntax.specs.Symbols.{open_brace, close_brace, comma}
 use Rattle.cpp_syntax.specs.Rules.{initializer}

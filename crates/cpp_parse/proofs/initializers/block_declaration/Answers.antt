@@ -1,9 +1,9 @@
-use Rattle.std.proofs.Common.{◌+◌, ◌≤◌, refl, arith}
+use Rattle.std.proofs.Common.{refl}
 use Rattle.cpp_syntax.specs.declared.symbol.Symbol.TheVariants as symbol
 use Rattle.cpp_syntax.specs.Symbols.{semicolon}
 use Rattle.cpp_syntax.proofs.Alone.{passed, refused}
 use Rattle.cpp_syntax.proofs.Longest.{word_none}
-use Rattle.cpp_syntax.proofs.Readers.{leaves_same, leaves_both, leaves_read, reads_seq, reads_word, reads_form, none_behind, none_form, none_node, none_seq}
+use Rattle.cpp_syntax.proofs.Readers.{leaves_same, leaves_both, leaves_read, reads_seq, reads_word, reads_form, none_behind, none_seq}
 use Rattle.cpp_syntax.proofs.Loops.{reads_mark_next}
 use Rattle.cpp_parse_expr.proofs.Answering.{made_at_name, parsed_err}
 use Rattle.cpp_parse.proofs.Parts.{none_declared}

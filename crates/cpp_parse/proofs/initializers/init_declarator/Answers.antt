@@ -1,4 +1,3 @@
-use Rattle.std.proofs.Common.{◌+◌, ◌≤◌, refl, arith}
 use Rattle.cpp_syntax.specs.Names.{naming_of}
 use Rattle.cpp_syntax.proofs.Readers.{leaves_same, leaves_both, leaves_read, reads_form, none_form, none_node, none_seq}
 use Rattle.cpp_parse_expr.proofs.Answering.{made_at_name, parsed_err}

@@ -1,4 +1,4 @@
-use Rattle.std.proofs.Common.{◌+◌, ◌<◌, ◌≤◌, refl, arith}
+use Rattle.std.proofs.Common.{refl}
 use Rattle.cpp_syntax.specs.declared.symbol.Symbol.TheVariants as symbol
 use Rattle.cpp_syntax.specs.Symbols.{comma}
 use Rattle.cpp_syntax.specs.Names.{naming_of}

@@ -1,5 +1,4 @@
-use Rattle.std.proofs.Common.{◌≡◌, ◌+◌, ◌<◌, ◌≤◌, None, refl, ap, ◌∙◌}
-use Rattle.std.proofs.lemmas.Bool.{not_from_false}
+use Rattle.std.proofs.Common.{None, refl, ap, ◌∙◌}
 use Rattle.cpp_ast.specs.declared.arena.At.{At}
 use Rattle.cpp_ast.specs.declared.kinds.NodeKind.TheVariants.{Absent}
 use Rattle.cpp_syntax.specs.declared.symbol.Symbol.TheVariants as symbol

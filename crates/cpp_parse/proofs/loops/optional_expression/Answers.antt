@@ -1,4 +1,4 @@
-use Rattle.std.proofs.Common.{◌≡◌, None, refl, ap, ◌∙◌}
+use Rattle.std.proofs.Common.{None, ap, ◌∙◌}
 use Rattle.cpp_ast.specs.declared.arena.At.{At}
 use Rattle.cpp_ast.specs.declared.kinds.NodeKind.TheVariants.{Absent}
 use Rattle.cpp_syntax.specs.Texts.{no_read, reads_node}
