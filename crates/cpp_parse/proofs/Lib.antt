@@ -7,3 +7,8 @@ pub mod Reading
 pub mod Showing
 pub mod Table
 pub mod UnitRead
+pub mod Branches
+pub mod Dispatch
+pub mod Initialised
+pub mod Listing
+pub mod Parts

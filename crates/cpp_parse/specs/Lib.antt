@@ -1,4 +1,5 @@
 pub mod Bodies
 pub mod NotedBodies
 pub mod Steps
+pub mod Lines
 pub mod Units

@@ -1,13 +1,62 @@
-//! Statements: C++14 clauses 6 and 15, and the blocks of ISO/IEC TS 19841:2015.
+//! Statements: C++14 clause 6. What has the shape of a declaration is one.
 
-ghost use Rattle.std.specs.Prelude.{◌≤◌, None, length};
-ghost use Rattle.cpp_syntax.specs.Rules.{form, compound_statement};
-ghost use Rattle.cpp_syntax.specs.Parsed.{ParsedRule};
+ghost use Rattle.std.specs.Prelude.{◌≡◌, ◌≤◌, Bool, true, false, length, Some, None};
+ghost use Rattle.cpp_syntax.specs.declared.symbol.Symbol.{Symbol};
+ghost use Rattle.cpp_syntax.specs.Source.{symbol_at};
+ghost use Rattle.cpp_syntax.specs.Symbols.{if_word, switch_word, case_word, default_word, return_word};
+ghost use Rattle.cpp_syntax.specs.Rules.{form, optional, expression, compound_statement, statement};
+ghost use Rattle.cpp_syntax.specs.Grammar.{condition};
+ghost use Rattle.cpp_syntax.specs.Parsed.{ParsedRule, AlwaysRule};
+ghost use Rattle.cpp_syntax.specs.View.{is_lambda};
+ghost use Rattle.cpp_parse.specs.Lines.{declaration_or_expression, expression_statement, if_statement, switch_statement, labelled, case_statement, default_statement, return_statement, jump};
 
-use cpp_syntax::{Builder, TypeNames};
+use crate::blocks::{marked_block, try_block};
+use crate::initializers::block_declaration;
+use crate::loops::{do_statement, for_statement, while_statement};
+use cpp_ast::NodeKind;
+use cpp_parse_expr::expressions::{conditional_expression, expression};
+use cpp_syntax::read::{leaf, node};
+use cpp_syntax::shapes::less_room;
+use cpp_syntax::{Builder, Symbol, TypeNames};
 use std::alloc::AllocError;
 
-/// Statements in braces.
+/// A statement.
+#[cycle(statements)]
+pub fn statement(
+    text: &TypeNames,
+    at: usize,
+    room: u32,
+    out: &mut Builder,
+) -> Result<Option<usize>, AllocError>
+    requires here { at ≤ length text.now.symbols }
+    ensures { ParsedRule text.now (form statement) at None out.old out.new result }
+{
+    match text.symbol(at) {
+        Symbol::OpenBrace => compound_statement(text, at, room, out),
+        Symbol::Semicolon => Ok(Some(leaf(text, at, NodeKind::NullStatement, out)?)),
+        Symbol::If => if_statement(text, at, room, out),
+        Symbol::While => while_statement(text, at, room, out),
+        Symbol::Do => do_statement(text, at, room, out),
+        Symbol::For => for_statement(text, at, room, out),
+        Symbol::Switch => switch_statement(text, at, room, out),
+        Symbol::Case => case_statement(text, at, room, out),
+        Symbol::Default => default_statement(text, at, room, out),
+        Symbol::Break => jump(text, at, NodeKind::BreakStatement, out),
+        Symbol::Continue => jump(text, at, NodeKind::ContinueStatement, out),
+        Symbol::Return => return_statement(text, at, room, out),
+        Symbol::Try => try_block(text, at, room, out),
+        Symbol::Synchronized => {
+            marked_block(text, at, NodeKind::SynchronizedStatement, room, out)
+        }
+        Symbol::AtomicNoexcept | Symbol::AtomicCancel | Symbol::AtomicCommit => {
+            marked_block(text, at, NodeKind::AtomicStatement, room, out)
+        }
+        _ => declaration_or_expression(text, at, room, out),
+    }
+}
+
+/// Statements in braces: C++14 6.3.
+#[cycle(statements)]
 pub fn compound_statement(
     text: &TypeNames,
     at: usize,
@@ -17,5 +66,303 @@ pub fn compound_statement(
     requires here { at ≤ length text.now.symbols }
     ensures { ParsedRule text.now (form compound_statement) at None out.old out.new result }
 {
-    Ok(None)
+    if !text.is_at(at, Symbol::OpenBrace) {
+        out.refuse(at);
+        return Ok(None);
+    }
+    let start = out.checkpoint();
+    let inner = less_room(room)?;
+    let mut next = at + 1;
+    'statements: while !text.is_at(next, Symbol::CloseBrace) {
+        let Some(behind) = statement(text, next, inner, out)? else {
+            return Ok(None);
+        };
+        next = behind;
+    }
+    node(
+        text,
+        at,
+        NodeKind::CompoundStatement,
+        Some(next as u32),
+        start,
+        out,
+    )?;
+    Ok(Some(next + 1))
+}
+
+/// A declaration, where one is seen, or an expression: C++14 6.8.
+fn declaration_or_expression(
+    text: &TypeNames,
+    at: usize,
+    room: u32,
+    out: &mut Builder,
+) -> Result<Option<usize>, AllocError>
+    requires here { at ≤ length text.now.symbols }
+    ensures { ParsedRule text.now declaration_or_expression at None out.old out.new result }
+{
+    if text.sees_declaration(at, room)? {
+        return block_declaration(text, at, room, out);
+    }
+    expression_statement(text, at, room, out)
+}
+
+/// An expression and `;`: C++14 6.2.
+fn expression_statement(
+    text: &TypeNames,
+    at: usize,
+    room: u32,
+    out: &mut Builder,
+) -> Result<Option<usize>, AllocError>
+    requires here { at ≤ length text.now.symbols }
+    ensures { ParsedRule text.now expression_statement at None out.old out.new result }
+{
+    let start = out.checkpoint();
+    let Some(close) = expression(text, at, room, out)? else {
+        return Ok(None);
+    };
+    if !text.is_at(close, Symbol::Semicolon) {
+        out.refuse(close);
+        return Ok(None);
+    }
+    node(
+        text,
+        at,
+        NodeKind::ExpressionStatement,
+        Some(close as u32),
+        start,
+        out,
+    )?;
+    Ok(Some(close + 1))
+}
+
+/// An expression in parentheses, on which it depends what is executed.
+pub fn condition(
+    text: &TypeNames,
+    at: usize,
+    room: u32,
+    out: &mut Builder,
+) -> Result<Option<usize>, AllocError>
+    requires here { at ≤ length text.now.symbols }
+    ensures { ParsedRule text.now condition at None out.old out.new result }
+{
+    if !text.is_at(at, Symbol::OpenParen) {
+        out.refuse(at);
+        return Ok(None);
+    }
+    let Some(close) = expression(text, at + 1, room, out)? else {
+        return Ok(None);
+    };
+    if !text.is_at(close, Symbol::CloseParen) {
+        out.refuse(close);
+        return Ok(None);
+    }
+    Ok(Some(close + 1))
+}
+
+/// `if`: C++14 6.4.1. An `else` belongs to the nearest one before it.
+#[cycle(statements)]
+fn if_statement(
+    text: &TypeNames,
+    at: usize,
+    room: u32,
+    out: &mut Builder,
+) -> Result<Option<usize>, AllocError>
+    requires here { at ≤ length text.now.symbols }
+    requires begins { if_word (symbol_at text.now at) ≡ true }
+    requires few { length text.now.symbols ≤ 1048576 }
+    ensures { ParsedRule text.now if_statement at None out.old out.new result }
+{
+    let start = out.checkpoint();
+    let inner = less_room(room)?;
+    let Some(held) = condition(text, at + 1, inner, out)? else {
+        return Ok(None);
+    };
+    let Some(middle) = statement(text, held, inner, out)? else {
+        return Ok(None);
+    };
+    if !text.is_at(middle, Symbol::Else) {
+        node(text, at, NodeKind::IfStatement, Some(at as u32), start, out)?;
+        return Ok(Some(middle));
+    }
+    let Some(next) = statement(text, middle + 1, inner, out)? else {
+        return Ok(None);
+    };
+    node(text, at, NodeKind::IfStatement, Some(at as u32), start, out)?;
+    Ok(Some(next))
+}
+
+/// `switch`: C++14 6.4.2.
+#[cycle(statements)]
+fn switch_statement(
+    text: &TypeNames,
+    at: usize,
+    room: u32,
+    out: &mut Builder,
+) -> Result<Option<usize>, AllocError>
+    requires here { at ≤ length text.now.symbols }
+    requires begins { switch_word (symbol_at text.now at) ≡ true }
+    requires few { length text.now.symbols ≤ 1048576 }
+    ensures { ParsedRule text.now switch_statement at None out.old out.new result }
+{
+    let start = out.checkpoint();
+    let Some(held) = condition(text, at + 1, room, out)? else {
+        return Ok(None);
+    };
+    let Some(next) = compound_statement(text, held, room, out)? else {
+        return Ok(None);
+    };
+    node(
+        text,
+        at,
+        NodeKind::SwitchStatement,
+        Some(at as u32),
+        start,
+        out,
+    )?;
+    Ok(Some(next))
+}
+
+/// `case` and a value before a statement: C++14 6.1.
+#[cycle(statements)]
+fn case_statement(
+    text: &TypeNames,
+    at: usize,
+    room: u32,
+    out: &mut Builder,
+) -> Result<Option<usize>, AllocError>
+    requires here { at ≤ length text.now.symbols }
+    requires begins { case_word (symbol_at text.now at) ≡ true }
+    requires few { length text.now.symbols ≤ 1048576 }
+    ensures { ParsedRule text.now case_statement at None out.old out.new result }
+{
+    let start = out.checkpoint();
+    let inner = less_room(room)?;
+    let Some(colon) = conditional_expression(text, at + 1, inner, out)? else {
+        return Ok(None);
+    };
+    let Some(next) = labelled_statement(text, colon, inner, out)? else {
+        return Ok(None);
+    };
+    node(
+        text,
+        at,
+        NodeKind::CaseStatement,
+        Some(at as u32),
+        start,
+        out,
+    )?;
+    Ok(Some(next))
+}
+
+/// `default` before a statement: C++14 6.1.
+#[cycle(statements)]
+fn default_statement(
+    text: &TypeNames,
+    at: usize,
+    room: u32,
+    out: &mut Builder,
+) -> Result<Option<usize>, AllocError>
+    requires here { at ≤ length text.now.symbols }
+    requires begins { default_word (symbol_at text.now at) ≡ true }
+    requires few { length text.now.symbols ≤ 1048576 }
+    ensures { ParsedRule text.now default_statement at None out.old out.new result }
+{
+    let start = out.checkpoint();
+    let Some(next) = labelled_statement(text, at + 1, less_room(room)?, out)? else {
+        return Ok(None);
+    };
+    node(
+        text,
+        at,
+        NodeKind::DefaultStatement,
+        Some(at as u32),
+        start,
+        out,
+    )?;
+    Ok(Some(next))
+}
+
+/// `:` and the statement that a label stands before.
+#[cycle(statements)]
+fn labelled_statement(
+    text: &TypeNames,
+    at: usize,
+    room: u32,
+    out: &mut Builder,
+) -> Result<Option<usize>, AllocError>
+    requires here { at ≤ length text.now.symbols }
+    ensures { ParsedRule text.now labelled at None out.old out.new result }
+{
+    if !text.is_at(at, Symbol::Colon) {
+        out.refuse(at);
+        return Ok(None);
+    }
+    statement(text, at + 1, room, out)
+}
+
+/// A word and `;`, as `break` and `continue` are: C++14 6.6.
+fn jump(
+    text: &TypeNames,
+    at: usize,
+    kind: NodeKind,
+    out: &mut Builder,
+) -> Result<Option<usize>, AllocError>
+    requires here { at ≤ length text.now.symbols }
+    requires few { length text.now.symbols ≤ 1048576 }
+    requires kind { is_lambda kind ≡ false }
+    ensures { (word : Symbol → Bool) → word (symbol_at text.now at) ≡ true → ParsedRule text.now (jump kind word) at None out.old out.new result }
+{
+    if !text.is_at(at + 1, Symbol::Semicolon) {
+        out.refuse(at + 1);
+        return Ok(None);
+    }
+    out.leaf(kind, text.place(at), Some(at as u32))?;
+    Ok(Some(at + 2))
+}
+
+/// `return`, with a value or without: C++14 6.6.3.
+fn return_statement(
+    text: &TypeNames,
+    at: usize,
+    room: u32,
+    out: &mut Builder,
+) -> Result<Option<usize>, AllocError>
+    requires here { at ≤ length text.now.symbols }
+    requires begins { return_word (symbol_at text.now at) ≡ true }
+    requires few { length text.now.symbols ≤ 1048576 }
+    ensures { ParsedRule text.now return_statement at None out.old out.new result }
+{
+    let start = out.checkpoint();
+    let close = returned_value(text, at + 1, room, out)?;
+    if !text.is_at(close, Symbol::Semicolon) {
+        out.refuse(close);
+        return Ok(None);
+    }
+    node(
+        text,
+        at,
+        NodeKind::ReturnStatement,
+        Some(at as u32),
+        start,
+        out,
+    )?;
+    Ok(Some(close + 1))
+}
+
+/// An expression, or nothing.
+fn returned_value(
+    text: &TypeNames,
+    at: usize,
+    room: u32,
+    out: &mut Builder,
+) -> Result<usize, AllocError>
+    requires here { at ≤ length text.now.symbols }
+    ensures { AlwaysRule text.now (optional (form expression)) at None out.old out.new result }
+{
+    let mark = out.checkpoint();
+    let Some(next) = expression(text, at, room, out)? else {
+        out.cut(mark);
+        return Ok(at);
+    };
+    Ok(next)
 }

@@ -1,0 +1,204 @@
+//! Statements that are executed again and again: C++14 6.5.
+
+ghost use Rattle.std.specs.Prelude.{◌≡◌, ◌≤◌, true, length, Some, None};
+ghost use Rattle.cpp_syntax.specs.Source.{symbol_at};
+ghost use Rattle.cpp_syntax.specs.Symbols.{while_word, do_word, for_word};
+ghost use Rattle.cpp_syntax.specs.Rules.{form, for_init_statement};
+ghost use Rattle.cpp_syntax.specs.Grammar.{optional_expression};
+ghost use Rattle.cpp_syntax.specs.Parsed.{ParsedRule, AlwaysRule};
+ghost use Rattle.cpp_parse.specs.Lines.{while_statement, until, do_statement, for_rest, for_statement};
+
+use crate::initializers::block_declaration;
+use crate::statements::{condition, statement};
+use cpp_ast::NodeKind;
+use cpp_parse_expr::expressions::expression;
+use cpp_syntax::read::node;
+use cpp_syntax::shapes::less_room;
+use cpp_syntax::{Builder, Symbol, TypeNames};
+use std::alloc::AllocError;
+
+/// `while`: C++14 6.5.1.
+#[cycle(statements)]
+pub fn while_statement(
+    text: &TypeNames,
+    at: usize,
+    room: u32,
+    out: &mut Builder,
+) -> Result<Option<usize>, AllocError>
+    requires here { at ≤ length text.now.symbols }
+    requires begins { while_word (symbol_at text.now at) ≡ true }
+    requires few { length text.now.symbols ≤ 1048576 }
+    ensures { ParsedRule text.now while_statement at None out.old out.new result }
+{
+    let start = out.checkpoint();
+    let inner = less_room(room)?;
+    let Some(held) = condition(text, at + 1, inner, out)? else {
+        return Ok(None);
+    };
+    let Some(next) = statement(text, held, inner, out)? else {
+        return Ok(None);
+    };
+    node(
+        text,
+        at,
+        NodeKind::WhileStatement,
+        Some(at as u32),
+        start,
+        out,
+    )?;
+    Ok(Some(next))
+}
+
+/// `do`: C++14 6.5.2.
+#[cycle(statements)]
+pub fn do_statement(
+    text: &TypeNames,
+    at: usize,
+    room: u32,
+    out: &mut Builder,
+) -> Result<Option<usize>, AllocError>
+    requires here { at ≤ length text.now.symbols }
+    requires begins { do_word (symbol_at text.now at) ≡ true }
+    requires few { length text.now.symbols ≤ 1048576 }
+    ensures { ParsedRule text.now do_statement at None out.old out.new result }
+{
+    let start = out.checkpoint();
+    let Some(behind) = statement(text, at + 1, less_room(room)?, out)? else {
+        return Ok(None);
+    };
+    let Some(next) = until(text, behind, room, out)? else {
+        return Ok(None);
+    };
+    node(text, at, NodeKind::DoStatement, Some(at as u32), start, out)?;
+    Ok(Some(next))
+}
+
+/// `while`, a condition and `;` behind the body of a `do`.
+fn until(
+    text: &TypeNames,
+    at: usize,
+    room: u32,
+    out: &mut Builder,
+) -> Result<Option<usize>, AllocError>
+    requires here { at ≤ length text.now.symbols }
+    ensures { ParsedRule text.now until at None out.old out.new result }
+{
+    if !text.is_at(at, Symbol::While) {
+        out.refuse(at);
+        return Ok(None);
+    }
+    let Some(close) = condition(text, at + 1, room, out)? else {
+        return Ok(None);
+    };
+    if !text.is_at(close, Symbol::Semicolon) {
+        out.refuse(close);
+        return Ok(None);
+    }
+    Ok(Some(close + 1))
+}
+
+/// `for`: C++14 6.5.3.
+#[cycle(statements)]
+pub fn for_statement(
+    text: &TypeNames,
+    at: usize,
+    room: u32,
+    out: &mut Builder,
+) -> Result<Option<usize>, AllocError>
+    requires here { at ≤ length text.now.symbols }
+    requires begins { for_word (symbol_at text.now at) ≡ true }
+    requires few { length text.now.symbols ≤ 1048576 }
+    ensures { ParsedRule text.now for_statement at None out.old out.new result }
+{
+    if !text.is_at(at + 1, Symbol::OpenParen) {
+        out.refuse(at + 1);
+        return Ok(None);
+    }
+    let start = out.checkpoint();
+    let inner = less_room(room)?;
+    let Some(first) = for_init_statement(text, at + 2, inner, out)? else {
+        return Ok(None);
+    };
+    let Some(next) = for_rest(text, first, inner, out)? else {
+        return Ok(None);
+    };
+    node(
+        text,
+        at,
+        NodeKind::ForStatement,
+        Some(at as u32),
+        start,
+        out,
+    )?;
+    Ok(Some(next))
+}
+
+/// The first part of a `for`, with its `;`.
+fn for_init_statement(
+    text: &TypeNames,
+    at: usize,
+    room: u32,
+    out: &mut Builder,
+) -> Result<Option<usize>, AllocError>
+    requires here { at ≤ length text.now.symbols }
+    ensures { ParsedRule text.now (form for_init_statement) at None out.old out.new result }
+{
+    if text.is_at(at, Symbol::Semicolon) {
+        out.leaf(NodeKind::Absent, text.place(at), None)?;
+        return Ok(Some(at + 1));
+    }
+    if text.sees_declaration(at, room)? {
+        return block_declaration(text, at, room, out);
+    }
+    let Some(close) = expression(text, at, room, out)? else {
+        return Ok(None);
+    };
+    if !text.is_at(close, Symbol::Semicolon) {
+        out.refuse(close);
+        return Ok(None);
+    }
+    Ok(Some(close + 1))
+}
+
+/// What stands behind the first part of a `for`: the condition, what is done after each turn, and the body.
+#[cycle(statements)]
+fn for_rest(
+    text: &TypeNames,
+    at: usize,
+    room: u32,
+    out: &mut Builder,
+) -> Result<Option<usize>, AllocError>
+    requires here { at ≤ length text.now.symbols }
+    ensures { ParsedRule text.now for_rest at None out.old out.new result }
+{
+    let middle = optional_expression(text, at, room, out)?;
+    if !text.is_at(middle, Symbol::Semicolon) {
+        out.refuse(middle);
+        return Ok(None);
+    }
+    let close = optional_expression(text, middle + 1, room, out)?;
+    if !text.is_at(close, Symbol::CloseParen) {
+        out.refuse(close);
+        return Ok(None);
+    }
+    statement(text, close + 1, room, out)
+}
+
+/// An expression, or a node that says that there is none.
+fn optional_expression(
+    text: &TypeNames,
+    at: usize,
+    room: u32,
+    out: &mut Builder,
+) -> Result<usize, AllocError>
+    requires here { at ≤ length text.now.symbols }
+    ensures { AlwaysRule text.now optional_expression at None out.old out.new result }
+{
+    let mark = out.checkpoint();
+    let Some(next) = expression(text, at, room, out)? else {
+        out.cut(mark);
+        out.leaf(NodeKind::Absent, text.place(at), None)?;
+        return Ok(at);
+    };
+    Ok(next)
+}
