@@ -1,1 +1,3 @@
 pub mod Units
+pub mod Alternatives
+pub mod Answers
