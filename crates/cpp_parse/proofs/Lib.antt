@@ -3,5 +3,5 @@ pub mod Specified
 pub mod Named
 pub mod Definitions
 pub mod Shapes
-pub mod Constructors
+pub mod Beginnings
 pub mod Listing

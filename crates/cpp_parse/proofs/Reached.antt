@@ -46,10 +46,6 @@ none_marked x b k t (is_both {l = l} (is_mark_next e f g) v h) = x b l t (carry 
 pub parsed_from : (s : Source) (p : Rule) (a : ℕ) (k : Option ℕ) (u v w : Building) (r : Result (Option ℕ) AllocError) → v ≡ u → ParsedRule s p a k v w r → ParsedRule s p a k u w r
 parsed_from s p a k u v w r e h = subst (λ (z : Building). ParsedRule s p a k z w r) e h
 
--- what was answered, where no memory was wanting
-pub always_is : {s : Source} {p : Rule} {a b : ℕ} {k : Option ℕ} {v w : Building} → AlwaysRule s p a k v w (Ok b) → ReadsRule s p a b k v w
-always_is h = h
-
 -- A node that has its place where its token is.
 pub made_at_token : {s : Source} {kind : NodeKind} {p : Rule} {a b t : ℕ} {v w x : Building} {start : Checkpoint} (y : ReadsRule s p a b (Some t) v w) → IsMark start v → ((before : Building) (got : Read) → IsMark start before → w ≡ gains before got → x ≡ gains before (reads_node kind (placed at_token s a (Some t) got.trees) (Some t) got)) → ReadsRule s (node_at at_token kind p) a b None v x
 made_at_token {v = v} y m f = reads_node_at y (f v y.got m y.gained)

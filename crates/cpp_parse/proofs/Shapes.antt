@@ -49,11 +49,6 @@ no_listed x y n = none_reached x (none_formed (none_member y n refl refl refl re
 pub no_function_body : {s : Source} {a h m : ℕ} → Reaches s types a h → Reaches s named_declarator h m → NoneOf s rest_function m → NoneOf s with_function_body a
 no_function_body x y n = none_reached x (none_reached y n refl refl refl) refl refl refl
 
--- where no type or no declarator stands
-
-pub none_typed : {s : Source} {q : Rule} {a : ℕ} → NoneOf s types a → NoneOf s (types · q) a
-none_typed n = seq_none n
-
 -- 0 is an expression.
 
 record ZeroText (s : Source) (f : Form) (a : ℕ) : Type 0 where

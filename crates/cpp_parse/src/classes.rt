@@ -79,14 +79,7 @@ pub fn class_specifier(
         out.refuse(end);
         return Ok(None);
     }
-    node_at_token(
-        text,
-        at,
-        NodeKind::ClassSpecifier,
-        name as u32,
-        start,
-        out,
-    )?;
+    node_at_token(text, at, NodeKind::ClassSpecifier, name as u32, start, out)?;
     Ok(Some(end + 1))
 }
 
@@ -187,12 +180,7 @@ fn member_specification(
 }
 
 /// Members, as many as follow one another.
-fn members(
-    text: &TypeNames,
-    at: usize,
-    room: u32,
-    out: &mut Builder,
-) -> Result<usize, AllocError>
+fn members(text: &TypeNames, at: usize, room: u32, out: &mut Builder) -> Result<usize, AllocError>
     requires here { at ≤ length text.now.symbols }
     ensures { AlwaysRule text.now (many (form member_declaration)) at None out.old out.new result }
 {

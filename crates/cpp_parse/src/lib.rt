@@ -2,6 +2,7 @@
 #![tactic(auto)]
 
 mod classes;
+mod constructors;
 pub mod declarations;
 mod functions;
 pub mod initializers;

@@ -8,12 +8,13 @@ ghost use Rattle.cpp_syntax.specs.Parsed.{ParsedRule, NoneOf};
 ghost use Rattle.cpp_parse.specs.Alternatives.{access_label, single_declaration, initialized_declaration, listed_declaration, member_function, constructor_declared, constructor_defined, destructor_declared, destructor_defined};
 ghost use Rattle.cpp_parse.specs.Answers.{ShapeFound, IsConstructor, IsDestructor, ParametersSeen};
 
-use crate::functions::{constructor_body, plain_constructor, plain_destructor};
+use crate::constructors::{constructor_body, plain_constructor, plain_destructor};
 use crate::single_members::{
     initialized_declaration, listed_declaration, member_function, semicolon_end, single_declaration,
 };
 use crate::specifiers::{
-    attribute_end, node_from, optional_attribute, optional_explicit, optional_virtual, virt_specifiers,
+    attribute_end, node_from, optional_attribute, optional_explicit, optional_virtual,
+    virt_specifiers,
 };
 use crate::statements::compound_statement;
 use crate::symbols::{begins_types_at, is_access_at};
@@ -64,11 +65,7 @@ pub fn member_declaration(
 }
 
 /// `public:`, `protected:` or `private:`.
-fn access_label(
-    text: &TypeNames,
-    at: usize,
-    out: &mut Builder,
-) -> Result<Option<usize>, AllocError>
+fn access_label(text: &TypeNames, at: usize, out: &mut Builder) -> Result<Option<usize>, AllocError>
     requires here { at ≤ length text.now.symbols }
     ensures { ParsedRule text.now access_label at None out.old out.new result }
 {
@@ -82,14 +79,7 @@ fn access_label(
         return Ok(None);
     }
     let start = out.checkpoint();
-    node(
-        text,
-        at,
-        NodeKind::AccessLabel,
-        Some(at as u32),
-        start,
-        out,
-    )?;
+    node(text, at, NodeKind::AccessLabel, Some(at as u32), start, out)?;
     Ok(Some(colon + 1))
 }
 

@@ -10,7 +10,8 @@ ghost use Rattle.cpp_syntax.specs.Parsed.{ParsedRule, AlwaysRule};
 ghost use Rattle.cpp_parse.specs.Alternatives.{single_declaration, initialized_declaration, listed_declaration, more_members, member_function, member_function_alone, pure_specifier, value, value_but_zero};
 
 use crate::specifiers::{
-    declared_token, node_from, optional_attribute, optional_inline, optional_virtual, virt_specifiers,
+    declared_token, node_from, optional_attribute, optional_inline, optional_virtual,
+    virt_specifiers,
 };
 use crate::statements::compound_statement;
 use cpp_ast::NodeKind;

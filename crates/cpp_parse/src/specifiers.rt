@@ -135,11 +135,7 @@ pub fn optional_attribute(
     let Some(next) = behind_attribute(text, at) else {
         return Ok(at);
     };
-    out.leaf(
-        NodeKind::Attribute,
-        text.place(at),
-        Some((at + 2) as u32),
-    )?;
+    out.leaf(NodeKind::Attribute, text.place(at), Some((at + 2) as u32))?;
     Ok(next)
 }
 

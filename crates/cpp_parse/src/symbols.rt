@@ -56,7 +56,5 @@ pub fn begins_types_at(text: &TypeNames, at: usize) -> bool
 fn begins_types(symbol: Symbol) -> bool
     ensures { result ≡ begins_types symbol }
 {
-    symbol.is_cv()
-        || symbol.is_type_word()
-        || matches!(symbol, Symbol::TypeName | Symbol::Std)
+    symbol.is_cv() || symbol.is_type_word() || matches!(symbol, Symbol::TypeName | Symbol::Std)
 }

@@ -1,75 +1,83 @@
-use Rattle.std.proofs.Common.{◌≡◌, ◌<◌, ◌≤◌, ◌+◌, ◌-◌, ℕ, true, false, not, Option, Some, None, length, refl, sym as back, ◌∙◌, ap, subst, arith}
+use Rattle.std.proofs.Common.{◌-◌, not, Some, refl}
 use Rattle.cpp_syntax.specs.declared.symbol.Symbol.TheVariants as symbol
+use Rattle.cpp_syntax.specs.Symbols.{open_brace, semicolon}
 use Rattle.cpp_syntax.proofs.Alone.{passed, refused}
-use Rattle.cpp_syntax.proofs.Longest.{word_none, mark_none, seq_none, node_none, form_none, neither}
-use Rattle.cpp_syntax.proofs.Readers.{leaves_same, leaves_both, leaves_read, leaves_none, reads_seq, reads_word, reads_mark, reads_form, reads_left, reads_right, reads_taken, reads_left_out, reads_nothing, none_behind, none_seq, none_form, none_node}
-use Rattle.cpp_syntax.proofs.Loops.{reads_mark_next, within}
-use Rattle.cpp_parse_expr.proofs.Answering.{parsed_err, always_err, made, made_at_name, mark_and, word_and, leaf_there, none_unlike, none_second, none_second_mark, parsed_left, parsed_right, parsed_form}
-use Rattle.cpp_parse.proofs.Reached.{made_at_token, none_marked}
-use Rattle.cpp_syntax.specs.Symbols.{is_name, is_type_name, is_integer, is_zero, is_string, is_cv, is_virt, is_class_key, is_access, is_specifier, optimize_word, final_word, using_word, enum_word, extern_word, inline_word, virtual_word, explicit_word, open_paren, close_paren, open_bracket, close_bracket, open_brace, close_brace, semicolon, comma, colon, colon_colon, tilde, equal}
-use Rattle.cpp_ast.specs.declared.arena.At.{At}
-use Rattle.cpp_ast.specs.declared.kinds.NodeKind.TheVariants.{DeclSpecifier, VirtSpecifier, AccessSpecifier, ClassKey, Attribute}
-use Rattle.cpp_syntax.specs.Rules.{◌·◌, word, form, member_declaration, declaration, simple_declaration, member_initializer, enumerator_definition, listed_member, declaration_head}
-use Rattle.cpp_syntax.specs.Grammar.{leaf}
-use Rattle.cpp_syntax.specs.Texts.{no_read, first_or, reads_node}
-use Rattle.cpp_syntax.specs.View.{gains}
-use Rattle.cpp_syntax.proofs.Firsts.{not_empty}
-use Rattle.cpp_syntax.proofs.Leaves.{always_leaf, always_taken}
-use Rattle.cpp_syntax.proofs.Longest.{seq_ends}
-use Rattle.cpp_syntax.proofs.Readers.{gains_none}
-use Rattle.cpp_syntax.proofs.Loops.{ReadsChain, ReadsMany, loop_begins, loop_more, any_begins, any_more, seq_behind}
-use Rattle.cpp_parse_expr.proofs.Answering.{leaves_chain, chain_done, many_done}
-use Rattle.cpp_parse_expr.proofs.Rounded.{no_around, round_both}
-use Rattle.cpp_parse_expr.proofs.Suffixed.{parsed_seq, parsed_word, parsed_mark}
-use Rattle.cpp_parse.proofs.Reached.{many_read, leaves_any}
-use Rattle.cpp_parse.proofs.Specified.{attribute_there, attribute_read, attribute_taken, attribute_left_out}
-use Rattle.cpp_parse_expr.proofs.Answering.{reads_from}
-use Rattle.cpp_parse_expr.proofs.Suffixed.{parsed_instead, with_none_before, with_none_behind, with_same_before}
-use Rattle.cpp_parse.proofs.Reached.{reached, none_reached, none_skipped, parsed_from, none_left, none_right}
-use Rattle.cpp_parse.proofs.Definitions.{definition_by, no_objects, no_specifier, no_declared_class, no_block, no_linked, no_simple, no_linkage, linkage_seen, inline_taken, inline_left_out, no_name, no_colons, a_destructor, a_constructor, no_special}
-use Rattle.cpp_parse.proofs.Constructors.{unattributed, explicit_none, constructors_none, no_type_name, no_open, single_none, function_none, initialized_none, listed_none, untyped_initialized, untyped_listed, name_seen, types_seen, constructor_seen, virtual_seen, tilde_seen}
-use Rattle.cpp_parse.proofs.Listing.{ReadsEnumerators, enumerators_begin, enumerators_more, enumerators_open, enumerators_end, leaves_enumerators}
-use Rattle.cpp_parse.proofs.Named.{member_made, none_name}
-use Rattle.cpp_parse.proofs.Shapes.{no_single, no_initialized, no_listed, no_function_body, not_pure, not_closed, zero_alone, comma_behind, comma_open, no_more, no_value, no_equal_listed, none_but_zero}
-use Rattle.std.proofs.Common.{true≢false}
-use Rattle.cpp_syntax.proofs.Longest.{node_long, where_none}
-use Rattle.cpp_syntax.proofs.Loops.{reads_where}
-use Rattle.cpp_parse.proofs.Named.{none_grouped}
-use Rattle.cpp_parse.proofs.Reached.{shape_err, leaves_gained, no_body_by}
+use Rattle.cpp_syntax.proofs.Longest.{word_none, seq_none, node_none, form_none, neither}
+use Rattle.cpp_syntax.proofs.Readers.{leaves_same, leaves_both, leaves_read, reads_seq, reads_word, reads_left, reads_right, none_behind, none_seq}
+use Rattle.cpp_syntax.proofs.Loops.{reads_mark_next}
+use Rattle.cpp_parse_expr.proofs.Answering.{parsed_err, made_at_name, reads_from}
+use Rattle.cpp_parse.proofs.Reached.{none_marked, reached}
+use Rattle.cpp_parse.proofs.Definitions.{no_objects}
 use Rattle.cpp_parse.proofs.functions.ordinary_declaration.Goals as goal
 
 pub returns-in_default : goal.returns-in_default
-returns-in_default c = let x = rw c.in_default.is at c.in_ok-declared.ensures in (x.0, neither (node_none (none_marked (none_seq x.1))) (node_none (none_marked (none_seq x.1))))
+returns-in_default c =
+    let x = rw c.in_default.is at c.in_ok-declared.ensures in
+    (x.0, neither (node_none (none_marked (none_seq x.1))) (node_none (none_marked (none_seq x.1))))
 
 pub returns-in_err-behind : goal.returns-in_err-behind
 returns-in_err-behind c = parsed_err _ _ _ _ c.from_residual-in_err-behind.result c.from_residual-in_err-behind.ensures.0 (leaves_both (leaves_read (rw c.in-Some.is at c.in_ok-declared.ensures)) c.in_err-behind.ensures)
 
 pub returns-in_default-2 : goal.returns-in_default-2
-returns-in_default-2 c = let y = rw c.in_default-2.is at c.in_ok-behind.ensures in (leaves_both (leaves_read (rw c.in-Some.is at c.in_ok-declared.ensures)) y.0, neither (node_none (none_marked (none_behind (rw c.in-Some.is at c.in_ok-declared.ensures) (seq_none (seq_none (form_none (node_none (seq_none y.1))))) refl refl refl))) (node_none (none_marked (none_behind (rw c.in-Some.is at c.in_ok-declared.ensures) (none_seq y.1) refl refl refl))))
+returns-in_default-2 c =
+    let read_declared = rw c.in-Some.is at c.in_ok-declared.ensures in
+    let y = rw c.in_default-2.is at c.in_ok-behind.ensures in
+    (leaves_both (leaves_read read_declared) y.0, neither (node_none (none_marked (none_behind read_declared (seq_none (seq_none (form_none (node_none (seq_none y.1))))) refl refl refl))) (node_none (none_marked (none_behind read_declared (none_seq y.1) refl refl refl))))
 
 pub returns-in_err-next : goal.returns-in_err-next
 returns-in_err-next c = parsed_err _ _ _ _ c.from_residual-in_err-next.result c.from_residual-in_err-next.ensures.0 (leaves_both (leaves_read (rw c.in-Some.is at c.in_ok-declared.ensures)) (leaves_both (leaves_read (rw c.in-Some-2.is at c.in_ok-behind.ensures)) c.in_err-next.ensures))
 
 pub returns-in_default-3 : goal.returns-in_default-3
-returns-in_default-3 c = let z = rw c.in_default-3.is at c.in_ok-next.ensures in (leaves_both (leaves_read (rw c.in-Some.is at c.in_ok-declared.ensures)) (leaves_both (leaves_read (rw c.in-Some-2.is at c.in_ok-behind.ensures)) z.0), neither (node_none (none_marked (none_behind (rw c.in-Some.is at c.in_ok-declared.ensures) (no_objects (reached (rw c.in-Some-2.is at c.in_ok-behind.ensures)) (passed open_brace symbol.OpenBrace refl _ (c.if-is_at.ensures.yes refl))) refl refl refl))) (node_none (none_marked (none_behind (rw c.in-Some.is at c.in_ok-declared.ensures) (none_behind (rw c.in-Some-2.is at c.in_ok-behind.ensures) z.1 refl refl refl) refl refl refl))))
+returns-in_default-3 c =
+    let read_declared = rw c.in-Some.is at c.in_ok-declared.ensures in
+    let read_behind = rw c.in-Some-2.is at c.in_ok-behind.ensures in
+    let z = rw c.in_default-3.is at c.in_ok-next.ensures in
+    (leaves_both (leaves_read read_declared) (leaves_both (leaves_read read_behind) z.0), neither (node_none (none_marked (none_behind read_declared (no_objects (reached read_behind) (passed open_brace symbol.OpenBrace refl _ (c.if-is_at.ensures.yes refl))) refl refl refl))) (node_none (none_marked (none_behind read_declared (none_behind read_behind z.1 refl refl refl) refl refl refl))))
 
 pub returns-in_err-node_from : goal.returns-in_err-node_from
-returns-in_err-node_from c = parsed_err _ _ _ _ c.from_residual-in_err-node_from.result c.from_residual-in_err-node_from.ensures.0 (leaves_both (leaves_read (rw c.in-Some.is at c.in_ok-declared.ensures)) (leaves_both (leaves_read (rw c.in-Some-2.is at c.in_ok-behind.ensures)) (leaves_both (leaves_read (rw c.in-Some-3.is at c.in_ok-next.ensures)) (leaves_same c.in_err-node_from.ensures.memory))))
+returns-in_err-node_from c =
+    let read_declared = rw c.in-Some.is at c.in_ok-declared.ensures in
+    let read_behind = rw c.in-Some-2.is at c.in_ok-behind.ensures in
+    let read_next = rw c.in-Some-3.is at c.in_ok-next.ensures in
+    parsed_err _ _ _ _ c.from_residual-in_err-node_from.result c.from_residual-in_err-node_from.ensures.0 (leaves_both (leaves_read read_declared) (leaves_both (leaves_read read_behind) (leaves_both (leaves_read read_next) (leaves_same c.in_err-node_from.ensures.memory))))
 
 pub returns-then-is_at : goal.returns-then-is_at
-returns-then-is_at c = reads_right (node_none (none_marked (none_behind (rw c.in-Some.is at c.in_ok-declared.ensures) (no_objects (reached (rw c.in-Some-2.is at c.in_ok-behind.ensures)) (passed open_brace symbol.OpenBrace refl _ (c.if-is_at.ensures.yes refl))) refl refl refl))) (made_at_name (reads_seq (reads_mark_next c.requires.here) (reads_seq (rw c.in-Some.is at c.in_ok-declared.ensures) (reads_seq (rw c.in-Some-2.is at c.in_ok-behind.ensures) (rw c.in-Some-3.is at c.in_ok-next.ensures) refl refl) refl refl) refl refl) c.checkpoint-start.ensures c.in_ok-node_from.ensures.read)
+returns-then-is_at c =
+    let read_declared = rw c.in-Some.is at c.in_ok-declared.ensures in
+    let read_behind = rw c.in-Some-2.is at c.in_ok-behind.ensures in
+    let read_next = rw c.in-Some-3.is at c.in_ok-next.ensures in
+    reads_right (node_none (none_marked (none_behind read_declared (no_objects (reached read_behind) (passed open_brace symbol.OpenBrace refl _ (c.if-is_at.ensures.yes refl))) refl refl refl))) (made_at_name (reads_seq (reads_mark_next c.requires.here) (reads_seq read_declared (reads_seq read_behind read_next refl refl) refl refl) refl refl) c.checkpoint-start.ensures c.in_ok-node_from.ensures.read)
 
 pub returns-in_err-end : goal.returns-in_err-end
-returns-in_err-end c = parsed_err _ _ _ _ c.from_residual-in_err-end.result c.from_residual-in_err-end.ensures.0 (leaves_both (leaves_read (rw c.in-Some.is at c.in_ok-declared.ensures)) (leaves_both (leaves_same (c.cut.ensures _ ((rw c.in-Some-2.is at c.in_ok-behind.ensures)).got c.checkpoint-mark.ensures ((rw c.in-Some-2.is at c.in_ok-behind.ensures)).gained)) c.in_err-end.ensures))
+returns-in_err-end c =
+    let read_declared = rw c.in-Some.is at c.in_ok-declared.ensures in
+    let read_behind = rw c.in-Some-2.is at c.in_ok-behind.ensures in
+    parsed_err _ _ _ _ c.from_residual-in_err-end.result c.from_residual-in_err-end.ensures.0 (leaves_both (leaves_read read_declared) (leaves_both (leaves_same (c.cut.ensures _ (read_behind).got c.checkpoint-mark.ensures (read_behind).gained)) c.in_err-end.ensures))
 
 pub returns-in_default-4 : goal.returns-in_default-4
-returns-in_default-4 c = let z = rw c.in_default-4.is at c.in_ok-end.ensures in (leaves_both (leaves_read (rw c.in-Some.is at c.in_ok-declared.ensures)) (leaves_both (leaves_same (c.cut.ensures _ ((rw c.in-Some-2.is at c.in_ok-behind.ensures)).got c.checkpoint-mark.ensures ((rw c.in-Some-2.is at c.in_ok-behind.ensures)).gained)) z.0), neither (node_none (none_marked (none_behind (rw c.in-Some.is at c.in_ok-declared.ensures) (none_seq z.1) refl refl refl))) (node_none (none_marked (none_behind (rw c.in-Some.is at c.in_ok-declared.ensures) (none_behind (rw c.in-Some-2.is at c.in_ok-behind.ensures) (form_none (node_none (seq_none (word_none (refused open_brace symbol.OpenBrace refl _ (c.if-is_at.ensures.no refl)))))) refl refl refl) refl refl refl))))
+returns-in_default-4 c =
+    let read_declared = rw c.in-Some.is at c.in_ok-declared.ensures in
+    let read_behind = rw c.in-Some-2.is at c.in_ok-behind.ensures in
+    let z = rw c.in_default-4.is at c.in_ok-end.ensures in
+    (leaves_both (leaves_read read_declared) (leaves_both (leaves_same (c.cut.ensures _ (read_behind).got c.checkpoint-mark.ensures (read_behind).gained)) z.0), neither (node_none (none_marked (none_behind read_declared (none_seq z.1) refl refl refl))) (node_none (none_marked (none_behind read_declared (none_behind read_behind (form_none (node_none (seq_none (word_none (refused open_brace symbol.OpenBrace refl _ (c.if-is_at.ensures.no refl)))))) refl refl refl) refl refl refl))))
 
 pub returns-then-not-is_at : goal.returns-then-not-is_at
-returns-then-not-is_at c = (leaves_both (leaves_read (rw c.in-Some.is at c.in_ok-declared.ensures)) (leaves_both (leaves_same (c.cut.ensures _ ((rw c.in-Some-2.is at c.in_ok-behind.ensures)).got c.checkpoint-mark.ensures ((rw c.in-Some-2.is at c.in_ok-behind.ensures)).gained)) (leaves_both (leaves_read (rw c.in-Some-4.is at c.in_ok-end.ensures)) (leaves_same c.refuse.ensures))), neither (node_none (none_marked (none_behind (rw c.in-Some.is at c.in_ok-declared.ensures) (none_behind (rw c.in-Some-4.is at c.in_ok-end.ensures) (word_none (refused semicolon symbol.Semicolon refl _ (c.if-not-is_at.ensures.no refl))) refl refl refl) refl refl refl))) (node_none (none_marked (none_behind (rw c.in-Some.is at c.in_ok-declared.ensures) (none_behind (rw c.in-Some-2.is at c.in_ok-behind.ensures) (form_none (node_none (seq_none (word_none (refused open_brace symbol.OpenBrace refl _ (c.if-is_at.ensures.no refl)))))) refl refl refl) refl refl refl))))
+returns-then-not-is_at c =
+    let read_declared = rw c.in-Some.is at c.in_ok-declared.ensures in
+    let read_behind = rw c.in-Some-2.is at c.in_ok-behind.ensures in
+    let read_end = rw c.in-Some-4.is at c.in_ok-end.ensures in
+    (leaves_both (leaves_read read_declared) (leaves_both (leaves_same (c.cut.ensures _ (read_behind).got c.checkpoint-mark.ensures (read_behind).gained)) (leaves_both (leaves_read read_end) (leaves_same c.refuse.ensures))), neither (node_none (none_marked (none_behind read_declared (none_behind read_end (word_none (refused semicolon symbol.Semicolon refl _ (c.if-not-is_at.ensures.no refl))) refl refl refl) refl refl refl))) (node_none (none_marked (none_behind read_declared (none_behind read_behind (form_none (node_none (seq_none (word_none (refused open_brace symbol.OpenBrace refl _ (c.if-is_at.ensures.no refl)))))) refl refl refl) refl refl refl))))
 
 pub returns-in_err-node_from-2 : goal.returns-in_err-node_from-2
-returns-in_err-node_from-2 c = parsed_err _ _ _ _ c.from_residual-in_err-node_from-2.result c.from_residual-in_err-node_from-2.ensures.0 (leaves_both (leaves_read (rw c.in-Some.is at c.in_ok-declared.ensures)) (leaves_both (leaves_same (c.cut.ensures _ ((rw c.in-Some-2.is at c.in_ok-behind.ensures)).got c.checkpoint-mark.ensures ((rw c.in-Some-2.is at c.in_ok-behind.ensures)).gained)) (leaves_both (leaves_read (rw c.in-Some-4.is at c.in_ok-end.ensures)) (leaves_same c.in_err-node_from-2.ensures.memory))))
+returns-in_err-node_from-2 c =
+    let read_declared = rw c.in-Some.is at c.in_ok-declared.ensures in
+    let read_behind = rw c.in-Some-2.is at c.in_ok-behind.ensures in
+    let read_end = rw c.in-Some-4.is at c.in_ok-end.ensures in
+    parsed_err _ _ _ _ c.from_residual-in_err-node_from-2.result c.from_residual-in_err-node_from-2.ensures.0 (leaves_both (leaves_read read_declared) (leaves_both (leaves_same (c.cut.ensures _ (read_behind).got c.checkpoint-mark.ensures (read_behind).gained)) (leaves_both (leaves_read read_end) (leaves_same c.in_err-node_from-2.ensures.memory))))
 
 pub returns : goal.returns
-returns c = reads_left (made_at_name (reads_seq (reads_mark_next c.requires.here) (reads_seq (rw c.in-Some.is at c.in_ok-declared.ensures) (reads_seq (reads_from (c.cut.ensures _ ((rw c.in-Some-2.is at c.in_ok-behind.ensures)).got c.checkpoint-mark.ensures ((rw c.in-Some-2.is at c.in_ok-behind.ensures)).gained) (rw c.in-Some-4.is at c.in_ok-end.ensures)) (reads_word (passed semicolon symbol.Semicolon refl _ (c.if-not-is_at.ensures.yes refl)) (c.if-not-is_at.ensures.inside refl refl)) refl refl) refl refl) refl refl) c.checkpoint-start.ensures c.in_ok-node_from-2.ensures.read) (node_none (none_marked (none_behind (rw c.in-Some.is at c.in_ok-declared.ensures) (none_behind (rw c.in-Some-2.is at c.in_ok-behind.ensures) (form_none (node_none (seq_none (word_none (refused open_brace symbol.OpenBrace refl _ (c.if-is_at.ensures.no refl)))))) refl refl refl) refl refl refl)))
+returns c =
+    let read_declared = rw c.in-Some.is at c.in_ok-declared.ensures in
+    let read_behind = rw c.in-Some-2.is at c.in_ok-behind.ensures in
+    let read_end = rw c.in-Some-4.is at c.in_ok-end.ensures in
+    reads_left (made_at_name (reads_seq (reads_mark_next c.requires.here) (reads_seq read_declared (reads_seq (reads_from (c.cut.ensures _ (read_behind).got c.checkpoint-mark.ensures (read_behind).gained) read_end) (reads_word (passed semicolon symbol.Semicolon refl _ (c.if-not-is_at.ensures.yes refl)) (c.if-not-is_at.ensures.inside refl refl)) refl refl) refl refl) refl refl) c.checkpoint-start.ensures c.in_ok-node_from-2.ensures.read) (node_none (none_marked (none_behind read_declared (none_behind read_behind (form_none (node_none (seq_none (word_none (refused open_brace symbol.OpenBrace refl _ (c.if-is_at.ensures.no refl)))))) refl refl refl) refl refl refl)))

@@ -1,41 +1,12 @@
-use Rattle.std.proofs.Common.{◌≡◌, ◌<◌, ◌≤◌, ◌+◌, ◌-◌, ℕ, true, false, not, Option, Some, None, length, refl, sym as back, ◌∙◌, ap, subst, arith}
+use Rattle.std.proofs.Common.{refl}
 use Rattle.cpp_syntax.specs.declared.symbol.Symbol.TheVariants as symbol
+use Rattle.cpp_syntax.specs.Symbols.{semicolon}
 use Rattle.cpp_syntax.proofs.Alone.{passed, refused}
-use Rattle.cpp_syntax.proofs.Longest.{word_none, mark_none, seq_none, node_none, form_none, neither}
-use Rattle.cpp_syntax.proofs.Readers.{leaves_same, leaves_both, leaves_read, leaves_none, reads_seq, reads_word, reads_mark, reads_form, reads_left, reads_right, reads_taken, reads_left_out, reads_nothing, none_behind, none_seq, none_form, none_node}
-use Rattle.cpp_syntax.proofs.Loops.{reads_mark_next, within}
-use Rattle.cpp_parse_expr.proofs.Answering.{parsed_err, always_err, made, made_at_name, mark_and, word_and, leaf_there, none_unlike, none_second, none_second_mark, parsed_left, parsed_right, parsed_form}
-use Rattle.cpp_parse.proofs.Reached.{made_at_token, none_marked}
-use Rattle.cpp_syntax.specs.Symbols.{is_name, is_type_name, is_integer, is_zero, is_string, is_cv, is_virt, is_class_key, is_access, is_specifier, optimize_word, final_word, using_word, enum_word, extern_word, inline_word, virtual_word, explicit_word, open_paren, close_paren, open_bracket, close_bracket, open_brace, close_brace, semicolon, comma, colon, colon_colon, tilde, equal}
-use Rattle.cpp_ast.specs.declared.arena.At.{At}
-use Rattle.cpp_ast.specs.declared.kinds.NodeKind.TheVariants.{DeclSpecifier, VirtSpecifier, AccessSpecifier, ClassKey, Attribute}
-use Rattle.cpp_syntax.specs.Rules.{◌·◌, word, form, member_declaration, declaration, simple_declaration, member_initializer, enumerator_definition, listed_member, declaration_head}
-use Rattle.cpp_syntax.specs.Grammar.{leaf}
-use Rattle.cpp_syntax.specs.Texts.{no_read, first_or, reads_node}
-use Rattle.cpp_syntax.specs.View.{gains}
-use Rattle.cpp_syntax.proofs.Firsts.{not_empty}
-use Rattle.cpp_syntax.proofs.Leaves.{always_leaf, always_taken}
-use Rattle.cpp_syntax.proofs.Longest.{seq_ends}
-use Rattle.cpp_syntax.proofs.Readers.{gains_none}
-use Rattle.cpp_syntax.proofs.Loops.{ReadsChain, ReadsMany, loop_begins, loop_more, any_begins, any_more, seq_behind}
-use Rattle.cpp_parse_expr.proofs.Answering.{leaves_chain, chain_done, many_done}
-use Rattle.cpp_parse_expr.proofs.Rounded.{no_around, round_both}
-use Rattle.cpp_parse_expr.proofs.Suffixed.{parsed_seq, parsed_word, parsed_mark}
-use Rattle.cpp_parse.proofs.Reached.{many_read, leaves_any}
-use Rattle.cpp_parse.proofs.Specified.{attribute_there, attribute_read, attribute_taken, attribute_left_out}
-use Rattle.cpp_parse_expr.proofs.Answering.{reads_from}
-use Rattle.cpp_parse_expr.proofs.Suffixed.{parsed_instead, with_none_before, with_none_behind, with_same_before}
-use Rattle.cpp_parse.proofs.Reached.{reached, none_reached, none_skipped, parsed_from, none_left, none_right}
-use Rattle.cpp_parse.proofs.Definitions.{definition_by, no_objects, no_specifier, no_declared_class, no_block, no_linked, no_simple, no_linkage, linkage_seen, inline_taken, inline_left_out, no_name, no_colons, a_destructor, a_constructor, no_special}
-use Rattle.cpp_parse.proofs.Constructors.{unattributed, explicit_none, constructors_none, no_type_name, no_open, single_none, function_none, initialized_none, listed_none, untyped_initialized, untyped_listed, name_seen, types_seen, constructor_seen, virtual_seen, tilde_seen}
-use Rattle.cpp_parse.proofs.Listing.{ReadsEnumerators, enumerators_begin, enumerators_more, enumerators_open, enumerators_end, leaves_enumerators}
-use Rattle.cpp_parse.proofs.Named.{member_made, none_name}
-use Rattle.cpp_parse.proofs.Shapes.{no_single, no_initialized, no_listed, no_function_body, not_pure, not_closed, zero_alone, comma_behind, comma_open, no_more, no_value, no_equal_listed, none_but_zero}
-use Rattle.std.proofs.Common.{true≢false}
-use Rattle.cpp_syntax.proofs.Longest.{node_long, where_none}
-use Rattle.cpp_syntax.proofs.Loops.{reads_where}
-use Rattle.cpp_parse.proofs.Named.{none_grouped}
-use Rattle.cpp_parse.proofs.Reached.{shape_err, leaves_gained, no_body_by}
+use Rattle.cpp_syntax.proofs.Longest.{word_none, seq_none, node_none}
+use Rattle.cpp_syntax.proofs.Readers.{leaves_same, leaves_both, leaves_read, reads_seq, reads_word, none_behind}
+use Rattle.cpp_syntax.proofs.Loops.{reads_mark_next}
+use Rattle.cpp_parse_expr.proofs.Answering.{parsed_err, made_at_name}
+use Rattle.cpp_parse.proofs.Reached.{none_marked}
 use Rattle.cpp_parse.proofs.single_members.single_declaration.Goals as goal
 
 pub returns-in_err-typed : goal.returns-in_err-typed
@@ -45,19 +16,33 @@ pub returns-in_err-named : goal.returns-in_err-named
 returns-in_err-named c = parsed_err _ _ _ _ c.from_residual-in_err-named.result c.from_residual-in_err-named.ensures.0 (leaves_both (leaves_read c.in_ok-behind.ensures) (leaves_both (leaves_read c.in_ok-typed.ensures) (c.in_err-named.ensures)))
 
 pub returns-in_default : goal.returns-in_default
-returns-in_default c = let x = rw c.in_default.is at c.in_ok-named.ensures in (leaves_both (leaves_read c.in_ok-behind.ensures) (leaves_both (leaves_read c.in_ok-typed.ensures) (x.0)), node_none (none_marked (none_behind c.in_ok-behind.ensures (none_behind c.in_ok-typed.ensures (seq_none (x.1)) refl refl refl) refl refl refl)))
+returns-in_default c =
+    let x = rw c.in_default.is at c.in_ok-named.ensures in
+    (leaves_both (leaves_read c.in_ok-behind.ensures) (leaves_both (leaves_read c.in_ok-typed.ensures) (x.0)), node_none (none_marked (none_behind c.in_ok-behind.ensures (none_behind c.in_ok-typed.ensures (seq_none (x.1)) refl refl refl) refl refl refl)))
 
 pub returns-in_err-end : goal.returns-in_err-end
 returns-in_err-end c = parsed_err _ _ _ _ c.from_residual-in_err-end.result c.from_residual-in_err-end.ensures.0 (leaves_both (leaves_read c.in_ok-behind.ensures) (leaves_both (leaves_read c.in_ok-typed.ensures) (leaves_both (leaves_read (rw c.in-Some.is at c.in_ok-named.ensures)) (c.in_err-end.ensures))))
 
 pub returns-in_default-2 : goal.returns-in_default-2
-returns-in_default-2 c = let x = rw c.in_default-2.is at c.in_ok-end.ensures in (leaves_both (leaves_read c.in_ok-behind.ensures) (leaves_both (leaves_read c.in_ok-typed.ensures) (leaves_both (leaves_read (rw c.in-Some.is at c.in_ok-named.ensures)) (x.0))), node_none (none_marked (none_behind c.in_ok-behind.ensures (none_behind c.in_ok-typed.ensures (none_behind (rw c.in-Some.is at c.in_ok-named.ensures) (seq_none (x.1)) refl refl refl) refl refl refl) refl refl refl)))
+returns-in_default-2 c =
+    let read_named = rw c.in-Some.is at c.in_ok-named.ensures in
+    let x = rw c.in_default-2.is at c.in_ok-end.ensures in
+    (leaves_both (leaves_read c.in_ok-behind.ensures) (leaves_both (leaves_read c.in_ok-typed.ensures) (leaves_both (leaves_read read_named) (x.0))), node_none (none_marked (none_behind c.in_ok-behind.ensures (none_behind c.in_ok-typed.ensures (none_behind read_named (seq_none (x.1)) refl refl refl) refl refl refl) refl refl refl)))
 
 pub returns-then-not-is_at : goal.returns-then-not-is_at
-returns-then-not-is_at c = (leaves_both (leaves_read c.in_ok-behind.ensures) (leaves_both (leaves_read c.in_ok-typed.ensures) (leaves_both (leaves_read (rw c.in-Some.is at c.in_ok-named.ensures)) (leaves_both (leaves_read (rw c.in-Some-2.is at c.in_ok-end.ensures)) (leaves_same c.refuse.ensures)))), node_none (none_marked (none_behind c.in_ok-behind.ensures (none_behind c.in_ok-typed.ensures (none_behind (rw c.in-Some.is at c.in_ok-named.ensures) (none_behind (rw c.in-Some-2.is at c.in_ok-end.ensures) (word_none (refused semicolon symbol.Semicolon refl _ (c.if-not-is_at.ensures.no refl))) refl refl refl) refl refl refl) refl refl refl) refl refl refl)))
+returns-then-not-is_at c =
+    let read_named = rw c.in-Some.is at c.in_ok-named.ensures in
+    let read_end = rw c.in-Some-2.is at c.in_ok-end.ensures in
+    (leaves_both (leaves_read c.in_ok-behind.ensures) (leaves_both (leaves_read c.in_ok-typed.ensures) (leaves_both (leaves_read read_named) (leaves_both (leaves_read read_end) (leaves_same c.refuse.ensures)))), node_none (none_marked (none_behind c.in_ok-behind.ensures (none_behind c.in_ok-typed.ensures (none_behind read_named (none_behind read_end (word_none (refused semicolon symbol.Semicolon refl _ (c.if-not-is_at.ensures.no refl))) refl refl refl) refl refl refl) refl refl refl) refl refl refl)))
 
 pub returns-in_err-node_from : goal.returns-in_err-node_from
-returns-in_err-node_from c = parsed_err _ _ _ _ c.from_residual-in_err-node_from.result c.from_residual-in_err-node_from.ensures.0 (leaves_both (leaves_read c.in_ok-behind.ensures) (leaves_both (leaves_read c.in_ok-typed.ensures) (leaves_both (leaves_read (rw c.in-Some.is at c.in_ok-named.ensures)) (leaves_both (leaves_read (rw c.in-Some-2.is at c.in_ok-end.ensures)) (leaves_same c.in_err-node_from.ensures.memory)))))
+returns-in_err-node_from c =
+    let read_named = rw c.in-Some.is at c.in_ok-named.ensures in
+    let read_end = rw c.in-Some-2.is at c.in_ok-end.ensures in
+    parsed_err _ _ _ _ c.from_residual-in_err-node_from.result c.from_residual-in_err-node_from.ensures.0 (leaves_both (leaves_read c.in_ok-behind.ensures) (leaves_both (leaves_read c.in_ok-typed.ensures) (leaves_both (leaves_read read_named) (leaves_both (leaves_read read_end) (leaves_same c.in_err-node_from.ensures.memory)))))
 
 pub returns : goal.returns
-returns c = made_at_name (reads_seq (reads_mark_next c.requires.here) (reads_seq c.in_ok-behind.ensures (reads_seq c.in_ok-typed.ensures (reads_seq (rw c.in-Some.is at c.in_ok-named.ensures) (reads_seq (rw c.in-Some-2.is at c.in_ok-end.ensures) (reads_word (passed semicolon symbol.Semicolon refl _ (c.if-not-is_at.ensures.yes refl)) (c.if-not-is_at.ensures.inside refl refl)) refl refl) refl refl) refl refl) refl refl) refl refl) c.checkpoint-start.ensures c.in_ok-node_from.ensures.read
+returns c =
+    let read_named = rw c.in-Some.is at c.in_ok-named.ensures in
+    let read_end = rw c.in-Some-2.is at c.in_ok-end.ensures in
+    made_at_name (reads_seq (reads_mark_next c.requires.here) (reads_seq c.in_ok-behind.ensures (reads_seq c.in_ok-typed.ensures (reads_seq read_named (reads_seq read_end (reads_word (passed semicolon symbol.Semicolon refl _ (c.if-not-is_at.ensures.yes refl)) (c.if-not-is_at.ensures.inside refl refl)) refl refl) refl refl) refl refl) refl refl) refl refl) c.checkpoint-start.ensures c.in_ok-node_from.ensures.read
