@@ -12,3 +12,10 @@ pub mod Dispatch
 pub mod Initialised
 pub mod Listing
 pub mod Parts
+pub mod Reached
+pub mod Specified
+pub mod Named
+pub mod Definitions
+pub mod Shapes
+pub mod Beginnings
+pub mod Enumerators

@@ -3,3 +3,5 @@ pub mod NotedBodies
 pub mod Steps
 pub mod Lines
 pub mod Units
+pub mod Alternatives
+pub mod Answers

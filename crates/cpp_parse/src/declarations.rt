@@ -1,10 +1,21 @@
 //! Declarations of a unit: C++14 clause 7 and 8.4.
 
-ghost use Rattle.std.specs.Prelude.{◌≤◌, None, length};
-ghost use Rattle.cpp_syntax.specs.Rules.{form, translation_unit};
-ghost use Rattle.cpp_syntax.specs.Parsed.{AlwaysRule};
+ghost use Rattle.std.specs.Prelude.{◌≡◌, ◌≤◌, true, length, Some, None};
+ghost use Rattle.cpp_syntax.specs.Source.{symbol_at};
+ghost use Rattle.cpp_syntax.specs.Symbols.{is_class_key};
+ghost use Rattle.cpp_syntax.specs.Rules.{◌∣◌, form, many, declaration, simple_declaration, translation_unit};
+ghost use Rattle.cpp_syntax.specs.Parsed.{ParsedRule, AlwaysRule};
+ghost use Rattle.cpp_parse.specs.Alternatives.{alias_declaration, class_declaration, class_specifier, linkage_specification, linkage_block};
+ghost use Rattle.cpp_parse.specs.Answers.{LinkageSeen};
 
-use cpp_syntax::{Builder, TypeNames};
+use crate::classes::{class_declaration, class_specifier, enum_specifier};
+use crate::functions::simple_declaration;
+use crate::specifiers::node_at_token;
+use crate::symbols::is_class_key_at;
+use cpp_ast::NodeKind;
+use cpp_parse_expr::declarators::type_id;
+use cpp_syntax::read::{leaf, node};
+use cpp_syntax::{Builder, Symbol, TypeNames};
 use std::alloc::AllocError;
 
 /// The declarations of a unit, as many as follow one another.
@@ -17,5 +28,227 @@ pub fn translation_unit(
     requires here { at ≤ length text.now.symbols }
     ensures { AlwaysRule text.now (form translation_unit) at None out.old out.new result }
 {
-    Ok(at)
+    let mut next = at;
+    'declarations: loop {
+        let mark = out.checkpoint();
+        let Some(behind) = declaration(text, next, room, out)? else {
+            out.cut(mark);
+            return Ok(next);
+        };
+        next = behind;
+    }
+}
+
+/// A declaration of a unit.
+pub fn declaration(
+    text: &TypeNames,
+    at: usize,
+    room: u32,
+    out: &mut Builder,
+) -> Result<Option<usize>, AllocError>
+    requires here { at ≤ length text.now.symbols }
+    ensures { ParsedRule text.now (form declaration) at None out.old out.new result }
+{
+    if text.is_at(at, Symbol::Using) {
+        return alias_declaration(text, at, room, out);
+    }
+    if is_class_key_at(text, at) {
+        return class_or_specifier(text, at, room, out);
+    }
+    if text.is_at(at, Symbol::Enum) {
+        return enum_specifier(text, at, room, out);
+    }
+    if text.is_at(at, Symbol::Semicolon) {
+        return Ok(Some(leaf(text, at, NodeKind::EmptyDeclaration, out)?));
+    }
+    if begins_linkage(text, at) {
+        return linkage(text, at, room, out);
+    }
+    simple_declaration(text, at, room, out)
+}
+
+/// `using N = type;`
+fn alias_declaration(
+    text: &TypeNames,
+    at: usize,
+    room: u32,
+    out: &mut Builder,
+) -> Result<Option<usize>, AllocError>
+    requires here { at ≤ length text.now.symbols }
+    ensures { ParsedRule text.now alias_declaration at None out.old out.new result }
+{
+    if !text.is_at(at, Symbol::Using) {
+        out.refuse(at);
+        return Ok(None);
+    }
+    let name = at + 1;
+    if !text.is_name_at(name) {
+        out.refuse(name);
+        return Ok(None);
+    }
+    let equal = name + 1;
+    if !text.is_at(equal, Symbol::Equal) {
+        out.refuse(equal);
+        return Ok(None);
+    }
+    let start = out.checkpoint();
+    let Some(end) = type_id(text, equal + 1, room, out)? else {
+        return Ok(None);
+    };
+    if !text.is_at(end, Symbol::Semicolon) {
+        out.refuse(end);
+        return Ok(None);
+    }
+    node_at_token(
+        text,
+        at,
+        NodeKind::AliasDeclaration,
+        name as u32,
+        start,
+        out,
+    )?;
+    Ok(Some(end + 1))
+}
+
+/// A class, declared alone or with its members.
+fn class_or_specifier(
+    text: &TypeNames,
+    at: usize,
+    room: u32,
+    out: &mut Builder,
+) -> Result<Option<usize>, AllocError>
+    requires here { at ≤ length text.now.symbols }
+    requires begins { is_class_key (symbol_at text.now at) ≡ true }
+    requires few { length text.now.symbols ≤ 1048576 }
+    ensures { ParsedRule text.now (class_declaration ∣ class_specifier) at None out.old out.new result }
+{
+    let name = at + 1;
+    if text.is_at(name + 1, Symbol::Semicolon) {
+        return class_declaration(text, at, out);
+    }
+    class_specifier(text, at, room, out)
+}
+
+/// Whether `extern` and a string stand at a place.
+fn begins_linkage(text: &TypeNames, at: usize) -> bool
+    ensures { LinkageSeen text.now at result }
+{
+    if !text.is_at(at, Symbol::Extern) {
+        return false;
+    }
+    text.is_at(at + 1, Symbol::String)
+}
+
+/// Declarations with the linkage of a language.
+fn linkage(
+    text: &TypeNames,
+    at: usize,
+    room: u32,
+    out: &mut Builder,
+) -> Result<Option<usize>, AllocError>
+    requires here { at ≤ length text.now.symbols }
+    requires few { length text.now.symbols ≤ 1048576 }
+    ensures { ParsedRule text.now (linkage_specification ∣ linkage_block) at None out.old out.new result }
+{
+    let language = at + 1;
+    if text.is_at(language + 1, Symbol::OpenBrace) {
+        return linkage_block(text, at, room, out);
+    }
+    linkage_specification(text, at, room, out)
+}
+
+/// A declaration with the linkage of a language.
+fn linkage_specification(
+    text: &TypeNames,
+    at: usize,
+    room: u32,
+    out: &mut Builder,
+) -> Result<Option<usize>, AllocError>
+    requires here { at ≤ length text.now.symbols }
+    ensures { ParsedRule text.now linkage_specification at None out.old out.new result }
+{
+    if !text.is_at(at, Symbol::Extern) {
+        out.refuse(at);
+        return Ok(None);
+    }
+    let language = at + 1;
+    if !text.is_at(language, Symbol::String) {
+        out.refuse(language);
+        return Ok(None);
+    }
+    let start = out.checkpoint();
+    let Some(next) = simple_declaration(text, language + 1, room, out)? else {
+        return Ok(None);
+    };
+    node(
+        text,
+        at,
+        NodeKind::LinkageSpecification,
+        Some(language as u32),
+        start,
+        out,
+    )?;
+    Ok(Some(next))
+}
+
+/// Declarations in braces with the linkage of a language.
+fn linkage_block(
+    text: &TypeNames,
+    at: usize,
+    room: u32,
+    out: &mut Builder,
+) -> Result<Option<usize>, AllocError>
+    requires here { at ≤ length text.now.symbols }
+    ensures { ParsedRule text.now linkage_block at None out.old out.new result }
+{
+    if !text.is_at(at, Symbol::Extern) {
+        out.refuse(at);
+        return Ok(None);
+    }
+    let language = at + 1;
+    if !text.is_at(language, Symbol::String) {
+        out.refuse(language);
+        return Ok(None);
+    }
+    let open = language + 1;
+    if !text.is_at(open, Symbol::OpenBrace) {
+        out.refuse(open);
+        return Ok(None);
+    }
+    let start = out.checkpoint();
+    let close = simple_declarations(text, open + 1, room, out)?;
+    if !text.is_at(close, Symbol::CloseBrace) {
+        out.refuse(close);
+        return Ok(None);
+    }
+    node(
+        text,
+        at,
+        NodeKind::LinkageBlock,
+        Some(language as u32),
+        start,
+        out,
+    )?;
+    Ok(Some(close + 1))
+}
+
+/// Simple declarations, as many as follow one another.
+fn simple_declarations(
+    text: &TypeNames,
+    at: usize,
+    room: u32,
+    out: &mut Builder,
+) -> Result<usize, AllocError>
+    requires here { at ≤ length text.now.symbols }
+    ensures { AlwaysRule text.now (many (form simple_declaration)) at None out.old out.new result }
+{
+    let mut next = at;
+    'declarations: loop {
+        let mark = out.checkpoint();
+        let Some(behind) = simple_declaration(text, next, room, out)? else {
+            out.cut(mark);
+            return Ok(next);
+        };
+        next = behind;
+    }
 }

@@ -3,12 +3,18 @@
 
 mod blocks;
 mod bodies;
+mod classes;
+mod constructors;
 pub mod declarations;
 mod depth;
+mod functions;
 pub mod initializers;
 mod loops;
 pub mod members;
 pub mod parse;
+mod single_members;
+mod specifiers;
 pub mod statements;
+mod symbols;
 
 pub use parse::parse_unit;

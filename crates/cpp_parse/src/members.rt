@@ -1,11 +1,43 @@
 //! Members of a class: C++14 clause 9.
 
-ghost use Rattle.std.specs.Prelude.{◌≤◌, None, length};
-ghost use Rattle.cpp_syntax.specs.Rules.{form, member_declaration};
-ghost use Rattle.cpp_syntax.specs.Parsed.{ParsedRule};
+ghost use Rattle.std.specs.Prelude.{◌≡◌, ◌≤◌, true, false, length, Some, None};
+ghost use Rattle.cpp_syntax.specs.Source.{symbol_at};
+ghost use Rattle.cpp_syntax.specs.Lookahead.{begins_types};
+ghost use Rattle.cpp_syntax.specs.Rules.{◌∣◌, form, member_declaration};
+ghost use Rattle.cpp_syntax.specs.Parsed.{ParsedRule, NoneOf};
+ghost use Rattle.cpp_parse.specs.Alternatives.{access_label, single_declaration, initialized_declaration, listed_declaration, member_function, constructor_declared, constructor_defined, destructor_declared, destructor_defined};
+ghost use Rattle.cpp_parse.specs.Answers.{ShapeFound, IsConstructor, IsDestructor, ParametersSeen};
 
-use cpp_syntax::{Builder, TypeNames};
+use crate::constructors::{constructor_body, plain_constructor, plain_destructor};
+use crate::single_members::{
+    initialized_declaration, listed_declaration, member_function, semicolon_end, single_declaration,
+};
+use crate::specifiers::{
+    attribute_end, node_from, optional_attribute, optional_explicit, optional_virtual,
+    virt_specifiers,
+};
+use crate::statements::compound_statement;
+use crate::symbols::{begins_types_at, is_access_at};
+use cpp_ast::NodeKind;
+use cpp_parse_expr::declarators::declarator;
+use cpp_parse_expr::expressions::assignment_expression;
+use cpp_parse_expr::types::type_specifier_seq;
+use cpp_syntax::read::node;
+use cpp_syntax::{Builder, Naming, Symbol, TypeNames};
 use std::alloc::AllocError;
+
+/// What a member is that begins with its type.
+#[derive(Clone, Copy, Debug, PartialEq, Eq)]
+pub enum MemberShape {
+    /// A function with its body.
+    Function,
+    /// One member, which may be a pure function.
+    Single,
+    /// One member with an initializer.
+    Initialized,
+    /// Several members.
+    Listed,
+}
 
 /// A member of a class.
 pub fn member_declaration(
@@ -17,5 +49,224 @@ pub fn member_declaration(
     requires here { at ≤ length text.now.symbols }
     ensures { ParsedRule text.now (form member_declaration) at None out.old out.new result }
 {
-    Ok(None)
+    if is_access_at(text, at) {
+        return access_label(text, at, out);
+    }
+    if is_destructor(text, at) {
+        return destructor(text, at, room, out);
+    }
+    if is_constructor(text, at) {
+        return constructor(text, at, room, out);
+    }
+    if begins_types_at(text, at) {
+        return typed_member(text, at, room, out);
+    }
+    specified_member(text, at, room, out)
+}
+
+/// `public:`, `protected:` or `private:`.
+fn access_label(text: &TypeNames, at: usize, out: &mut Builder) -> Result<Option<usize>, AllocError>
+    requires here { at ≤ length text.now.symbols }
+    ensures { ParsedRule text.now access_label at None out.old out.new result }
+{
+    if !is_access_at(text, at) {
+        out.refuse(at);
+        return Ok(None);
+    }
+    let colon = at + 1;
+    if !text.is_at(colon, Symbol::Colon) {
+        out.refuse(colon);
+        return Ok(None);
+    }
+    let start = out.checkpoint();
+    node(text, at, NodeKind::AccessLabel, Some(at as u32), start, out)?;
+    Ok(Some(colon + 1))
+}
+
+/// Whether a member is a destructor: `~`, behind `virtual` or not.
+fn is_destructor(text: &TypeNames, at: usize) -> bool
+    ensures { IsDestructor text.now at result }
+{
+    if text.is_at(at, Symbol::Virtual) {
+        return text.is_at(at + 1, Symbol::Tilde);
+    }
+    text.is_at(at, Symbol::Tilde)
+}
+
+/// A destructor, declared or defined.
+fn destructor(
+    text: &TypeNames,
+    at: usize,
+    room: u32,
+    out: &mut Builder,
+) -> Result<Option<usize>, AllocError>
+    requires here { at ≤ length text.now.symbols }
+    ensures { ParsedRule text.now (destructor_declared ∣ destructor_defined) at None out.old out.new result }
+{
+    let start = out.checkpoint();
+    let named = optional_virtual(text, at, out)?;
+    let Some(behind) = plain_destructor(text, named, out)? else {
+        return Ok(None);
+    };
+    let end = virt_specifiers(text, behind, out)?;
+    if text.is_at(end, Symbol::Semicolon) {
+        node_from(text, at, NodeKind::DestructorDeclaration, start, out)?;
+        return Ok(Some(end + 1));
+    }
+    let Some(next) = compound_statement(text, end, room, out)? else {
+        return Ok(None);
+    };
+    node_from(text, at, NodeKind::DestructorDefinition, start, out)?;
+    Ok(Some(semicolon_end(text, next)))
+}
+
+/// Whether a member is a constructor: behind an attribute, `explicit`, or `T` with what parameters begin with in
+/// parentheses.
+fn is_constructor(text: &TypeNames, at: usize) -> bool
+    requires here { at ≤ length text.now.symbols }
+    ensures { IsConstructor text.now at result }
+{
+    let named = attribute_end(text, at);
+    if text.is_at(named, Symbol::Explicit) {
+        return true;
+    }
+    if !text.is_at(named, Symbol::TypeName) {
+        return false;
+    }
+    let open = named + 1;
+    if !text.is_at(open, Symbol::OpenParen) {
+        return false;
+    }
+    begins_parameters(text, open + 1)
+}
+
+/// Whether parameters or `)` begin at a place, and no declarator that names something does.
+fn begins_parameters(text: &TypeNames, at: usize) -> bool
+    ensures { ParametersSeen text.now at result }
+{
+    if text.is_at(at, Symbol::CloseParen) {
+        return true;
+    }
+    if text.is_at(at, Symbol::TypeName) {
+        return !text.is_at(at + 1, Symbol::ColonColon);
+    }
+    begins_types_at(text, at)
+}
+
+/// A constructor, declared or defined.
+fn constructor(
+    text: &TypeNames,
+    at: usize,
+    room: u32,
+    out: &mut Builder,
+) -> Result<Option<usize>, AllocError>
+    requires here { at ≤ length text.now.symbols }
+    ensures { ParsedRule text.now (constructor_declared ∣ constructor_defined) at None out.old out.new result }
+{
+    let start = out.checkpoint();
+    let behind = optional_attribute(text, at, out)?;
+    let named = optional_explicit(text, behind, out)?;
+    let Some(end) = plain_constructor(text, named, room, out)? else {
+        return Ok(None);
+    };
+    if text.is_at(end, Symbol::Semicolon) {
+        node_from(text, at, NodeKind::ConstructorDeclaration, start, out)?;
+        return Ok(Some(end + 1));
+    }
+    let Some(next) = constructor_body(text, end, room, out)? else {
+        return Ok(None);
+    };
+    node_from(text, at, NodeKind::ConstructorDefinition, start, out)?;
+    Ok(Some(semicolon_end(text, next)))
+}
+
+/// A member that begins with its type.
+fn typed_member(
+    text: &TypeNames,
+    at: usize,
+    room: u32,
+    out: &mut Builder,
+) -> Result<Option<usize>, AllocError>
+    requires here { at ≤ length text.now.symbols }
+    requires begins { begins_types (symbol_at text.now at) ≡ true }
+    ensures { ParsedRule text.now (single_declaration ∣ initialized_declaration ∣ listed_declaration ∣ member_function) at None out.old out.new result }
+{
+    let start = out.checkpoint();
+    let shape = member_shape(text, at, room, out)?;
+    out.cut(start);
+    match shape {
+        MemberShape::Function => member_function(text, at, room, out),
+        MemberShape::Single => single_declaration(text, at, room, out),
+        MemberShape::Initialized => initialized_declaration(text, at, room, out),
+        MemberShape::Listed => listed_declaration(text, at, room, out),
+    }
+}
+
+/// A member before whose type an attribute, `virtual` or `inline` stands.
+fn specified_member(
+    text: &TypeNames,
+    at: usize,
+    room: u32,
+    out: &mut Builder,
+) -> Result<Option<usize>, AllocError>
+    requires here { at ≤ length text.now.symbols }
+    ensures { ParsedRule text.now (single_declaration ∣ member_function) at None out.old out.new result }
+{
+    let start = out.checkpoint();
+    let behind = optional_attribute(text, at, out)?;
+    let typed = optional_virtual(text, behind, out)?;
+    if text.is_at(typed, Symbol::Inline) {
+        out.cut(start);
+        return member_function(text, at, room, out);
+    }
+    let shape = member_shape(text, typed, room, out)?;
+    out.cut(start);
+    match shape {
+        MemberShape::Function => member_function(text, at, room, out),
+        MemberShape::Single | MemberShape::Initialized | MemberShape::Listed => {
+            single_declaration(text, at, room, out)
+        }
+    }
+}
+
+/// What a member is whose type begins at a place, by what stands behind its first declarator.
+fn member_shape(
+    text: &TypeNames,
+    at: usize,
+    room: u32,
+    out: &mut Builder,
+) -> Result<MemberShape, AllocError>
+    requires here { at ≤ length text.now.symbols }
+    ensures { ShapeFound text.now at out.old out.new result }
+{
+    let Some(named) = type_specifier_seq(text, at, room, out)? else {
+        return Ok(MemberShape::Single);
+    };
+    let Some(behind) = declarator(text, named, Naming::Named, room, out)? else {
+        return Ok(MemberShape::Single);
+    };
+    if text.is_at(behind, Symbol::Comma) {
+        return Ok(MemberShape::Listed);
+    }
+    if !text.is_at(behind, Symbol::Equal) {
+        let body = virt_specifiers(text, behind, out)?;
+        if text.is_at(body, Symbol::OpenBrace) {
+            return Ok(MemberShape::Function);
+        }
+        return Ok(MemberShape::Single);
+    }
+    let value = behind + 1;
+    let Some(end) = assignment_expression(text, value, room, out)? else {
+        return Ok(MemberShape::Single);
+    };
+    if text.is_at(end, Symbol::Comma) {
+        return Ok(MemberShape::Listed);
+    }
+    if !text.is_at(value, Symbol::Zero) {
+        return Ok(MemberShape::Initialized);
+    }
+    if !text.is_at(value + 1, Symbol::Semicolon) {
+        return Ok(MemberShape::Initialized);
+    }
+    Ok(MemberShape::Single)
 }

@@ -1,0 +1,32 @@
+use Rattle.std.proofs.Common.{◌-◌, ℕ, Option, Some, None, refl, ap, arith}
+use Rattle.cpp_syntax.specs.declared.symbol.Symbol.TheVariants as symbol
+use Rattle.cpp_syntax.specs.Texts.{first_or}
+use Rattle.cpp_syntax.proofs.Readers.{leaves_both, gains_none}
+use Rattle.cpp_syntax.proofs.Loops.{any_begins, any_more}
+use Rattle.cpp_syntax.proofs.Firsts.{not_empty}
+use Rattle.cpp_parse_expr.proofs.Answering.{always_err}
+use Rattle.cpp_parse.proofs.Reached.{many_read, leaves_any}
+use Rattle.cpp_parse.proofs.classes.members.Goals as goal
+
+pub members-init : goal.members-init
+members-init c = (any_begins (gains_none c.args.out.now) c.requires.here, refl)
+
+pub returns-in_err-behind : goal.returns-in_err-behind
+returns-in_err-behind c = always_err _ _ _ _ c.from_residual.result c.from_residual.ensures.0 (leaves_both (leaves_any c.members.invariant.0) c.in_err-behind.ensures)
+
+pub returns-in_default : goal.returns-in_default
+returns-in_default c =
+    let x = rw c.in_default.is at c.in_ok-behind.ensures in
+    many_read c.members.invariant.0 c.members.invariant.1 x.1 refl (c.cut.ensures _ _ c.checkpoint-mark.ensures (x.0).gained)
+
+pub members-preserved : goal.members-preserved
+members-preserved c =
+    let x = rw c.in-Some.is at c.in_ok-behind.ensures in
+    (any_more c.members.invariant.0 x refl refl refl, ap (λ (k : Option ℕ). first_or k None) c.members.invariant.1)
+
+pub members-smaller : goal.members-smaller
+members-smaller c =
+    let x = rw c.in-Some.is at c.in_ok-behind.ensures in
+    let h = not_empty (x.long).derives refl in
+    let i = x.inside in
+    omega (arith, h, i)

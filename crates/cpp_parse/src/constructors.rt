@@ -1,0 +1,402 @@
+//! Constructors and destructors, and what initialises bases and members: C++14 clause 12.
+
+ghost use Rattle.std.specs.Prelude.{◌≡◌, ◌≤◌, length, Some, None};
+ghost use Rattle.cpp_ast.specs.declared.kinds.NodeKind.TheVariants.{ParameterDeclarationClause};
+ghost use Rattle.cpp_syntax.specs.Rules.{form, node, nothing, qualified, plain, constructor_declarator, destructor_declarator, member_initializer};
+ghost use Rattle.cpp_syntax.specs.Grammar.{list, member_initializers};
+ghost use Rattle.cpp_syntax.specs.Parsed.{ParsedRule, AlwaysRule};
+ghost use Rattle.cpp_parse.specs.Alternatives.{constructor_name, qualified_destructor_name, destructor_name, empty_parameters, initializer_arguments, base_initializer, named_initializer, constructor_body};
+
+use crate::specifiers::around_parameters;
+use crate::statements::compound_statement;
+use cpp_ast::NodeKind;
+use cpp_parse_expr::declarators::{function_parameters, function_qualifiers};
+use cpp_parse_expr::expressions::expression_list;
+use cpp_parse_expr::types::type_name;
+use cpp_syntax::read::{leaf, node};
+use cpp_syntax::{Builder, Naming, Symbol, TypeNames};
+use std::alloc::AllocError;
+
+/// `T::T` with parameters.
+pub fn qualified_constructor(
+    text: &TypeNames,
+    at: usize,
+    room: u32,
+    out: &mut Builder,
+) -> Result<Option<usize>, AllocError>
+    requires here { at ≤ length text.now.symbols }
+    ensures { ParsedRule text.now (form (constructor_declarator qualified)) at None out.old out.new result }
+{
+    let start = out.checkpoint();
+    let Some(behind) = constructor_name(text, at, out)? else {
+        return Ok(None);
+    };
+    let Some(next) = function_parameters(text, behind, Naming::Unnamed, room, out)? else {
+        return Ok(None);
+    };
+    around_parameters(text, behind, start, out)?;
+    Ok(Some(next))
+}
+
+/// `T` with parameters.
+pub fn plain_constructor(
+    text: &TypeNames,
+    at: usize,
+    room: u32,
+    out: &mut Builder,
+) -> Result<Option<usize>, AllocError>
+    requires here { at ≤ length text.now.symbols }
+    ensures { ParsedRule text.now (form (constructor_declarator plain)) at None out.old out.new result }
+{
+    if !text.is_at(at, Symbol::TypeName) {
+        out.refuse(at);
+        return Ok(None);
+    }
+    let start = out.checkpoint();
+    let behind = leaf(text, at, NodeKind::DeclaratorId, out)?;
+    let Some(next) = function_parameters(text, behind, Naming::Unnamed, room, out)? else {
+        return Ok(None);
+    };
+    around_parameters(text, behind, start, out)?;
+    Ok(Some(next))
+}
+
+/// `T::~T` with empty parentheses.
+pub fn qualified_destructor(
+    text: &TypeNames,
+    at: usize,
+    out: &mut Builder,
+) -> Result<Option<usize>, AllocError>
+    requires here { at ≤ length text.now.symbols }
+    ensures { ParsedRule text.now (form (destructor_declarator qualified)) at None out.old out.new result }
+{
+    let start = out.checkpoint();
+    let Some(behind) = qualified_destructor_name(text, at, out)? else {
+        return Ok(None);
+    };
+    let Some(next) = empty_parameters(text, behind, out)? else {
+        return Ok(None);
+    };
+    around_parameters(text, behind, start, out)?;
+    Ok(Some(next))
+}
+
+/// `~T` with empty parentheses.
+pub fn plain_destructor(
+    text: &TypeNames,
+    at: usize,
+    out: &mut Builder,
+) -> Result<Option<usize>, AllocError>
+    requires here { at ≤ length text.now.symbols }
+    ensures { ParsedRule text.now (form (destructor_declarator plain)) at None out.old out.new result }
+{
+    let start = out.checkpoint();
+    let Some(behind) = destructor_name(text, at, out)? else {
+        return Ok(None);
+    };
+    let Some(next) = empty_parameters(text, behind, out)? else {
+        return Ok(None);
+    };
+    around_parameters(text, behind, start, out)?;
+    Ok(Some(next))
+}
+
+/// `T::T`.
+fn constructor_name(
+    text: &TypeNames,
+    at: usize,
+    out: &mut Builder,
+) -> Result<Option<usize>, AllocError>
+    requires here { at ≤ length text.now.symbols }
+    ensures { ParsedRule text.now constructor_name at None out.old out.new result }
+{
+    if !text.is_at(at, Symbol::TypeName) {
+        out.refuse(at);
+        return Ok(None);
+    }
+    let start = out.checkpoint();
+    let colons = type_name(text, at, out)?;
+    if !text.is_at(colons, Symbol::ColonColon) {
+        out.refuse(colons);
+        return Ok(None);
+    }
+    let name = colons + 1;
+    if !text.is_at(name, Symbol::TypeName) {
+        out.refuse(name);
+        return Ok(None);
+    }
+    node(
+        text,
+        at,
+        NodeKind::QualifiedDeclaratorId,
+        Some(name as u32),
+        start,
+        out,
+    )?;
+    Ok(Some(name + 1))
+}
+
+/// `T::~T`.
+fn qualified_destructor_name(
+    text: &TypeNames,
+    at: usize,
+    out: &mut Builder,
+) -> Result<Option<usize>, AllocError>
+    requires here { at ≤ length text.now.symbols }
+    ensures { ParsedRule text.now qualified_destructor_name at None out.old out.new result }
+{
+    if !text.is_at(at, Symbol::TypeName) {
+        out.refuse(at);
+        return Ok(None);
+    }
+    let start = out.checkpoint();
+    let colons = type_name(text, at, out)?;
+    if !text.is_at(colons, Symbol::ColonColon) {
+        out.refuse(colons);
+        return Ok(None);
+    }
+    let tilde = colons + 1;
+    if !text.is_at(tilde, Symbol::Tilde) {
+        out.refuse(tilde);
+        return Ok(None);
+    }
+    let name = tilde + 1;
+    if !text.is_at(name, Symbol::TypeName) {
+        out.refuse(name);
+        return Ok(None);
+    }
+    node(
+        text,
+        at,
+        NodeKind::QualifiedDestructorId,
+        Some(name as u32),
+        start,
+        out,
+    )?;
+    Ok(Some(name + 1))
+}
+
+/// `~T`.
+fn destructor_name(
+    text: &TypeNames,
+    at: usize,
+    out: &mut Builder,
+) -> Result<Option<usize>, AllocError>
+    requires here { at ≤ length text.now.symbols }
+    ensures { ParsedRule text.now destructor_name at None out.old out.new result }
+{
+    if !text.is_at(at, Symbol::Tilde) {
+        out.refuse(at);
+        return Ok(None);
+    }
+    let name = at + 1;
+    if !text.is_at(name, Symbol::TypeName) {
+        out.refuse(name);
+        return Ok(None);
+    }
+    let start = out.checkpoint();
+    node(
+        text,
+        at,
+        NodeKind::DestructorId,
+        Some(name as u32),
+        start,
+        out,
+    )?;
+    Ok(Some(name + 1))
+}
+
+/// `()` and what follows it.
+fn empty_parameters(
+    text: &TypeNames,
+    at: usize,
+    out: &mut Builder,
+) -> Result<Option<usize>, AllocError>
+    requires here { at ≤ length text.now.symbols }
+    ensures { ParsedRule text.now empty_parameters at (Some at) out.old out.new result }
+{
+    if !text.is_at(at, Symbol::OpenParen) {
+        out.refuse(at);
+        return Ok(None);
+    }
+    let close = no_parameter(text, at + 1, out)?;
+    if !text.is_at(close, Symbol::CloseParen) {
+        out.refuse(close);
+        return Ok(None);
+    }
+    Ok(Some(function_qualifiers(text, close + 1, out)?))
+}
+
+/// The node of no parameters.
+fn no_parameter(text: &TypeNames, at: usize, out: &mut Builder) -> Result<usize, AllocError>
+    requires here { at ≤ length text.now.symbols }
+    ensures { AlwaysRule text.now (node ParameterDeclarationClause nothing) at None out.old out.new result }
+{
+    let start = out.checkpoint();
+    node(
+        text,
+        at,
+        NodeKind::ParameterDeclarationClause,
+        None,
+        start,
+        out,
+    )?;
+    Ok(at)
+}
+
+/// What initialises bases and members, and the body of a constructor.
+pub fn constructor_body(
+    text: &TypeNames,
+    at: usize,
+    room: u32,
+    out: &mut Builder,
+) -> Result<Option<usize>, AllocError>
+    requires here { at ≤ length text.now.symbols }
+    ensures { ParsedRule text.now constructor_body at None out.old out.new result }
+{
+    let body = member_initializers(text, at, room, out)?;
+    compound_statement(text, body, room, out)
+}
+
+/// `:` and what initialises bases and members, or nothing.
+fn member_initializers(
+    text: &TypeNames,
+    at: usize,
+    room: u32,
+    out: &mut Builder,
+) -> Result<usize, AllocError>
+    requires here { at ≤ length text.now.symbols }
+    ensures { AlwaysRule text.now member_initializers at None out.old out.new result }
+{
+    if !text.is_at(at, Symbol::Colon) {
+        out.refuse(at);
+        return Ok(at);
+    }
+    let mark = out.checkpoint();
+    let Some(next) = initializer_list(text, at + 1, room, out)? else {
+        out.cut(mark);
+        return Ok(at);
+    };
+    Ok(next)
+}
+
+/// What initialises bases and members, with commas.
+fn initializer_list(
+    text: &TypeNames,
+    at: usize,
+    room: u32,
+    out: &mut Builder,
+) -> Result<Option<usize>, AllocError>
+    requires here { at ≤ length text.now.symbols }
+    ensures { ParsedRule text.now (list (form member_initializer)) at None out.old out.new result }
+{
+    let Some(first) = member_initializer(text, at, room, out)? else {
+        return Ok(None);
+    };
+    let mut next = first;
+    'items: while text.is_at(next, Symbol::Comma) {
+        let mark = out.checkpoint();
+        let Some(behind) = member_initializer(text, next + 1, room, out)? else {
+            out.cut(mark);
+            return Ok(Some(next));
+        };
+        next = behind;
+    }
+    Ok(Some(next))
+}
+
+/// What initialises a base or a member.
+fn member_initializer(
+    text: &TypeNames,
+    at: usize,
+    room: u32,
+    out: &mut Builder,
+) -> Result<Option<usize>, AllocError>
+    requires here { at ≤ length text.now.symbols }
+    ensures { ParsedRule text.now (form member_initializer) at None out.old out.new result }
+{
+    if text.is_at(at, Symbol::TypeName) {
+        return base_initializer(text, at, room, out);
+    }
+    named_initializer(text, at, room, out)
+}
+
+/// What initialises a base.
+fn base_initializer(
+    text: &TypeNames,
+    at: usize,
+    room: u32,
+    out: &mut Builder,
+) -> Result<Option<usize>, AllocError>
+    requires here { at ≤ length text.now.symbols }
+    ensures { ParsedRule text.now base_initializer at None out.old out.new result }
+{
+    if !text.is_at(at, Symbol::TypeName) {
+        out.refuse(at);
+        return Ok(None);
+    }
+    let start = out.checkpoint();
+    let Some(next) = initializer_arguments(text, at + 1, room, out)? else {
+        return Ok(None);
+    };
+    node(
+        text,
+        at,
+        NodeKind::BaseInitializer,
+        Some(at as u32),
+        start,
+        out,
+    )?;
+    Ok(Some(next))
+}
+
+/// What initialises a member.
+fn named_initializer(
+    text: &TypeNames,
+    at: usize,
+    room: u32,
+    out: &mut Builder,
+) -> Result<Option<usize>, AllocError>
+    requires here { at ≤ length text.now.symbols }
+    ensures { ParsedRule text.now named_initializer at None out.old out.new result }
+{
+    if !text.is_name_at(at) {
+        out.refuse(at);
+        return Ok(None);
+    }
+    let start = out.checkpoint();
+    let Some(next) = initializer_arguments(text, at + 1, room, out)? else {
+        return Ok(None);
+    };
+    node(
+        text,
+        at,
+        NodeKind::MemberInitializer,
+        Some(at as u32),
+        start,
+        out,
+    )?;
+    Ok(Some(next))
+}
+
+/// The arguments that initialise, in parentheses.
+fn initializer_arguments(
+    text: &TypeNames,
+    at: usize,
+    room: u32,
+    out: &mut Builder,
+) -> Result<Option<usize>, AllocError>
+    requires here { at ≤ length text.now.symbols }
+    ensures { ParsedRule text.now initializer_arguments at None out.old out.new result }
+{
+    if !text.is_at(at, Symbol::OpenParen) {
+        out.refuse(at);
+        return Ok(None);
+    }
+    let close = expression_list(text, at + 1, room, out)?;
+    if !text.is_at(close, Symbol::CloseParen) {
+        out.refuse(close);
+        return Ok(None);
+    }
+    Ok(Some(close + 1))
+}
