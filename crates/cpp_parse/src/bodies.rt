@@ -11,7 +11,7 @@ use std::alloc::{AllocError, Global};
 use std::mem;
 
 /// How many calls may be nested in one body.
-const ROOM: u32 = 1_000;
+const ROOM: u32 = 500;
 
 /// What the tokens of a body are.
 #[derive(Drop)]

@@ -16,5 +16,7 @@ mod single_members;
 mod specifiers;
 pub mod statements;
 mod symbols;
+#[cfg(test)]
+mod tests;
 
 pub use parse::parse_unit;

@@ -18,10 +18,10 @@ use std::alloc::{AllocError, Global};
 use std::mem;
 
 /// How many calls may be nested.
-const ROOM: u32 = 1_000;
+const ROOM: u32 = 500;
 
 /// How many lambdas may be nested, so that the machine's own stack is never used up.
-const BODY_ROOM: u32 = 1_000;
+const BODY_ROOM: u32 = 500;
 
 /// How far the calls that look for a node that nests too deep may be nested.
 const DEPTH_ROOM: u32 = 10_000;
