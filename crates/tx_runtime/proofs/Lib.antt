@@ -1,5 +1,6 @@
 pub mod SaveLists
 pub mod Logs
+pub mod Levels
 pub mod Slots
 pub mod Engines
 pub mod Turned
@@ -16,3 +17,4 @@ pub mod Clashes
 pub mod Stands
 pub mod Whole
 pub mod Rises
+pub mod Growing

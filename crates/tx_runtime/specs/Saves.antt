@@ -1,10 +1,10 @@
 -- The savepoints of a log, as maps from words to what they held.
-use Rattle.std.specs.Prelude.{ℕ, ◌≡◌, Bool, true, false, ◌==◌, List, [], ◌∷◌, length, take, drop, reverse}
+use Rattle.std.specs.Prelude.{ℕ, ◌≡◌, ◌<◌, ◌-◌, Bool, true, false, ◌==◌, List, [], ◌∷◌, length, take, drop, reverse, slice_index}
 use Rattle.undo_log.specs.declared.notes.Note.{Note}
 use Rattle.undo_log.specs.declared.undo.Log.{Log}
 use Rattle.undo_log.specs.Notes.{first_note}
 use Rattle.undo_log.specs.View.{notes_of, marks_of}
-use Rattle.tx_serial.specs.Machine.{Save, no_save, hand, forget}
+use Rattle.tx_serial.specs.Machine.{Save, no_save, oldest, hand, forget}
 
 -- the savepoints of these marks, the newest first: each has what the first notes since it and before the next one have
 abbrev pub saves_by : List Note → List ℕ → List Save
@@ -43,3 +43,16 @@ begins_at notes (m ∷ ms) = m == 0
 pub record IsFresh (log : Log) : Type 0 where
   pub notes : notes_of log ≡ []
   pub marks : marks_of log ≡ 0 ∷ []
+
+-- the notes since this mark, from the oldest mark on counted
+abbrev pub notes_since : Log → ℕ → List Note
+notes_since log mark = drop (slice_index (marks_of log) mark) (notes_of log)
+
+-- the savepoints from the newest down to this one, which has its mark's number
+abbrev pub down_to : ℕ → List Save → List Save
+down_to mark ss = take (length ss - mark) ss
+
+-- Each mark has its savepoint: since the mark, the first note of a word has what the savepoints down to the mark's
+-- together put the word back to.
+abbrev pub ShowsLevels : Log → List Save → Type 0
+ShowsLevels log ss = (mark word : ℕ) → mark < length (marks_of log) → first_note (notes_since log mark) word ≡ oldest (down_to mark ss) word

@@ -1,6 +1,7 @@
 //! Giving up and closing: one word a turn.
 ghost use Rattle.std.specs.Prelude.{◌≡◌, ℕ, ◌<◌, List, Some, None, length, slice_get, is_some, true, IfOk, OnErr};
 ghost use Rattle.tx_runtime.specs.Here.{IsOpen, GivesUp, Closes, Turns};
+ghost use Rattle.tx_runtime.specs.Room.{MayGrow};
 ghost use Rattle.tx_runtime.specs.Saves.{IsFresh};
 ghost use Rattle.own_table.specs.Table.{hold_of};
 ghost use Rattle.tx_events.specs.Memory.{word_bound};
@@ -55,6 +56,7 @@ impl<A: Actor> Engine<A, A::Saved> {
         requires here { GivesUp t (machine_in A.state A.saved_state self.old) }
         ensures turned { IfOk result (λ kind. Turns A.state A.saved_state A.thread t self.old kind self.new) }
         ensures same { OnErr result (machine_in A.state A.saved_state self.new ≡ machine_in A.state A.saved_state self.old) }
+        ensures room { OnErr result (MayGrow A.thread (place_in self.old) t (machine_in A.state A.saved_state self.old)) }
         ensures place { place_in self.new ≡ place_in self.old }
     {
         let count = self.holders.count(t);

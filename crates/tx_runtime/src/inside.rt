@@ -9,6 +9,7 @@ ghost use Rattle.tx_events.specs.declared.BlockKind.TheVariants.{Cancel};
 ghost use Rattle.tx_events.specs.declared.Reply.TheVariants.{Nothing};
 ghost use Rattle.tx_memory.specs.View.{words_of};
 ghost use Rattle.tx_runtime.specs.Here.{GoesInside, IsOpen, Turns, Chosen, PassesInside, LeavesBlock, Commits};
+ghost use Rattle.tx_runtime.specs.Room.{MayGrow};
 ghost use Rattle.tx_runtime.specs.Saves.{newest};
 ghost use Rattle.tx_serial.specs.Turn.{cancels};
 ghost use Rattle.tx_events.specs.declared.TurnKind.TheVariants.{Undone};
@@ -211,6 +212,7 @@ impl<A: Actor> Engine<A, A::Saved> {
         requires here { GoesInside A.is_reached A.thread t (machine_in A.state A.saved_state self.old) (Raise kind cancels) }
         ensures turned { IfOk result (λ kind. Turns A.state A.saved_state A.thread t self.old kind self.new) }
         ensures same { OnErr result (machine_in A.state A.saved_state self.new ≡ machine_in A.state A.saved_state self.old) }
+        ensures room { OnErr result (MayGrow A.thread (place_in self.old) t (machine_in A.state A.saved_state self.old)) }
         ensures place { place_in self.new ≡ place_in self.old }
     {
         match kind {
@@ -231,6 +233,7 @@ impl<A: Actor> Engine<A, A::Saved> {
         requires here { GoesInside A.is_reached A.thread t (machine_in A.state A.saved_state self.old) (Raise Cancel true) }
         ensures turned { IfOk result (λ kind. Turns A.state A.saved_state A.thread t self.old kind self.new) }
         ensures same { OnErr result (machine_in A.state A.saved_state self.new ≡ machine_in A.state A.saved_state self.old) }
+        ensures room { OnErr result (MayGrow A.thread (place_in self.old) t (machine_in A.state A.saved_state self.old)) }
         ensures place { place_in self.new ≡ place_in self.old }
     {
         if self.threads[t as usize].log.marks().len() == 0 {

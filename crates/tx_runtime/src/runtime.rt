@@ -43,8 +43,9 @@ impl<A: Actor> Runtime<A> {
     ghost use Rattle.choosers.specs.Answers.{KeepsRule};
     ghost use Rattle.tx_memory.specs.View.{place_of, words_of};
     ghost use Rattle.tx_runtime.specs.Here.{Chosen};
+    ghost use Rattle.tx_runtime.specs.Room.{MayGrow};
     ghost use Rattle.tx_runtime.specs.Runtime.{machine_of, place_at, limit_of, inside_of, inside_after, saves_in, ShowsActor, HoldsOf, Carries};
-    ghost use Rattle.tx_runtime.specs.Saves.{saves_of};
+    ghost use Rattle.tx_runtime.specs.Saves.{saves_of, ShowsLevels};
     ghost use Rattle.tx_serial.specs.Turn.{first_machine};
 
     /// The machine at the start: `main` is thread 0 and alone was started. As many threads as `threads` may be started.
@@ -90,7 +91,8 @@ impl<A: Actor> Runtime<A> {
         })
     }
 
-    /// One turn of the thread, where the policy is asked at a clash. On `AllocError` the machine is as before.
+    /// One turn of the thread, where the policy is asked at a clash. On `AllocError` the machine is as before. A turn of kind
+    /// `Undone` or `Released` does not answer it, but the last one of a transaction that gives up, which puts the thread back.
     pub fn turn<R: Rule, F: Fn(&Clash) -> Choice>(
         &mut self,
         t: u8,
@@ -109,6 +111,7 @@ impl<A: Actor> Runtime<A> {
             ≡ inside_after A.thread t (machine_of A.state A.saved_state self.old) kind (inside_of self.old) u) }
         ensures same { OnErr result (machine_of A.state A.saved_state self.new ≡ machine_of A.state A.saved_state self.old) }
         ensures kept { OnErr result ((u : ℕ) → inside_of self.new u ≡ inside_of self.old u) }
+        ensures room { OnErr result (MayGrow A.thread (place_at self.old) t (machine_of A.state A.saved_state self.old)) }
         ensures place { place_at self.new ≡ place_at self.old }
         ensures limit { limit_of self.new ≡ limit_of self.old }
         ensures births { (machine_of A.state A.saved_state self.new).births ≤ (machine_of A.state A.saved_state self.old).births + 1 }
@@ -176,10 +179,11 @@ impl<A: Actor> Runtime<A> {
         &self.engine.holders
     }
 
-    /// The savepoints of the thread: one mark for each, which notes the words that it notes.
+    /// The savepoints of the thread: one mark for each. To go back to a mark is to put back its savepoint and all newer ones.
     pub fn log(&self, t: u8) -> &Log
         ensures saves { saves_of result.now ≡ saves_in ((machine_of A.state A.saved_state self.now).threads t) }
         ensures marks { length (marks_of result.now) ≡ length (saves_in ((machine_of A.state A.saved_state self.now).threads t)) }
+        ensures levels { ShowsLevels result.now (saves_in ((machine_of A.state A.saved_state self.now).threads t)) }
     {
         if (t as usize) < self.engine.threads.len() {
             &self.engine.threads[t as usize].log

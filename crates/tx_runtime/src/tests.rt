@@ -295,6 +295,30 @@ fn polite_yields_after_eight_waits(rt: HostRuntime) -> Result<(), Fail> {
     take_turns(&rt, &mut runtime, &policy, 2, &rows)
 }
 
+/// One turn of each thread, in turn, at which it goes on.
+fn one_turn_each(alloc: Global, threads: u8) -> Result<Vec<(u8, TurnKind)>, AllocError>
+    ensures { IfOk result (λ rows. length rows.items ≡ threads) }
+{
+    let mut rows = Vec::new(alloc);
+    for t in 0..threads {
+        rows.push((t, TurnKind::Ran))?;
+    }
+    Ok(rows)
+}
+
+#[test]
+fn sixty_four_threads_and_no_more(rt: HostRuntime) -> Result<(), Fail> {
+    // Each thread starts the next one.
+    let events = vec![in rt.alloc(); Event::Spawn { func: 0, arg: 0 }]?;
+    let policy: Policy<OlderRule, _> = Policy::new(|c: &Clash| older(c));
+    let mut runtime = start(rt.alloc(), events, 64)?;
+    let rows = one_turn_each(rt.alloc(), 64)?;
+    take_turns(&rt, &mut runtime, &policy, 64, &rows)?;
+    assert_eq!(rt; runtime.started(), 64);
+    assert_eq!(rt; runtime.end(), Some(End::Trapped(Trap::TooManyThreads)));
+    Ok(())
+}
+
 /// The program's end after this number of turns of the only thread.
 fn ends(
     rt: &impl Abort,

@@ -30,6 +30,7 @@ use Rattle.tx_runtime.proofs.Logs.{saves_count}
 use Rattle.tx_runtime.proofs.OutRows.{loaded_none, loaded_some}
 use Rattle.tx_runtime.proofs.Turned.{inside_row, if_ok, started_in, at_in, answers_at}
 use Rattle.tx_runtime.proofs.Rows.{alone_row, told_row, memory_row}
+use Rattle.tx_runtime.proofs.Growing.{cancel_may}
 use Rattle.tx_runtime.proofs.inside.Engine+A+A+Saved.cancel.Goals as goal
 
 pub returns-then-marks-eq0-clause-turned : goal.returns-then-marks-eq0-clause-turned
@@ -66,3 +67,6 @@ returns-in-None-clause-turned g c = if_ok c.leave_block.result (λ kind done ans
     ∙ (ap (λ z. commits (place_in q) c.args.t z l after i.birth i.kept i.saves) same
     ∙ (ap (λ z. commits z c.args.t m l after i.birth i.kept i.saves) c.undo_newest.ensures.place
     ∙ cancels_none (place_in self) c.args.t m l after i.birth i.kept i.saves none (no_least (is_noted (newest i.saves)) (word_bound (place_in self)) (λ v h. ap is_some (none v))))))) c.leave_block.ensures.done
+
+pub returns-in-None-clause-room : goal.returns-in-None-clause-room
+returns-in-None-clause-room g c = on_err c.leave_block.result (cancel_may g.A.Actor.state g.A.Actor.saved_state g.A.Actor.thread c.args.self.now c.args.t g.A.Actor.is_reached c.requires.here c.in-None.ensures.none)

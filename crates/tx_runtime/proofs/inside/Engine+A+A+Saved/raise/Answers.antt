@@ -33,6 +33,8 @@ use Rattle.tx_runtime.proofs.Rows.{alone_row, told_row, memory_row}
 use Rattle.std.specs.Fn.{FnReturnsAt}
 use Rattle.tx_runtime.proofs.Asked.{load_free, store_free, unasked}
 use Rattle.tx_serial.specs.Turn.{raises, halts}
+use Rattle.tx_serial.specs.Shows.{kind_cancels}
+use Rattle.tx_runtime.proofs.Growing.{inside_may}
 use Rattle.tx_runtime.proofs.inside.Engine+A+A+Saved.raise.Goals as goal
 
 pub returns-in-NoExcept-clause-turned : goal.returns-in-NoExcept-clause-turned
@@ -43,3 +45,12 @@ returns-in-Commit-clause-turned g c = if_ok c.leave_block.result (λ kind done a
 
 pub returns-else-cancels-clause-turned : goal.returns-else-cancels-clause-turned
 returns-else-cancels-clause-turned g c = if_ok c.halt-else-cancels.result (λ kind done answer. inside_row g.A.Actor.state g.A.Actor.saved_state g.A.Actor.is_reached g.A.Actor.thread c.args.self.now answer c.args.t (Raise c.args.kind c.args.cancels) _ c.requires.here (λ l at i. done ∙ (ap (λ z. raises (place_in c.args.self.now) c.args.t (machine_in g.A.Actor.state g.A.Actor.saved_state c.args.self.now) l (g.A.Actor.thread.after l.state Nothing) i.birth i.kept i.saves Cancel z) (sym c.if-cancels.false) ∙ ap (λ z. raises (place_in c.args.self.now) c.args.t (machine_in g.A.Actor.state g.A.Actor.saved_state c.args.self.now) l (g.A.Actor.thread.after l.state Nothing) i.birth i.kept i.saves z c.args.cancels) (sym c.in-Cancel.is)))) c.halt-else-cancels.ensures.done
+
+pub returns-in-NoExcept-clause-room : goal.returns-in-NoExcept-clause-room
+returns-in-NoExcept-clause-room g c = on_err c.halt.result (inside_may g.A.Actor.state g.A.Actor.saved_state g.A.Actor.thread c.args.self.now c.args.t g.A.Actor.is_reached (Raise c.args.kind c.args.cancels) c.requires.here (ap (λ z. kind_cancels z c.args.cancels) c.in-NoExcept.is))
+
+pub returns-in-Commit-clause-room : goal.returns-in-Commit-clause-room
+returns-in-Commit-clause-room g c = on_err c.leave_block.result (inside_may g.A.Actor.state g.A.Actor.saved_state g.A.Actor.thread c.args.self.now c.args.t g.A.Actor.is_reached (Raise c.args.kind c.args.cancels) c.requires.here (ap (λ z. kind_cancels z c.args.cancels) c.in-Commit.is))
+
+pub returns-else-cancels-clause-room : goal.returns-else-cancels-clause-room
+returns-else-cancels-clause-room g c = on_err c.halt-else-cancels.result (inside_may g.A.Actor.state g.A.Actor.saved_state g.A.Actor.thread c.args.self.now c.args.t g.A.Actor.is_reached (Raise c.args.kind c.args.cancels) c.requires.here (ap (λ z. kind_cancels z c.args.cancels) c.in-Cancel.is ∙ c.if-cancels.false))

@@ -47,6 +47,8 @@ use Rattle.tx_runtime.proofs.Asked.{alone_free}
 use Rattle.tx_runtime.specs.declared.thread.Stage.TheVariants.{Open, Undoing, Releasing}
 use Rattle.tx_events.specs.declared.Event.TheVariants.{Stop}
 use Rattle.tx_serial.specs.Turn.{out_does, in_does}
+use Rattle.tx_serial.specs.Shows.{cancelling}
+use Rattle.tx_runtime.proofs.Growing.{inside_may}
 use Rattle.tx_runtime.proofs.turn.Engine+A+A+Saved.turn_alone.Goals as goal
 
 pub returns-in-Stop-clause-turned : goal.returns-in-Stop-clause-turned
@@ -59,3 +61,21 @@ returns-in_default-clause-turned g c answer =
     inside_row g.A.Actor.state g.A.Actor.saved_state g.A.Actor.is_reached g.A.Actor.thread c.args.self.now answer c.args.t c.args.event _ c.requires.here
     (λ l at i. stays_in g.A.Actor.thread (place_in c.args.self.now) answer c.args.t (machine_in g.A.Actor.state g.A.Actor.saved_state c.args.self.now) l i.birth i.kept i.saves c.args.event c.requires.alone
     c.in_default.not-Silent c.in_default.not-BeginSync c.in_default.not-EndSync c.in_default.not-BeginAtomic c.in_default.not-EndAtomic c.in_default.not-Raise c.in_default.not-Stop)
+
+pub returns-in-Silent-clause-room : goal.returns-in-Silent-clause-room
+returns-in-Silent-clause-room g c = on_err c.pass.result (inside_may g.A.Actor.state g.A.Actor.saved_state g.A.Actor.thread c.args.self.now c.args.t g.A.Actor.is_reached c.args.event c.requires.here (ap cancelling c.in-Silent.is))
+
+pub returns-in-BeginSync-clause-room : goal.returns-in-BeginSync-clause-room
+returns-in-BeginSync-clause-room g c = on_err c.pass-in-BeginSync.result (inside_may g.A.Actor.state g.A.Actor.saved_state g.A.Actor.thread c.args.self.now c.args.t g.A.Actor.is_reached c.args.event c.requires.here (ap cancelling c.in-BeginSync.is))
+
+pub returns-in-EndSync-clause-room : goal.returns-in-EndSync-clause-room
+returns-in-EndSync-clause-room g c = on_err c.pass-in-EndSync.result (inside_may g.A.Actor.state g.A.Actor.saved_state g.A.Actor.thread c.args.self.now c.args.t g.A.Actor.is_reached c.args.event c.requires.here (ap cancelling c.in-EndSync.is))
+
+pub returns-in-BeginAtomic-clause-room : goal.returns-in-BeginAtomic-clause-room
+returns-in-BeginAtomic-clause-room g c = on_err c.begin_inner.result (inside_may g.A.Actor.state g.A.Actor.saved_state g.A.Actor.thread c.args.self.now c.args.t g.A.Actor.is_reached c.args.event c.requires.here (ap cancelling c.in-BeginAtomic.is))
+
+pub returns-in-EndAtomic-clause-room : goal.returns-in-EndAtomic-clause-room
+returns-in-EndAtomic-clause-room g c = on_err c.end_atomic.result (inside_may g.A.Actor.state g.A.Actor.saved_state g.A.Actor.thread c.args.self.now c.args.t g.A.Actor.is_reached c.args.event c.requires.here (ap cancelling c.in-EndAtomic.is))
+
+pub returns-in-Stop-clause-room : goal.returns-in-Stop-clause-room
+returns-in-Stop-clause-room g c = on_err c.halt.result (inside_may g.A.Actor.state g.A.Actor.saved_state g.A.Actor.thread c.args.self.now c.args.t g.A.Actor.is_reached c.args.event c.requires.here (ap cancelling c.in-Stop.is))

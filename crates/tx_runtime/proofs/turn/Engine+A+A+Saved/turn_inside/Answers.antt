@@ -47,6 +47,8 @@ use Rattle.tx_runtime.proofs.Asked.{alone_free}
 use Rattle.tx_runtime.specs.declared.thread.Stage.TheVariants.{Open, Undoing, Releasing}
 use Rattle.tx_events.specs.declared.Event.TheVariants.{Stop}
 use Rattle.tx_serial.specs.Turn.{out_does, in_does}
+use Rattle.tx_serial.specs.Shows.{cancelling}
+use Rattle.tx_runtime.proofs.Growing.{inside_may}
 use Rattle.tx_runtime.proofs.turn.Engine+A+A+Saved.turn_inside.Goals as goal
 
 pub returns-in_default-clause-chosen : goal.returns-in_default-clause-chosen
@@ -56,3 +58,9 @@ returns-in_default-clause-chosen g c = if_ok c.turn_alone.result (λ kind turned
     let there = started_thread g.A.Actor.state g.A.Actor.saved_state self c.args.t c.requires.here.started in
     let is = c.requires.here.at there.0 there.1 in
     unasked g.A.Actor.thread (place_in self) c.args.t m _ _ kind _ (alone_free g.A.Actor.thread (place_in self) c.args.t m there.0 c.args.event there.1 is.next (not_access c.args.event c.in_default.not-Load c.in_default.not-Store)) turned) c.turn_alone.ensures.turned
+
+pub returns-in-Load-clause-room : goal.returns-in-Load-clause-room
+returns-in-Load-clause-room g c = on_err c.load_inside.result (inside_may g.A.Actor.state g.A.Actor.saved_state g.A.Actor.thread c.args.self.now c.args.t g.A.Actor.is_reached c.args.event c.requires.here (ap cancelling c.in-Load.is))
+
+pub returns-in-Store-clause-room : goal.returns-in-Store-clause-room
+returns-in-Store-clause-room g c = on_err c.store_inside.result (inside_may g.A.Actor.state g.A.Actor.saved_state g.A.Actor.thread c.args.self.now c.args.t g.A.Actor.is_reached c.args.event c.requires.here (ap cancelling c.in-Store.is))
