@@ -1,4 +1,4 @@
-use Rattle.std.proofs.Common.{◌-◌, refl}
+use Rattle.std.proofs.Common.{refl}
 use Rattle.cpp_syntax.specs.declared.symbol.Symbol.TheVariants as symbol
 use Rattle.cpp_parse_expr.proofs.Answering.{parsed_err}
 use Rattle.cpp_parse_expr.proofs.Suffixed.{parsed_seq}

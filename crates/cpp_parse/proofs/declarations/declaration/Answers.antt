@@ -1,8 +1,7 @@
-use Rattle.std.proofs.Common.{◌-◌, None, refl, sym as back}
+use Rattle.std.proofs.Common.{None, refl, sym as back}
 use Rattle.cpp_syntax.specs.declared.symbol.Symbol.TheVariants as symbol
 use Rattle.cpp_syntax.specs.Symbols.{is_class_key, using_word, enum_word, extern_word, semicolon}
-use Rattle.cpp_syntax.specs.Rules.{declaration, simple_declaration}
-use Rattle.cpp_syntax.specs.Grammar.{leaf}
+use Rattle.cpp_syntax.specs.Rules.{declaration}
 use Rattle.cpp_syntax.proofs.Alone.{passed, refused}
 use Rattle.cpp_syntax.proofs.Longest.{word_none, mark_none, seq_none, node_none, neither}
 use Rattle.cpp_syntax.proofs.Readers.{leaves_same, reads_form, reads_right}

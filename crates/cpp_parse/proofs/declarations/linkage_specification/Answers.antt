@@ -1,4 +1,4 @@
-use Rattle.std.proofs.Common.{◌-◌, not, Some, refl}
+use Rattle.std.proofs.Common.{refl}
 use Rattle.cpp_syntax.specs.declared.symbol.Symbol.TheVariants as symbol
 use Rattle.cpp_syntax.specs.Symbols.{is_string, extern_word}
 use Rattle.cpp_syntax.proofs.Alone.{passed, refused}

@@ -1,4 +1,4 @@
-use Rattle.std.proofs.Common.{◌-◌, ℕ, Option, Some, None, refl, ap, arith}
+use Rattle.std.proofs.Common.{ℕ, Option, None, refl, ap, arith}
 use Rattle.cpp_syntax.specs.declared.symbol.Symbol.TheVariants as symbol
 use Rattle.cpp_syntax.specs.Texts.{first_or}
 use Rattle.cpp_syntax.proofs.Readers.{leaves_both, gains_none}

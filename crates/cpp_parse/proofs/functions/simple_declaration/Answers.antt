@@ -1,4 +1,4 @@
-use Rattle.std.proofs.Common.{◌-◌, None, refl}
+use Rattle.std.proofs.Common.{None, refl}
 use Rattle.cpp_syntax.specs.declared.symbol.Symbol.TheVariants as symbol
 use Rattle.cpp_syntax.specs.Rules.{simple_declaration}
 use Rattle.cpp_syntax.proofs.Longest.{neither}

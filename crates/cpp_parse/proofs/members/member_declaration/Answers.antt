@@ -1,4 +1,4 @@
-use Rattle.std.proofs.Common.{◌-◌, None, refl, sym as back}
+use Rattle.std.proofs.Common.{None, refl, sym as back}
 use Rattle.cpp_syntax.specs.declared.symbol.Symbol.TheVariants as symbol
 use Rattle.cpp_syntax.specs.Symbols.{is_access}
 use Rattle.cpp_syntax.specs.Rules.{member_declaration}

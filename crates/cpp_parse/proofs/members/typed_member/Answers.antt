@@ -1,4 +1,3 @@
-use Rattle.std.proofs.Common.{◌-◌}
 use Rattle.cpp_syntax.specs.declared.symbol.Symbol.TheVariants as symbol
 use Rattle.cpp_syntax.proofs.Longest.{neither}
 use Rattle.cpp_parse_expr.proofs.Answering.{parsed_err, parsed_left, parsed_right}

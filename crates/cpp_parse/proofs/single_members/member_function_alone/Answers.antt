@@ -1,4 +1,4 @@
-use Rattle.std.proofs.Common.{◌-◌, Some, refl}
+use Rattle.std.proofs.Common.{refl}
 use Rattle.cpp_syntax.specs.declared.symbol.Symbol.TheVariants as symbol
 use Rattle.cpp_syntax.proofs.Longest.{seq_none, node_none}
 use Rattle.cpp_syntax.proofs.Readers.{leaves_same, leaves_both, leaves_read, reads_seq, none_behind}
