@@ -1,10 +1,10 @@
 -- Where the policy is asked, and where it is not.
-use Rattle.std.proofs.Common.{ℕ, ◌≡◌, ◌⊎◌, inl, inr, Bool, true, false, cond, Option, Some, None, List, refl, ap, sym, ◌∙◌, subst}
-use Rattle.std.proofs.lemmas.Bool.{true≢false, false≢true}
+use Rattle.std.proofs.Common.{ℕ, ◌≡◌, ◌⊎◌, inl, inr, Bool, true, false, Some, None, List, refl, ap, sym, ◌∙◌, subst}
+use Rattle.std.proofs.lemmas.Bool.{true≢false}
 use Rattle.std.proofs.lemmas.Option.{same_Some}
 use Rattle.choosers.specs.declared.Clash.{Clash}
 use Rattle.choosers.specs.declared.Choice.{Choice}
-use Rattle.choosers.specs.declared.Choice.TheVariants.{Wait, Yield}
+use Rattle.choosers.specs.declared.Choice.TheVariants.{Wait}
 use Rattle.tx_events.specs.declared.Event.{Event}
 use Rattle.tx_events.specs.declared.Event.TheVariants.{Silent, Load, Store, Out, Inp, Spawn, Join, BeginAtomic, EndAtomic, Raise, BeginSync, EndSync, Done, Stop}
 use Rattle.tx_events.specs.declared.TurnKind.{TurnKind}
@@ -13,8 +13,8 @@ use Rattle.tx_events.specs.Thread.{Thread}
 use Rattle.tx_serial.specs.Machine.{Machine, Local, Save, Tx, NoTx, OpenTx, GivingUp, Closing, blocker, clash_of}
 use Rattle.tx_serial.specs.Turn.{turn}
 use Rattle.tx_serial.specs.Run.{is_access}
-use Rattle.tx_serial.specs.Kinds.{Accesses, Blocked, Asked, GoesOn}
-use Rattle.tx_runtime.specs.Here.{GoesOutside, IsOutside, GoesInside, IsInside, GivesUp, Closes, IsStill, Chosen}
+use Rattle.tx_serial.specs.Kinds.{Accesses, Asked}
+use Rattle.tx_runtime.specs.Here.{IsStill, Chosen}
 
 module _ {S : Type 0} (a : Thread S) (p : Place) (t : ℕ) (m : Machine S) where
   -- the access at which the policy is asked, by the thread's next event

@@ -1,16 +1,16 @@
 -- Which threads keep an access off.
-use Rattle.std.proofs.Common.{ℕ, zero, suc, ◌≡◌, ◌==◌, ◌<◌, ◌≤◌, ◌+◌, ◌^◌, Bool, true, false, cond, not, Option, Some, None, List, [], ◌∷◌, get_or, length, refl, ap, sym, ◌∙◌, subst, inl, inr, arith, add-one}
-use Rattle.std.specs.Prelude.{◌&&◌, is_some, nat_lt, min, max, slice_get}
+use Rattle.std.proofs.Common.{ℕ, zero, suc, ◌≡◌, ◌==◌, ◌<◌, ◌≤◌, ◌+◌, Bool, true, false, cond, not, Option, Some, None, List, [], ◌∷◌, get_or, length, refl, ap, sym, ◌∙◌, subst, inl, inr, arith, add-one}
+use Rattle.std.specs.Prelude.{◌&&◌, is_some, nat_lt, max, slice_get}
 use Rattle.std.proofs.Math.Path.{fun_ext}
-use Rattle.std.proofs.lemmas.Bool.{cases_lt, cases_Bool, ltb-true, ne_eqb, true≢false, false≢true}
-use Rattle.std.proofs.lemmas.Option.{slice_get_past, slice_get-get_or}
+use Rattle.std.proofs.lemmas.Bool.{cases_lt, ltb-true, ne_eqb}
+use Rattle.std.proofs.lemmas.Option.{slice_get-get_or}
 use Rattle.own_table.specs.declared.hold.Mode.{Mode}
 use Rattle.own_table.specs.declared.hold.Mode.TheVariants.{Read, Write}
 use Rattle.own_table.specs.declared.table.Holders.{Holders}
 use Rattle.own_table.specs.Bits.{has_bit}
 use Rattle.own_table.specs.Records.{blocks}
 use Rattle.own_table.specs.Table.{hold_of}
-use Rattle.tx_serial.specs.Machine.{Machine, Local, Save, Tx, elder, eldest, least, greatest, count, held_by, wrote_by, keeps_off, birth, birth_of, is_live, live_in}
+use Rattle.tx_serial.specs.Machine.{Save, elder, eldest, least, greatest, count, held_by, wrote_by, keeps_off, birth, birth_of, is_live, live_in}
 use Rattle.tx_runtime.specs.declared.thread.ThreadSlot.{ThreadSlot}
 use Rattle.tx_runtime.specs.declared.thread.Transaction.{Transaction}
 use Rattle.tx_runtime.specs.declared.thread.Stage.{Stage}

@@ -1,12 +1,11 @@
 -- The clash that a policy is shown.
-use Rattle.std.proofs.Common.{ℕ, ◌≡◌, ◌<◌, Bool, true, Some, List, length, get_or, ap, sym, ◌∙◌, subst}
+use Rattle.std.proofs.Common.{ℕ, ◌≡◌, Bool, length, get_or, ap, sym, ◌∙◌, subst}
 use Rattle.std.proofs.lemmas.Option.{same_Some}
 use Rattle.choosers.specs.declared.Clash.{Clash}
-use Rattle.choosers.specs.declared.Choice.{Choice}
 use Rattle.tx_events.specs.declared.Event.{Event}
 use Rattle.tx_events.specs.Memory.{Place}
 use Rattle.tx_events.specs.Thread.{Thread}
-use Rattle.tx_serial.specs.Machine.{Machine, Save, OpenTx, Local, birth, birth_of, keeps_off, greatest, count, waits_at, clash_of}
+use Rattle.tx_serial.specs.Machine.{Local, birth, birth_of, keeps_off, greatest, count, waits_at}
 use Rattle.tx_serial.specs.Kinds.{Accesses, Asked}
 use Rattle.tx_runtime.specs.declared.engine.Engine.{Engine}
 use Rattle.tx_runtime.specs.declared.access.Blockers.{Blockers}

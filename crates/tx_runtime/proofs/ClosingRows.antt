@@ -1,9 +1,8 @@
 -- The rows of a thread whose transaction gives up or is closing.
-use Rattle.std.proofs.Common.{ℕ, ◌≡◌, ◌<◌, Bool, true, false, cond, Option, Some, None, List, [], ◌∷◌, length, refl, ap, sym, ◌∙◌, subst, arith}
-use Rattle.std.proofs.Math.Path.{fun_ext}
+use Rattle.std.proofs.Common.{ℕ, ◌≡◌, ◌<◌, true, false, Option, Some, None, List, refl, ap, sym, ◌∙◌, arith}
 use Rattle.tx_events.specs.declared.TurnKind.TheVariants.{Idle, Undone, Released, Rolled}
 use Rattle.tx_events.specs.Memory.{Place, update, word_bound}
-use Rattle.tx_serial.specs.Machine.{Machine, Local, Save, Tx, NoTx, OpenTx, GivingUp, Closing, least, kept_or, oldest, forget_all, no_save}
+use Rattle.tx_serial.specs.Machine.{Machine, Local, Save, Tx, NoTx, GivingUp, Closing, least, kept_or, oldest}
 use Rattle.tx_serial.specs.Turn.{Turned, stays, steps, closes, again, gives_up, clashes, without, lets_go, given_back, gives_back}
 use Rattle.std.specs.Prelude.{nat_lt}
 use Rattle.std.proofs.lemmas.Bool.{ltb-true, ltb-false}

@@ -6,13 +6,13 @@ use Rattle.tx_runtime.specs.Here.{IsReady, IsReadyToNote}
 use Rattle.std.specs.List.{list_all}
 use Rattle.std.proofs.Math.ListN.{set, length-set}
 use Rattle.std.proofs.Math.Path.{fun_ext}
-use Rattle.std.proofs.lemmas.Bool.{eqb-true, eqb-false, cases_lt, cases_eq, eq-eqb, ne_eqb, ltb-true, lt-ltb, and_parts, false≢true}
+use Rattle.std.proofs.lemmas.Bool.{eqb-true, eqb-false, cases_lt, cases_eq, eq-eqb, ne_eqb, ltb-true, lt-ltb, and_parts}
 use Rattle.std.proofs.lemmas.List.{get_or-set_same, get_or-set_other}
 use Rattle.std.proofs.lemmas.List.Folds.{list_all-append}
-use Rattle.std.proofs.lemmas.Option.{slice_get_past, slice_get_read, slice_get-get_or, same_Some}
-use Rattle.tx_events.specs.Memory.{Place, can_access, update}
+use Rattle.std.proofs.lemmas.Option.{slice_get_past, slice_get-get_or, same_Some}
+use Rattle.tx_events.specs.Memory.{Place, update}
 use Rattle.own_table.specs.declared.table.Holders.{Holders}
-use Rattle.own_table.specs.Table.{hold_of, thread_limit}
+use Rattle.own_table.specs.Table.{hold_of}
 use Rattle.tx_serial.specs.Machine.{Machine, Local, Waits, no_waits, wait_more, birth_of}
 use Rattle.tx_serial.specs.Turn.{Turned, steps, waited, bare}
 use Rattle.tx_runtime.specs.Saves.{saves_of}

@@ -1,5 +1,5 @@
 -- Where a turn may take memory.
-use Rattle.std.proofs.Common.{ℕ, ℤ, ◌≡◌, ◌==◌, ◌<◌, Bool, true, false, cond, List, [], ◌∷◌, Option, Some, None, refl, ap, sym, ◌∙◌, subst}
+use Rattle.std.proofs.Common.{ℕ, ℤ, ◌≡◌, ◌==◌, Bool, true, false, cond, List, [], ◌∷◌, Option, Some, None, refl, ap, sym, ◌∙◌, subst}
 use Rattle.std.specs.Prelude.{nat_lt, is_some}
 use Rattle.std.proofs.lemmas.Bool.{true≢false, false≢true, eqb-false}
 use Rattle.choosers.specs.declared.Clash.{Clash}
@@ -9,13 +9,13 @@ use Rattle.tx_events.specs.declared.BlockKind.TheVariants.{NoExcept, Commit, Can
 use Rattle.tx_events.specs.declared.Event.{Event}
 use Rattle.tx_events.specs.declared.Event.TheVariants.{Silent, Load, Store, Out, Inp, Spawn, Join, BeginAtomic, EndAtomic, Raise, BeginSync, EndSync, Done, Stop}
 use Rattle.tx_events.specs.declared.Reply.TheVariants.{Nothing}
-use Rattle.tx_events.specs.Memory.{Place, update, can_access, word_of, word_bound}
+use Rattle.tx_events.specs.Memory.{Place, can_access, word_of, word_bound}
 use Rattle.tx_events.specs.Thread.{Thread}
 use Rattle.tx_events.specs.World.{target}
 use Rattle.tx_events.proofs.Runs.{update_same}
 use Rattle.tx_serial.specs.Machine.{Machine, Local, Save, OpenTx, GivingUp, blocker, busy, lock_owner, clash_of, least, is_noted}
 use Rattle.tx_serial.specs.Shows.{cancelling}
-use Rattle.tx_serial.specs.Turn.{Turned, load_out, store_out, begins, sync_idle, sync_in, joins, out_does, clashes, load_in, store_in, commits, cancels_by, cancels, in_does, without, given_back, gives_back, turn}
+use Rattle.tx_serial.specs.Turn.{Turned, load_out, store_out, begins, sync_idle, sync_in, joins, out_does, clashes, load_in, store_in, commits, cancels_by, in_does, without, given_back, gives_back, turn}
 use Rattle.tx_serial.proofs.Search.{eldest_some}
 use Rattle.tx_runtime.specs.declared.engine.Engine.{Engine}
 use Rattle.tx_runtime.specs.Here.{GoesOutside, GoesInside, GivesUp}

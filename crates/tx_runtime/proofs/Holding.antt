@@ -1,8 +1,8 @@
 -- Holds after one was taken or released.
-use Rattle.std.proofs.Common.{ℕ, zero, suc, ◌≡◌, ◌≢◌, ◌==◌, ◌<◌, ◌≤◌, ◌+◌, ◌-◌, ◌*◌, ◌/◌, ◌%◌, Bool, true, false, cond, not, Option, Some, None, List, [], ◌∷◌, length, refl, ap, sym, ◌∙◌, subst, inl, inr, arith}
+use Rattle.std.proofs.Common.{ℕ, ◌≡◌, ◌==◌, ◌<◌, ◌+◌, ◌-◌, ◌*◌, ◌/◌, ◌%◌, Bool, true, false, cond, Option, Some, None, List, [], ◌∷◌, length, refl, ap, sym, ◌∙◌, subst, inl, inr, arith}
 use Rattle.std.specs.Prelude.{◌&&◌, ◌||◌, is_some}
 use Rattle.std.proofs.Math.Path.{fun_ext}
-use Rattle.std.proofs.lemmas.Bool.{cases_Bool, cases_eq, eqb-true, eqb-false, eq-eqb, ne_eqb, and_parts, true≢false, false≢true}
+use Rattle.std.proofs.lemmas.Bool.{cases_Bool, eqb-true, eqb-false, eq-eqb, ne_eqb, true≢false, false≢true}
 use Rattle.tx_events.specs.Memory.{Place, update, can_access, is_mapped, in_globals, in_stacks, is_aligned, word_of, word_bound, globals_start, stacks_start, stack_stride}
 use Rattle.tx_events.proofs.Words.{and_right, access_below}
 use Rattle.tx_memory.specs.Words.{slot_of, stack_words}
@@ -13,7 +13,7 @@ use Rattle.own_table.specs.declared.hold.Mode.TheVariants.{Read, Write}
 use Rattle.own_table.specs.declared.table.Holders.{Holders}
 use Rattle.own_table.specs.Records.{raised}
 use Rattle.own_table.specs.Table.{hold_of, thread_limit}
-use Rattle.tx_serial.specs.Machine.{Tx, OpenTx, Local, least, no_save}
+use Rattle.tx_serial.specs.Machine.{Tx, OpenTx, least, no_save}
 use Rattle.tx_serial.proofs.Search.{eldest_none}
 use Rattle.tx_serial.specs.Turn.{without, again}
 use Rattle.tx_runtime.specs.declared.thread.ThreadSlot.{ThreadSlot}

@@ -1,21 +1,19 @@
 -- The rows of a thread in an open transaction, by what was found.
-use Rattle.std.proofs.Common.{ℕ, ◌≡◌, ◌<◌, ◌≤◌, Bool, true, false, cond, Option, Some, None, List, [], ◌∷◌, length, refl, ap, sym, ◌∙◌, subst, arith}
+use Rattle.std.proofs.Common.{ℕ, ◌≡◌, ◌<◌, Bool, true, false, cond, Option, Some, None, List, [], ◌∷◌, length, refl, ap, sym, ◌∙◌, subst, arith}
 use Rattle.std.proofs.Math.Path.{fun_ext}
-use Rattle.std.proofs.lemmas.Bool.{true≢false, false≢true}
+use Rattle.std.proofs.lemmas.Bool.{false≢true}
 use Rattle.choosers.specs.declared.Clash.{Clash}
 use Rattle.choosers.specs.declared.Choice.{Choice}
-use Rattle.tx_events.specs.declared.BlockKind.{BlockKind}
-use Rattle.tx_events.specs.declared.BlockKind.TheVariants.{NoExcept, Commit, Cancel}
-use Rattle.tx_events.specs.declared.End.TheVariants.{Trapped, Abort}
+use Rattle.tx_events.specs.declared.End.TheVariants.{Trapped}
 use Rattle.tx_events.specs.declared.Trap.TheVariants.{BadAddress}
 use Rattle.tx_events.specs.declared.Event.{Event}
 use Rattle.tx_events.specs.declared.Event.TheVariants.{Silent, Load, Store, Out, Inp, Spawn, Join, BeginAtomic, EndAtomic, Raise, BeginSync, EndSync, Done, Stop}
 use Rattle.tx_events.specs.declared.Reply.TheVariants.{Nothing, Loaded}
-use Rattle.tx_events.specs.declared.TurnKind.TheVariants.{Ran, Idle, Undone}
+use Rattle.tx_events.specs.declared.TurnKind.TheVariants.{Idle, Undone}
 use Rattle.tx_events.specs.Memory.{Place, update, can_access, word_of, word_bound, load, store}
 use Rattle.tx_events.specs.Thread.{Thread, Answers}
 use Rattle.tx_serial.specs.Machine.{Machine, Local, Save, OpenTx, blocker, clash_of, least, is_noted, hand, or_else, note, kept_or}
-use Rattle.tx_serial.specs.Turn.{Turned, ran, stays, told, steps, halts, load_in, store_in, clashes, closes, outermost, commits, cancels, cancels_by, raises, in_does}
+use Rattle.tx_serial.specs.Turn.{Turned, ran, stays, steps, halts, load_in, store_in, clashes, outermost, commits, cancels, cancels_by, in_does}
 use Rattle.tx_serial.specs.Kinds.{Accesses}
 use Rattle.tx_runtime.specs.Saves.{handed, newest, newest_without}
 use Rattle.tx_runtime.specs.Here.{is_passing, is_leaving}

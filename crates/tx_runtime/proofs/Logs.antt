@@ -1,14 +1,14 @@
 -- The savepoints of a log after each of its calls.
-use Rattle.std.proofs.Common.{ℕ, zero, suc, ◌≡◌, ◌==◌, ◌<◌, ◌≤◌, ◌+◌, ◌-◌, Bool, true, false, cond, Some, None, List, [], ◌∷◌, ◌++◌, length, take, drop, map, reverse, get_or, refl, ap, sym, ◌∙◌, subst, arith}
+use Rattle.std.proofs.Common.{ℕ, zero, suc, ◌≡◌, ◌<◌, ◌≤◌, ◌+◌, ◌-◌, true, cond, List, [], ◌∷◌, ◌++◌, length, take, map, reverse, get_or, refl, ap, sym, ◌∙◌, subst, arith}
 use Rattle.std.specs.Prelude.{slice_index}
-use Rattle.std.proofs.lemmas.List.{reverse-append, reverse-reverse}
+use Rattle.std.proofs.lemmas.List.{reverse-append}
 use Rattle.std.proofs.lemmas.Bool.{eqb-true, false≢true}
 use Rattle.undo_log.specs.declared.notes.Note.{Note}
 use Rattle.undo_log.specs.declared.undo.Log.{Log}
 use Rattle.undo_log.specs.Notes.{first_note, is_noted, others}
 use Rattle.undo_log.specs.View.{notes_of, marks_of, newest_start, newest_notes}
 use Rattle.undo_log.proofs.Lists.{moved_to}
-use Rattle.tx_serial.specs.Machine.{Save, no_save, oldest, forget, forget_all, hand, note}
+use Rattle.tx_serial.specs.Machine.{no_save, oldest, forget_all, note}
 use Rattle.tx_runtime.specs.Saves.{saves_by, saves_of, newest, handed, newest_without, begins_at}
 use Rattle.tx_runtime.proofs.SaveLists.{saves_marked, saves_noted, saves_dropped, saves_forgot, saves_forgot_all, oldest_first, Descends, EndsAtZero}
 

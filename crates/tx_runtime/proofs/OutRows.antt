@@ -1,7 +1,6 @@
 -- The rows of a thread without a transaction, by what was found.
-use Rattle.std.proofs.Common.{ℕ, ℤ, pos, negsuc, ◌≡◌, ◌==◌, ◌<◌, ◌≤◌, Bool, true, false, cond, Option, Some, None, List, refl, ap, sym, ◌∙◌, subst, arith}
+use Rattle.std.proofs.Common.{ℕ, ℤ, pos, negsuc, ◌≡◌, ◌==◌, Bool, true, false, cond, Option, Some, None, refl, ap, sym, ◌∙◌}
 use Rattle.std.specs.Prelude.{◌||◌, nat_lt}
-use Rattle.std.proofs.lemmas.Bool.{true≢false, false≢true}
 use Rattle.std.proofs.lemmas.Option.{same_Some}
 use Rattle.tx_events.specs.declared.BlockKind.{BlockKind}
 use Rattle.tx_events.specs.declared.End.TheVariants.{Trapped}
@@ -9,11 +8,11 @@ use Rattle.tx_events.specs.declared.Trap.TheVariants.{BadAddress, TooManyThreads
 use Rattle.tx_events.specs.declared.Event.TheVariants.{Load, Store, Join, Spawn, BeginSync, BeginAtomic}
 use Rattle.tx_events.specs.declared.Reply.TheVariants.{Nothing, Loaded, Id}
 use Rattle.tx_events.specs.declared.TurnKind.TheVariants.{BlockWait, JoinWait}
-use Rattle.tx_events.specs.Memory.{Place, can_access, word_of, load, store}
+use Rattle.tx_events.specs.Memory.{Place, can_access, word_of, load}
 use Rattle.tx_events.specs.Thread.{Thread}
 use Rattle.tx_events.specs.World.{target, lock_in}
 use Rattle.tx_serial.specs.Machine.{Machine, Local, blocker, lock_owner, busy}
-use Rattle.tx_serial.specs.Turn.{Turned, ran, stays, told, steps, halts, waited, load_out, store_out, begins, sync_in, sync_idle, spawns, joins, bare, number_of, out_does}
+use Rattle.tx_serial.specs.Turn.{ran, stays, told, steps, halts, waited, load_out, store_out, begins, sync_in, sync_idle, spawns, joins, number_of, out_does}
 
 -- what a load of the memory tells
 

@@ -1,5 +1,5 @@
 -- A turn draws at most one birth, and the lock's depth rises by at most one.
-use Rattle.std.proofs.Common.{ℕ, ℤ, ◌≡◌, ◌≤◌, ◌+◌, ◌-◌, Bool, true, false, cond, List, [], ◌∷◌, Option, Some, None, refl, ap, sym, ◌∙◌, arith}
+use Rattle.std.proofs.Common.{ℕ, ℤ, ◌≡◌, ◌≤◌, ◌+◌, ◌-◌, Bool, true, false, cond, List, [], ◌∷◌, Option, Some, None, ap, arith}
 use Rattle.std.specs.Prelude.{nat_lt}
 use Rattle.choosers.specs.declared.Clash.{Clash}
 use Rattle.choosers.specs.declared.Choice.{Choice}
@@ -15,7 +15,7 @@ use Rattle.tx_events.specs.Memory.{Place, can_access, word_of, word_bound}
 use Rattle.tx_events.specs.Thread.{Thread}
 use Rattle.tx_events.specs.World.{target}
 use Rattle.tx_serial.specs.Machine.{Machine, Local, Save, Tx, NoTx, OpenTx, GivingUp, Closing, blocker, busy, lock_owner, clash_of, least, is_noted}
-use Rattle.tx_serial.specs.Turn.{Turned, halts, load_out, store_out, begins, sync_idle, sync_in, joins, out_does, clashes, load_in, store_in, commits, cancels_by, cancels, raises, in_does, lets_go, gives_back, turn_in, turn_of, turn_at, turn}
+use Rattle.tx_serial.specs.Turn.{Turned, load_out, store_out, begins, sync_idle, sync_in, joins, out_does, clashes, load_in, store_in, commits, cancels_by, cancels, raises, in_does, lets_go, gives_back, turn_in, turn_of, turn_at, turn}
 
 module _ {S : Type 0} (a : Thread S) (p : Place) (t : ℕ) (m : Machine S) where
   abbrev Rises : Turned S → Type 0

@@ -1,5 +1,5 @@
 -- Machines after the steps of a row.
-use Rattle.std.proofs.Common.{ℕ, ◌≡◌, Bool, true, false, Option, Some, None, List, [], ◌∷◌, ◌++◌, ◌+◌, refl, ap, sym, ◌∙◌}
+use Rattle.std.proofs.Common.{ℕ, ◌≡◌, Option, Some, None, List, [], ◌∷◌, ◌++◌, ◌+◌, ap, ◌∙◌}
 use Rattle.tx_events.specs.declared.TurnKind.TheVariants.{Ran}
 use Rattle.tx_events.specs.declared.TurnKind.{TurnKind}
 use Rattle.tx_events.specs.World.{Lock, input_after}

@@ -1,16 +1,15 @@
 -- Savepoints by lists of notes and of marks.
-use Rattle.std.proofs.Common.{ℕ, zero, suc, ◌≡◌, ◌==◌, ◌<◌, ◌≤◌, ◌+◌, Bool, true, false, not, cond, Option, Some, None, List, [], ◌∷◌, ◌++◌, length, take, drop, map, refl, ap, sym, ◌∙◌, subst, inl, inr, arith, append-nil, length-drop}
+use Rattle.std.proofs.Common.{ℕ, ◌≡◌, ◌==◌, ◌≤◌, true, false, not, cond, Option, Some, None, List, [], ◌∷◌, ◌++◌, length, take, drop, map, refl, ap, sym, ◌∙◌, subst, inl, inr, arith}
 use Rattle.std.proofs.Math.Path.{fun_ext}
 use Rattle.std.proofs.Math.Seq.{take-length, drop-length}
 use Rattle.std.proofs.lemmas.List.{take-append-drop, take-append-le, drop-append-le, take_at, drop_at, length-take-le}
-use Rattle.std.proofs.lemmas.Bool.{eqb-true, eqb-false, eq-eqb, ne_eqb, cases_Bool, true≢false, false≢true}
-use Rattle.std.proofs.lemmas.List.Edits.{map_over_more}
+use Rattle.std.proofs.lemmas.Bool.{eqb-true, eqb-false, eq-eqb, ne_eqb, cases_Bool}
 use Rattle.tx_events.specs.Memory.{update}
 use Rattle.undo_log.specs.declared.notes.Note.{Note}
 use Rattle.undo_log.specs.Notes.{first_note, is_noted, others}
 use Rattle.undo_log.proofs.Lists.{moved_to}
 use Rattle.undo_log.proofs.PutBack.{first_by, first-cons, first_is, first_none, first_others}
-use Rattle.tx_serial.specs.Machine.{Save, no_save, kept_or, or_else, oldest, forget, forget_all, hand, note}
+use Rattle.tx_serial.specs.Machine.{no_save, kept_or, or_else, oldest, forget, forget_all, hand, note}
 use Rattle.tx_runtime.specs.Saves.{saves_by}
 
 or_none : (o : Option ℕ) → or_else o None ≡ o

@@ -1,7 +1,7 @@
 -- What a thread shows after a change of its log, and what a sound one is.
-use Rattle.std.proofs.Common.{ℕ, zero, suc, ◌≡◌, ◌==◌, ◌<◌, ◌≤◌, cond, reverse, Bool, true, false, Option, Some, None, List, [], ◌∷◌, length, take, drop, map, ◌++◌, not, subst, arith, refl, ap, sym, ◌∙◌, inl, inr}
+use Rattle.std.proofs.Common.{ℕ, zero, suc, ◌≡◌, ◌==◌, ◌<◌, ◌≤◌, cond, reverse, Bool, true, false, Option, Some, None, List, [], ◌∷◌, length, take, drop, map, ◌++◌, not, arith, refl, ap, sym, ◌∙◌, inl, inr}
 use Rattle.std.specs.Prelude.{◌&&◌, ◌||◌, All, is_some}
-use Rattle.std.proofs.lemmas.Bool.{and_parts, cases_Bool, eqb-true, eqb-false, eq-eqb, ne_eqb, false≢true, true≢false}
+use Rattle.std.proofs.lemmas.Bool.{and_parts, cases_Bool, eqb-true, ne_eqb, false≢true}
 use Rattle.std.proofs.Math.Path.{fun_ext}
 use Rattle.tx_events.specs.Memory.{Place, can_access, update}
 use Rattle.own_table.specs.declared.table.Holders.{Holders}

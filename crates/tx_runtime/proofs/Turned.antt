@@ -1,5 +1,5 @@
 -- A turn by the row that applies.
-use Rattle.std.proofs.Common.{ℕ, ◌≡◌, ◌<◌, length, get_or, subst, arith, Bool, true, false, cond, Option, Some, None, List, refl, ap, sym, ◌∙◌}
+use Rattle.std.proofs.Common.{ℕ, ◌≡◌, ◌<◌, length, get_or, subst, arith, false, cond, Some, None, List, ap, sym, ◌∙◌}
 use Rattle.choosers.specs.declared.Clash.{Clash}
 use Rattle.choosers.specs.declared.Choice.{Choice}
 use Rattle.tx_events.specs.declared.Event.{Event}

@@ -1,7 +1,7 @@
 -- The parts of a transaction, by what it shows.
-use Rattle.std.proofs.Common.{ℕ, ◌≡◌, ◌<◌, Bool, true, false, cond, Option, Some, None, List, [], ◌∷◌, length, refl, ap, sym, ◌∙◌, subst, arith}
+use Rattle.std.proofs.Common.{ℕ, ◌≡◌, true, Option, Some, None, List, length, refl, ap, sym, ◌∙◌}
 use Rattle.std.specs.Prelude.{is_some}
-use Rattle.tx_serial.specs.Machine.{Save, Tx, NoTx, OpenTx, GivingUp, Closing, Local}
+use Rattle.tx_serial.specs.Machine.{Save, OpenTx, GivingUp, Closing, Local}
 use Rattle.tx_runtime.specs.declared.thread.Stage.{Stage}
 use Rattle.tx_runtime.specs.declared.thread.Stage.TheVariants.{Open, Undoing, Releasing}
 use Rattle.tx_runtime.specs.declared.thread.Transaction.{Transaction}
@@ -10,7 +10,7 @@ use Rattle.undo_log.specs.View.{marks_of}
 use Rattle.tx_runtime.specs.declared.thread.ThreadSlot.{ThreadSlot}
 use Rattle.tx_runtime.specs.Saves.{saves_of}
 use Rattle.tx_runtime.proofs.Logs.{saves_count}
-use Rattle.tx_runtime.specs.Threads.{local_of, tx_by, tx_of, stage_of, birth_in, has_saves, undoes, closed_by}
+use Rattle.tx_runtime.specs.Threads.{local_of, tx_by, tx_of, birth_in, has_saves, undoes}
 
 -- a transaction that is there, with its parts
 pub record Parts {K S : Type 0} (saved : K → S) (o : Option (Transaction K)) (g : Stage) (b : ℕ) (k : S) : Type 0 where

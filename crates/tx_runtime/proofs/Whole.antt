@@ -1,7 +1,6 @@
 -- What a runtime hands out, and the turns so far.
-use Rattle.std.proofs.Common.{ℕ, zero, suc, ◌≡◌, ◌==◌, ◌<◌, ◌≤◌, Bool, true, false, cond, Option, Some, None, List, [], ◌∷◌, ◌++◌, length, refl, ap, sym, ◌∙◌, subst, arith, inl, inr}
+use Rattle.std.proofs.Common.{ℕ, zero, suc, ◌≡◌, ◌==◌, ◌<◌, ◌≤◌, Bool, true, false, cond, Option, Some, None, List, [], ◌∷◌, ◌++◌, length, refl, ap, sym, ◌∙◌, subst, arith}
 use Rattle.std.specs.Prelude.{is_some, slice_get, ◌&&◌, ◌||◌, reverse, replicate}
-use Rattle.std.proofs.lemmas.Bool.{cases_lt}
 use Rattle.choosers.specs.declared.Clash.{Clash}
 use Rattle.choosers.specs.declared.Choice.{Choice}
 use Rattle.tx_events.specs.declared.TurnKind.{TurnKind}
@@ -10,7 +9,7 @@ use Rattle.tx_events.specs.Thread.{Thread, Lawful}
 use Rattle.tx_events.specs.World.{first_world}
 use Rattle.own_table.specs.declared.table.Holders.{Holders}
 use Rattle.own_table.specs.Table.{hold_of}
-use Rattle.tx_serial.specs.Machine.{Machine, Local, Save, Tx, Waits, no_waits, held_by, wrote_by}
+use Rattle.tx_serial.specs.Machine.{Machine, Local, Save, Waits, no_waits, held_by, wrote_by}
 use Rattle.tx_serial.specs.Shows.{Shown}
 use Rattle.tx_serial.specs.Shows as shows
 use Rattle.tx_serial.specs.Turn.{Slot, turn, turns, bare, first_thread, first_machine}
@@ -20,10 +19,9 @@ use Rattle.tx_runtime.specs.declared.engine.Engine.{Engine}
 use Rattle.tx_runtime.specs.Here.{Chosen}
 use Rattle.tx_runtime.specs.Runtime.{ReachedBy, Carries, HoldsOf, ShowsActor, saves_in, flag_in}
 use Rattle.tx_runtime.specs.Saves.{saves_of, saves_by, is_nil, begins_at}
-use Rattle.tx_runtime.specs.Threads.{local_in, local_of, threads_of, waits_of, waits_in, waits_by, tx_of, tx_by, undoes, is_write, is_sound, has_saves, IsWhole}
+use Rattle.tx_runtime.specs.Threads.{local_in, threads_of, waits_of, waits_by, tx_of, tx_by, undoes, is_write, is_sound, has_saves, IsWhole}
 use Rattle.tx_runtime.specs.View.{machine_in, place_in}
 use Rattle.tx_runtime.specs.declared.thread.Transaction.{Transaction}
-use Rattle.tx_runtime.specs.declared.thread.Stage.{Stage}
 use Rattle.tx_runtime.specs.declared.thread.Stage.TheVariants.{Open, Undoing, Releasing}
 use Rattle.undo_log.specs.declared.undo.Log.{Log}
 use Rattle.undo_log.specs.Notes.{can_put_back}

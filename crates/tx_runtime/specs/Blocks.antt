@@ -1,6 +1,6 @@
 -- The transactions that keep an access off.
 use Rattle.std.specs.Prelude.{ℕ, ◌≡◌, Bool, Option, Some, None}
-use Rattle.tx_serial.specs.Machine.{Machine, eldest, greatest, count, blocker, birth_of, keeps_off}
+use Rattle.tx_serial.specs.Machine.{Machine, eldest, greatest, count, birth_of, keeps_off}
 use Rattle.tx_runtime.specs.declared.access.Blockers.{Blockers}
 
 -- of the numbers below n for which p holds: the one whose f is least, its f, the greatest f, and how many there are

@@ -1,5 +1,5 @@
 -- Where a thread stands that takes a turn.
-use Rattle.std.specs.Prelude.{ℕ, ℤ, pos, ◌≡◌, ◌<◌, Bool, true, false, List, Option, Some, None, slice_get}
+use Rattle.std.specs.Prelude.{ℕ, ℤ, pos, ◌≡◌, ◌<◌, Bool, true, false, List, Some, None, slice_get}
 use Rattle.choosers.specs.declared.Clash.{Clash}
 use Rattle.choosers.specs.declared.Choice.{Choice}
 use Rattle.tx_events.specs.declared.Event.{Event}
@@ -8,7 +8,6 @@ use Rattle.tx_events.specs.Memory.{Place}
 use Rattle.tx_events.specs.Thread.{Thread}
 use Rattle.tx_serial.specs.Machine.{Machine, Local, Save, NoTx, OpenTx, GivingUp, Closing}
 use Rattle.tx_serial.specs.Kinds.{Asked}
-use Rattle.tx_events.specs.declared.BlockKind.{BlockKind}
 use Rattle.tx_events.specs.declared.Event.TheVariants.{Silent, Load, Store, Out, Inp, Spawn, Join, BeginAtomic, EndAtomic, Raise, BeginSync, EndSync, Done, Stop}
 use Rattle.tx_events.specs.declared.Reply.TheVariants.{Nothing}
 use Rattle.tx_events.specs.World.{target}

@@ -1,5 +1,5 @@
 -- What a started thread of the runtime shows of itself.
-use Rattle.std.specs.Prelude.{ℕ, ◌≡◌, ◌<◌, ◌≤◌, length, Bool, true, false, ◌&&◌, ◌||◌, is_some, List, [], ◌∷◌, Option, Some, None, slice_get}
+use Rattle.std.specs.Prelude.{ℕ, ◌≡◌, ◌<◌, ◌≤◌, length, Bool, true, false, ◌&&◌, ◌||◌, is_some, List, Option, Some, None, slice_get}
 use Rattle.std.specs.List.{list_all}
 use Rattle.tx_events.specs.Memory.{Place, can_access}
 use Rattle.own_table.specs.declared.hold.Mode.{Mode}

@@ -1,19 +1,13 @@
 -- The machine that a runtime shows.
-use Rattle.std.specs.Prelude.{ℕ, ◌≡◌, ◌<◌, ◌≤◌, Bool, true, false, is_some, List, [], ◌∷◌, ◌++◌, Option, Some, None, slice_get, length, drop}
-use Rattle.std.specs.List.{list_all}
-use Rattle.tx_events.specs.Memory.{Place, can_access}
+use Rattle.std.specs.Prelude.{ℕ, List, length, drop}
+use Rattle.tx_events.specs.Memory.{Place}
 use Rattle.tx_events.specs.World.{Lock}
 use Rattle.tx_memory.specs.View.{place_of, words_of}
-use Rattle.own_table.specs.declared.table.Holders.{Holders}
-use Rattle.own_table.specs.Table.{hold_of, thread_limit}
-use Rattle.undo_log.specs.View.{marks_of}
-use Rattle.undo_log.specs.declared.undo.Log.{Log}
-use Rattle.tx_serial.specs.Machine.{Local, Waits, Machine, no_waits}
-use Rattle.tx_runtime.specs.declared.thread.ThreadSlot.{ThreadSlot}
+use Rattle.tx_serial.specs.Machine.{Machine}
 use Rattle.tx_runtime.specs.declared.engine.Engine.{Engine}
 use Rattle.tx_runtime.specs.declared.lock.SyncLock.{SyncLock}
 use Rattle.tx_runtime.specs.declared.input.Input.{Input}
-use Rattle.tx_runtime.specs.Threads.{local_of, waits_of, threads_of, waits_by}
+use Rattle.tx_runtime.specs.Threads.{threads_of, waits_by}
 
 abbrev pub lock_of : SyncLock → Lock
 lock_of lock = record { holder = lock.holder; depth = lock.depth }

@@ -1,4 +1,4 @@
-use Rattle.std.proofs.Common.{◌≡◌, refl}
+use Rattle.std.proofs.Common.{refl}
 use Rattle.tx_events.specs.Memory.{word_of}
 use Rattle.tx_runtime.proofs.access.word_of.Goals as goal
 

@@ -1,4 +1,4 @@
-use Rattle.std.proofs.Common.{ℕ, ◌≡◌, length}
+use Rattle.std.proofs.Common.{◌≡◌, length}
 use Rattle.tx_runtime.proofs.tests.one_turn_each.Given as goal
 
 abbrev pub invariant-loop-t : goal.invariant-loop-t

@@ -1,4 +1,4 @@
-use Rattle.std.proofs.Common.{ℕ, ◌≡◌, ◌<◌, ◌≤◌, length, ap, sym, ◌∙◌, refl, arith, subst}
+use Rattle.std.proofs.Common.{arith}
 use Rattle.tx_runtime.proofs.tests.take_turns.Goals as goal
 
 pub turn-requires-clause-number : goal.turn-requires-clause-number

@@ -1,4 +1,4 @@
-use Rattle.std.proofs.Common.{ℕ, ◌≡◌, ◌≤◌}
+use Rattle.std.proofs.Common.{◌≡◌, ◌≤◌}
 use Rattle.tx_runtime.proofs.tests.take_turns.Given as goal
 
 abbrev pub invariant-loop-n : goal.invariant-loop-n

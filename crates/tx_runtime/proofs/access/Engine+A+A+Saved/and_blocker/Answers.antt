@@ -1,14 +1,8 @@
-use Rattle.std.proofs.Common.{ℕ, ◌≡◌, ◌++◌, ◌∷◌, [], ap, sym, ◌∙◌, refl, arith, Some, subst, length}
-use Rattle.own_table.specs.Bits.{has_bit}
-use Rattle.std.proofs.Math.ListN.{length-set}
-use Rattle.tx_memory.specs.View.{place_of}
-use Rattle.tx_serial.specs.Machine.{Local, birth_of, wait_more}
+use Rattle.std.proofs.Common.{ℕ, subst}
+use Rattle.tx_serial.specs.Machine.{birth_of}
 use Rattle.tx_runtime.specs.Blocks.{Sums}
-use Rattle.tx_runtime.specs.Threads.{local_of, is_sound, waits_of}
-use Rattle.tx_runtime.specs.Saves.{saves_of}
-use Rattle.tx_runtime.specs.View.{machine_in, place_in}
-use Rattle.tx_runtime.proofs.Blocking.{birth_at, birth_is, sums_more, count_most, none_at_all, keeps_is}
-use Rattle.tx_runtime.proofs.Engines.{thread_at, same_thread, one_waits, waits_at_slot, whole_set, whole_sound, changed}
+use Rattle.tx_runtime.specs.View.{machine_in}
+use Rattle.tx_runtime.proofs.Blocking.{birth_at}
 use Rattle.tx_runtime.proofs.access.Engine+A+A+Saved.and_blocker.Goals as goal
 
 pub returns-in-Some : goal.returns-in-Some

@@ -1,9 +1,8 @@
-use Rattle.std.proofs.Common.{ℕ, ◌≡◌, ◌==◌, ap, sym, ◌∙◌, refl, subst, length, not, false, arith}
-use Rattle.own_table.specs.Bits.{has_bit}
+use Rattle.std.proofs.Common.{ℕ, sym, subst, length}
 use Rattle.tx_serial.specs.Machine.{birth_of}
 use Rattle.tx_runtime.specs.Blocks.{Sums}
-use Rattle.tx_runtime.specs.View.{machine_in, place_in}
-use Rattle.tx_runtime.proofs.Blocking.{sums_more, count_most, none_at_all, keeps_is}
+use Rattle.tx_runtime.specs.View.{machine_in}
+use Rattle.tx_runtime.proofs.Blocking.{keeps_is}
 use Rattle.tx_runtime.proofs.access.Engine+A+A+Saved.blockers.Goals as goal
 
 pub returns : goal.returns

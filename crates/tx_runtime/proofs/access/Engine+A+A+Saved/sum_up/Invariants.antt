@@ -1,4 +1,3 @@
-use Rattle.std.proofs.Common.{ℕ, ◌≡◌}
 use Rattle.own_table.specs.Bits.{has_bit}
 use Rattle.tx_serial.specs.Machine.{birth_of}
 use Rattle.tx_runtime.specs.Blocks.{Sums}

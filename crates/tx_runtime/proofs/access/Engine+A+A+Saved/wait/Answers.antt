@@ -1,14 +1,7 @@
-use Rattle.std.proofs.Common.{ℕ, ◌≡◌, ◌++◌, ◌∷◌, [], ap, sym, ◌∙◌, refl, arith, Some, subst, length}
-use Rattle.own_table.specs.Bits.{has_bit}
-use Rattle.std.proofs.Math.ListN.{length-set}
+use Rattle.std.proofs.Common.{◌∙◌, refl}
 use Rattle.tx_memory.specs.View.{place_of}
-use Rattle.tx_serial.specs.Machine.{Local, birth_of, wait_more}
-use Rattle.tx_runtime.specs.Blocks.{Sums}
-use Rattle.tx_runtime.specs.Threads.{local_of, is_sound, waits_of}
-use Rattle.tx_runtime.specs.Saves.{saves_of}
-use Rattle.tx_runtime.specs.View.{machine_in, place_in}
-use Rattle.tx_runtime.proofs.Blocking.{birth_is, sums_more, count_most, none_at_all, keeps_is}
-use Rattle.tx_runtime.proofs.Engines.{thread_at, same_thread, one_waits, waited_row, whole_set, whole_sound, changed}
+use Rattle.tx_runtime.specs.View.{machine_in}
+use Rattle.tx_runtime.proofs.Engines.{waited_row, whole_set, whole_sound}
 use Rattle.tx_runtime.proofs.access.Engine+A+A+Saved.wait.Goals as goal
 
 pub invariant_of-self : goal.invariant_of-self

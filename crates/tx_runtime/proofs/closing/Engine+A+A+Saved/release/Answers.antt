@@ -1,20 +1,19 @@
-use Rattle.std.proofs.Common.{Bool, ℕ, ◌≡◌, ◌==◌, ◌<◌, ◌≤◌, ◌+◌, ◌++◌, ◌∷◌, [], List, length, ap, sym, ◌∙◌, refl, arith, Some, None, true, false, subst, get_or, inl, inr}
-use Rattle.std.proofs.Math.ListN.{set, length-set}
+use Rattle.std.proofs.Common.{◌≡◌, ◌<◌, length, ap, sym, ◌∙◌, refl, None}
 use Rattle.std.proofs.lemmas.Option.{same_Some}
 use Rattle.std.proofs.lemmas.Bool.{false≢true}
-use Rattle.tx_events.specs.declared.TurnKind.TheVariants.{Released, Undone, Idle, Rolled}
-use Rattle.tx_events.specs.Memory.{update, word_bound}
-use Rattle.tx_memory.specs.View.{place_of, words_of}
-use Rattle.tx_serial.specs.Machine.{Local, Save, OpenTx, GivingUp, no_save, least, kept_or, oldest, forget_all}
-use Rattle.tx_serial.specs.Turn.{Turned, steps, stays, closes, without, again, given_back}
+use Rattle.tx_events.specs.declared.TurnKind.TheVariants.{Released, Idle}
+use Rattle.tx_events.specs.Memory.{word_bound}
+use Rattle.tx_memory.specs.View.{place_of}
+use Rattle.tx_serial.specs.Machine.{Local, least}
+use Rattle.tx_serial.specs.Turn.{closes, without}
 use Rattle.tx_runtime.specs.Saves.{saves_of}
-use Rattle.tx_runtime.specs.Threads.{local_of, threads_of, tx_of, held_in, wrote_in, closed_by, has_saves, IsWhole}
+use Rattle.tx_runtime.specs.Threads.{local_of, closed_by}
 use Rattle.tx_runtime.specs.View.{machine_in, place_in}
-use Rattle.tx_runtime.proofs.Engines.{read_at, started_thread, thread_at, stepped, same_holds, same_threads, whole_set, whole_sound, kinded, held_at}
-use Rattle.tx_runtime.proofs.Holding.{others_same, released_held, released_wrote, whole_hold, least_word, none_held, some_least, hold_local, left_over, none_left, empty_held, empty_wrote, access_bound}
-use Rattle.tx_runtime.proofs.Txs.{open_parts, giving_parts, giving_with, giving_live, closing_parts, part_some, part_birth}
-use Rattle.tx_runtime.proofs.ClosingRows.{lets_none, lets_some, gives_none, gives_some, rolls_some, rolls_none}
-use Rattle.tx_runtime.proofs.Turned.{closing_row, giving_row, if_ok, started_in, at_in}
+use Rattle.tx_runtime.proofs.Engines.{thread_at, stepped, same_threads, whole_set, whole_sound, kinded, held_at}
+use Rattle.tx_runtime.proofs.Holding.{others_same, released_held, released_wrote, whole_hold, least_word, none_held, hold_local}
+use Rattle.tx_runtime.proofs.Txs.{closing_parts}
+use Rattle.tx_runtime.proofs.ClosingRows.{lets_none, lets_some}
+use Rattle.tx_runtime.proofs.Turned.{closing_row}
 use Rattle.tx_runtime.proofs.closing.Engine+A+A+Saved.release.Goals as goal
 
 pub returns-in_default-clause-turned : goal.returns-in_default-clause-turned

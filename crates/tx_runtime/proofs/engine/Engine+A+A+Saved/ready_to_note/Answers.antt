@@ -1,11 +1,8 @@
-use Rattle.std.proofs.Common.{◌≡◌, ◌++◌, ◌∷◌, [], ap, sym, ◌∙◌, refl, arith, Some}
+use Rattle.std.proofs.Common.{◌∙◌}
 use Rattle.std.proofs.Math.ListN.{length-set}
 use Rattle.tx_memory.specs.View.{place_of}
-use Rattle.tx_serial.specs.Machine.{Local}
-use Rattle.tx_runtime.specs.Threads.{local_of, is_sound}
-use Rattle.tx_runtime.specs.View.{machine_in, place_in}
-use Rattle.tx_runtime.proofs.Engines.{thread_at, same_thread, same_waits, whole_set, whole_sound, changed, stepped, same_holds, started_thread, read_at, on_ok, ready_set, note_ready_set}
-use Rattle.tx_runtime.proofs.Rows.{alone_row, told_row}
+use Rattle.tx_runtime.specs.View.{machine_in}
+use Rattle.tx_runtime.proofs.Engines.{same_thread, same_waits, whole_set, whole_sound, changed, on_ok, note_ready_set}
 use Rattle.tx_runtime.proofs.engine.Engine+A+A+Saved.ready_to_note.Goals as goal
 
 pub invariant_of-self : goal.invariant_of-self

@@ -1,4 +1,4 @@
-use Rattle.std.proofs.Common.{arith, ◌≡◌, ℕ, ◌<◌, ◌+◌, List, length, drop, get_or, ap, sym, ◌∙◌, add-one, drop-cons}
+use Rattle.std.proofs.Common.{arith, ◌≡◌, ℕ, ◌<◌, ◌+◌, List, length, drop, ap, sym, ◌∙◌, add-one, drop-cons}
 use Rattle.tx_events.specs.World.{input_after}
 use Rattle.tx_runtime.proofs.input.Input.advance.Goals as goal
 

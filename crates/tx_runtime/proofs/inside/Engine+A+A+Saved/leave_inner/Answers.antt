@@ -1,23 +1,17 @@
-use Rattle.std.proofs.Common.{ℕ, ◌≡◌, ◌==◌, ◌<◌, ◌≤◌, ◌+◌, ◌++◌, ◌∷◌, [], List, length, ap, sym, ◌∙◌, refl, arith, Some, None, true, false, subst, get_or, inl, inr}
-use Rattle.std.proofs.Math.ListN.{set, length-set}
+use Rattle.std.proofs.Common.{◌≡◌, ◌<◌, length, ap, sym, ◌∙◌, refl, arith}
 use Rattle.std.proofs.lemmas.Option.{same_Some}
-use Rattle.tx_events.specs.declared.Event.TheVariants.{Silent, Load, Store, BeginAtomic, EndAtomic, Raise}
-use Rattle.tx_events.specs.declared.Reply.TheVariants.{Nothing, Loaded}
-use Rattle.tx_events.specs.declared.TurnKind.TheVariants.{Ran}
-use Rattle.tx_events.specs.Memory.{update, can_access, load, store, word_of}
-use Rattle.tx_events.proofs.Words.{read_fits}
-use Rattle.tx_memory.specs.View.{place_of, words_of}
-use Rattle.tx_serial.specs.Machine.{Local, Save, OpenTx, no_save, note, blocker}
-use Rattle.tx_serial.specs.Turn.{told, steps, ran}
+use Rattle.tx_events.specs.declared.Reply.TheVariants.{Nothing}
+use Rattle.tx_memory.specs.View.{place_of}
+use Rattle.tx_serial.specs.Machine.{Local, OpenTx}
 use Rattle.tx_runtime.specs.Saves.{saves_of, handed}
-use Rattle.tx_runtime.specs.Threads.{local_of, threads_of, waits_by, tx_of, held_in, wrote_in}
+use Rattle.tx_runtime.specs.Threads.{local_of}
 use Rattle.tx_runtime.specs.View.{machine_in, place_in}
-use Rattle.tx_runtime.proofs.Engines.{read_at, started_thread, thread_at, stepped, same_holds, whole_set, whole_sound}
-use Rattle.tx_runtime.proofs.Txs.{open_parts, open_with, open_live, part_some, part_birth}
-use Rattle.tx_runtime.proofs.InRows.{passes_row, passing_answer, leaving_answer, commits_none, commits_one, commits_more}
+use Rattle.tx_runtime.proofs.Engines.{stepped, same_holds, whole_set, whole_sound}
+use Rattle.tx_runtime.proofs.Txs.{open_parts, open_with}
+use Rattle.tx_runtime.proofs.InRows.{leaving_answer, commits_more}
 use Rattle.tx_runtime.proofs.Logs.{saves_count}
-use Rattle.tx_runtime.proofs.Turned.{inside_row, if_ok, started_in, at_in, answers_at}
-use Rattle.tx_runtime.proofs.Rows.{alone_row, told_row}
+use Rattle.tx_runtime.proofs.Turned.{started_in, at_in, answers_at}
+use Rattle.tx_runtime.proofs.Rows.{alone_row}
 use Rattle.tx_runtime.proofs.inside.Engine+A+A+Saved.leave_inner.Goals as goal
 
 pub leave_inner-requires-clause-answers : goal.leave_inner-requires-clause-answers

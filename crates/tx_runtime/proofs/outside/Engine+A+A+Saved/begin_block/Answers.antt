@@ -1,20 +1,15 @@
-use Rattle.std.proofs.Common.{ℕ, ℤ, pos, ◌≡◌, ◌==◌, ◌<◌, ◌≤◌, ◌+◌, ◌++◌, ◌∷◌, [], length, ap, sym, ◌∙◌, refl, arith, Some, None, true, false, subst, get_or, inl, inr, not}
-use Rattle.std.specs.Prelude.{◌&&◌}
+use Rattle.std.proofs.Common.{◌<◌, ◌∷◌, [], length, ap, ◌∙◌, refl}
 use Rattle.std.proofs.Math.ListN.{set, length-set}
-use Rattle.std.proofs.lemmas.Bool.{eq-eqb, eqb-true, ne_eqb, cases_eq}
-use Rattle.tx_events.specs.declared.Event.TheVariants.{Silent, Load, Store, Out, Inp, Spawn, Join, BeginAtomic, BeginSync, EndSync, Done}
-use Rattle.tx_events.specs.declared.Reply.TheVariants.{Nothing, Loaded, Byte, Id}
-use Rattle.tx_memory.specs.View.{place_of, words_of}
-use Rattle.tx_serial.specs.Machine.{Local, OpenTx, no_save, live_in}
-use Rattle.tx_serial.specs.Turn.{told, steps}
+use Rattle.tx_events.specs.declared.Event.TheVariants.{BeginAtomic}
+use Rattle.tx_events.specs.declared.Reply.TheVariants.{Nothing}
+use Rattle.tx_memory.specs.View.{place_of}
+use Rattle.tx_serial.specs.Machine.{Local, OpenTx, no_save}
 use Rattle.tx_runtime.specs.Threads.{local_of, threads_of, waits_by}
-use Rattle.tx_runtime.specs.View.{machine_in, place_in}
-use Rattle.tx_runtime.proofs.Blocking.{live_at, first_least, no_least}
-use Rattle.tx_runtime.proofs.Engines.{read_at, started_thread, thread_at, same_thread, same_waits, on_err, changed, stepped, same_holds, whole_set, whole_sound, whole_push, ready_push, threads_push, waits_push, length_pushed}
+use Rattle.tx_runtime.specs.View.{machine_in}
+use Rattle.tx_runtime.proofs.Engines.{same_thread, same_waits, on_err, changed, stepped, same_holds, whole_set, whole_sound}
 use Rattle.tx_runtime.proofs.Slots.{idle_log}
-use Rattle.tx_runtime.proofs.OutRows.{join_bad, join_done, join_waits, spawn_full}
-use Rattle.tx_runtime.proofs.Turned.{outside_row, if_ok, started_in, at_in, answers_at}
-use Rattle.tx_runtime.proofs.Rows.{begin_row, spawn_row}
+use Rattle.tx_runtime.proofs.Turned.{started_in, at_in, answers_at}
+use Rattle.tx_runtime.proofs.Rows.{begin_row}
 use Rattle.tx_runtime.proofs.outside.Engine+A+A+Saved.begin_block.Goals as goal
 
 pub begin-requires-clause-answers : goal.begin-requires-clause-answers

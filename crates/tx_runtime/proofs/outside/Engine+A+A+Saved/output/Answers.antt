@@ -1,10 +1,9 @@
-use Rattle.std.proofs.Common.{◌≡◌, ◌++◌, ◌∷◌, [], ap, sym, ◌∙◌, refl, arith, Some}
-use Rattle.tx_events.specs.declared.Event.TheVariants.{Silent, Load, Store, Out, Inp, Spawn, Join, BeginAtomic, BeginSync, EndSync, Done}
-use Rattle.tx_events.specs.declared.Reply.TheVariants.{Nothing, Byte}
-use Rattle.tx_serial.specs.Machine.{Local}
-use Rattle.tx_runtime.specs.View.{machine_in, place_in, lock_of, left_of}
-use Rattle.tx_runtime.proofs.Turned.{outside_row, if_ok}
-use Rattle.tx_runtime.proofs.Rows.{with_input, with_lock, out_row, store_row}
+use Rattle.std.proofs.Common.{◌++◌, ◌∷◌, [], ap, ◌∙◌}
+use Rattle.tx_events.specs.declared.Event.TheVariants.{Out}
+use Rattle.tx_events.specs.declared.Reply.TheVariants.{Nothing}
+use Rattle.tx_runtime.specs.View.{machine_in}
+use Rattle.tx_runtime.proofs.Turned.{outside_row}
+use Rattle.tx_runtime.proofs.Rows.{out_row}
 use Rattle.tx_runtime.proofs.outside.Engine+A+A+Saved.output.Goals as goal
 
 pub returns-clause-turned : goal.returns-clause-turned

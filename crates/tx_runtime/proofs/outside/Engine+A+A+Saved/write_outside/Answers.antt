@@ -1,5 +1,3 @@
-use Rattle.std.proofs.Common.{ℕ, ◌≡◌, ◌++◌, ◌∷◌, [], ap, sym, ◌∙◌, refl, arith, Some}
-use Rattle.tx_events.specs.declared.Event.TheVariants.{Store}
 use Rattle.tx_runtime.proofs.Engines.{started_thread}
 use Rattle.tx_runtime.proofs.Fits.{store_fits}
 use Rattle.tx_runtime.proofs.outside.Engine+A+A+Saved.write_outside.Goals as goal

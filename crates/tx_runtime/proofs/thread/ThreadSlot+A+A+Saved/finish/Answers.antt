@@ -1,5 +1,4 @@
-use Rattle.std.proofs.Common.{◌≡◌, refl, ap, true}
-use Rattle.tx_runtime.specs.Threads.{local_of}
+use Rattle.std.proofs.Common.{ap, true}
 use Rattle.tx_serial.specs.Machine.{Local}
 use Rattle.tx_runtime.proofs.thread.ThreadSlot+A+A+Saved.finish.Goals as goal
 

@@ -1,5 +1,4 @@
-use Rattle.std.proofs.Common.{◌≡◌, ◌<◌, length, [], ap, sym, ◌∙◌, refl, arith}
-use Rattle.undo_log.specs.View.{marks_of}
+use Rattle.std.proofs.Common.{length, ap, arith}
 use Rattle.tx_runtime.proofs.Slots.{relog}
 use Rattle.tx_runtime.proofs.Logs.{log_noted, unmarked}
 use Rattle.tx_runtime.proofs.thread.ThreadSlot+A+A+Saved.note.Goals as goal

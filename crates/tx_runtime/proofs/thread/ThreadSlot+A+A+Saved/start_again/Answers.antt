@@ -1,4 +1,3 @@
-use Rattle.std.proofs.Common.{◌≡◌, refl}
 use Rattle.tx_runtime.proofs.Slots.{again_local, fresh_saves}
 use Rattle.tx_runtime.proofs.thread.ThreadSlot+A+A+Saved.start_again.Goals as goal
 

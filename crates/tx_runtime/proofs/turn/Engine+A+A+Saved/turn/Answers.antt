@@ -1,4 +1,3 @@
-use Rattle.std.proofs.Common.{ℕ, ◌≡◌}
 use Rattle.tx_runtime.proofs.Engines.{on_err}
 use Rattle.tx_runtime.proofs.Growing.{outside_may}
 use Rattle.tx_runtime.proofs.turn.Engine+A+A+Saved.turn.Goals as goal
