@@ -20,8 +20,14 @@ fn declarations_are_read(rt: HostRuntime) -> Result<(), Fail> {
             "EnumSpecifier:E(EnumeratorDefinition:A EnumeratorDefinition:B(IntegerLiteral:1))",
         ),
         ("enum E { A, };", "EnumSpecifier:E(EnumeratorDefinition:A)"),
-        ("enum class E { A };", "EnumSpecifier:E(ClassKey:class EnumeratorDefinition:A)"),
-        ("enum struct E { A };", "EnumSpecifier:E(ClassKey:struct EnumeratorDefinition:A)"),
+        (
+            "enum class E { A };",
+            "EnumSpecifier:E(ClassKey:class EnumeratorDefinition:A)",
+        ),
+        (
+            "enum struct E { A };",
+            "EnumSpecifier:E(ClassKey:struct EnumeratorDefinition:A)",
+        ),
         (
             "int x, *y = z, a[2] = {1, 2}, c(3);",
             "SimpleDeclaration:int(TypeSpecifierSeq(SimpleTypeSpecifier:int) InitDeclarator:x(DeclaratorId:x) \
@@ -91,7 +97,10 @@ fn declarations_are_read(rt: HostRuntime) -> Result<(), Fail> {
 #[test]
 fn classes_are_read(rt: HostRuntime) -> Result<(), Fail> {
     let rows = [
-        ("class N { };", "ClassSpecifier:N(ClassKey:class MemberSpecification:})"),
+        (
+            "class N { };",
+            "ClassSpecifier:N(ClassKey:class MemberSpecification:})",
+        ),
         (
             "struct N final { };",
             "ClassSpecifier:N(ClassKey:struct VirtSpecifier:final MemberSpecification:})",

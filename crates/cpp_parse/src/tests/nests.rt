@@ -30,9 +30,7 @@ fn nested(rt: &impl Abort, alloc: Global, nest: &Nest, count: u32) -> Result<Str
     let closes = times(alloc, nest.closes, count)?;
     let text = format!(in alloc;
         "int main() {{ {}{opens}{}{closes}{} }}",
-        nest.first,
-        nest.middle,
-        nest.last
+        nest.first, nest.middle, nest.last
     )?;
     answer_of(rt, alloc, &text)
 }
@@ -57,9 +55,18 @@ const BRACES: Nest = Nest {
 #[test]
 fn depth_is_limited(rt: HostRuntime) -> Result<(), Fail> {
     let alloc = rt.alloc();
-    assert_eq!(rt; nested(&rt, alloc, &PARENTHESES, 195)?.as_str(), "1 declarations");
-    assert_eq!(rt; nested(&rt, alloc, &PARENTHESES, 196)?.as_str(), "Nesting 202");
-    assert_eq!(rt; nested(&rt, alloc, &BRACES, 197)?.as_str(), "1 declarations");
+    assert_eq!(rt;
+        nested(&rt, alloc, &PARENTHESES, 195)?.as_str(),
+        "1 declarations"
+    );
+    assert_eq!(rt;
+        nested(&rt, alloc, &PARENTHESES, 196)?.as_str(),
+        "Nesting 202"
+    );
+    assert_eq!(rt;
+        nested(&rt, alloc, &BRACES, 197)?.as_str(),
+        "1 declarations"
+    );
     assert_eq!(rt; nested(&rt, alloc, &BRACES, 198)?.as_str(), "Nesting 202");
     Ok(())
 }
@@ -71,16 +78,55 @@ fn the_deepest_texts_end_in_want_of_memory(rt: HostRuntime) -> Result<(), Fail> 
     let nests = [
         PARENTHESES,
         BRACES,
-        Nest { first: "int ", opens: "*", middle: "x", closes: "", last: ";" },
-        Nest { first: "return ", opens: "*", middle: "x", closes: "", last: ";" },
-        Nest { first: "return ", opens: "!", middle: "x", closes: "", last: ";" },
-        Nest { first: "", opens: "if(0)", middle: ";", closes: "", last: "" },
-        Nest { first: "", opens: "case 0:", middle: ";", closes: "", last: "" },
-        Nest { first: "x = ", opens: "[]{x=", middle: "0", closes: ";}", last: ";" },
+        Nest {
+            first: "int ",
+            opens: "*",
+            middle: "x",
+            closes: "",
+            last: ";",
+        },
+        Nest {
+            first: "return ",
+            opens: "*",
+            middle: "x",
+            closes: "",
+            last: ";",
+        },
+        Nest {
+            first: "return ",
+            opens: "!",
+            middle: "x",
+            closes: "",
+            last: ";",
+        },
+        Nest {
+            first: "",
+            opens: "if(0)",
+            middle: ";",
+            closes: "",
+            last: "",
+        },
+        Nest {
+            first: "",
+            opens: "case 0:",
+            middle: ";",
+            closes: "",
+            last: "",
+        },
+        Nest {
+            first: "x = ",
+            opens: "[]{x=",
+            middle: "0",
+            closes: ";}",
+            last: ";",
+        },
     ];
     for nest in nests.iter() {
         assert_eq!(rt; nested(&rt, alloc, nest, 20_000)?.as_str(), "Memory");
     }
-    assert_eq!(rt; nested(&rt, alloc, &PARENTHESES, 100_000)?.as_str(), "Memory");
+    assert_eq!(rt;
+        nested(&rt, alloc, &PARENTHESES, 100_000)?.as_str(),
+        "Memory"
+    );
     Ok(())
 }

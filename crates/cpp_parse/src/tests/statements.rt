@@ -18,7 +18,10 @@ fn statements_are_read(rt: HostRuntime) -> Result<(), Fail> {
     let rows = [
         (";", "NullStatement:;"),
         ("{ }", "CompoundStatement:}"),
-        ("{ ; { } }", "CompoundStatement:}(NullStatement:; CompoundStatement:})"),
+        (
+            "{ ; { } }",
+            "CompoundStatement:}(NullStatement:; CompoundStatement:})",
+        ),
         ("a;", "ExpressionStatement:;(UnqualifiedId:a)"),
         (
             "a, b;",
@@ -28,7 +31,10 @@ fn statements_are_read(rt: HostRuntime) -> Result<(), Fail> {
             "if (a) b; else c;",
             "IfStatement:if(UnqualifiedId:a ExpressionStatement:;(UnqualifiedId:b) ExpressionStatement:;(UnqualifiedId:c))",
         ),
-        ("if (a) ;", "IfStatement:if(UnqualifiedId:a NullStatement:;)"),
+        (
+            "if (a) ;",
+            "IfStatement:if(UnqualifiedId:a NullStatement:;)",
+        ),
         (
             "if (a) if (b) ; else { }",
             "IfStatement:if(UnqualifiedId:a IfStatement:if(UnqualifiedId:b NullStatement:; CompoundStatement:}))",
@@ -41,13 +47,22 @@ fn statements_are_read(rt: HostRuntime) -> Result<(), Fail> {
             "if (a) while (b) if (c) ; else { }",
             "IfStatement:if(UnqualifiedId:a WhileStatement:while(UnqualifiedId:b IfStatement:if(UnqualifiedId:c NullStatement:; CompoundStatement:})))",
         ),
-        ("while (a) ;", "WhileStatement:while(UnqualifiedId:a NullStatement:;)"),
-        ("do ; while (a);", "DoStatement:do(NullStatement:; UnqualifiedId:a)"),
+        (
+            "while (a) ;",
+            "WhileStatement:while(UnqualifiedId:a NullStatement:;)",
+        ),
+        (
+            "do ; while (a);",
+            "DoStatement:do(NullStatement:; UnqualifiedId:a)",
+        ),
         (
             "do while (a) ; while (b);",
             "DoStatement:do(WhileStatement:while(UnqualifiedId:a NullStatement:;) UnqualifiedId:b)",
         ),
-        ("for (;;) ;", "ForStatement:for(Absent Absent Absent NullStatement:;)"),
+        (
+            "for (;;) ;",
+            "ForStatement:for(Absent Absent Absent NullStatement:;)",
+        ),
         (
             "for (a; b; c) ;",
             "ForStatement:for(UnqualifiedId:a UnqualifiedId:b UnqualifiedId:c NullStatement:;)",
@@ -66,17 +81,32 @@ fn statements_are_read(rt: HostRuntime) -> Result<(), Fail> {
         ("return;", "ReturnStatement:return"),
         ("return a;", "ReturnStatement:return(UnqualifiedId:a)"),
         ("throw;", "ExpressionStatement:;(ThrowExpression:throw)"),
-        ("throw a;", "ExpressionStatement:;(ThrowExpression:throw(UnqualifiedId:a))"),
+        (
+            "throw a;",
+            "ExpressionStatement:;(ThrowExpression:throw(UnqualifiedId:a))",
+        ),
         (
             "try { } catch (int) { } catch (const T& e) { } catch (...) { }",
             "TryBlock:try(CompoundStatement:} Handler:catch(ParameterDeclaration(TypeSpecifierSeq(SimpleTypeSpecifier:int) OmittedId) \
              CompoundStatement:}) Handler:catch(ParameterDeclaration(TypeSpecifierSeq(CvQualifier:const TypeName:T) \
              ReferenceDeclarator:&(DeclaratorId:e)) CompoundStatement:}) Handler:catch(Ellipsis:... CompoundStatement:}))",
         ),
-        ("synchronized { }", "SynchronizedStatement:synchronized(CompoundStatement:})"),
-        ("atomic_noexcept { }", "AtomicStatement:atomic_noexcept(CompoundStatement:})"),
-        ("atomic_cancel { ; }", "AtomicStatement:atomic_cancel(CompoundStatement:}(NullStatement:;))"),
-        ("atomic_commit { }", "AtomicStatement:atomic_commit(CompoundStatement:})"),
+        (
+            "synchronized { }",
+            "SynchronizedStatement:synchronized(CompoundStatement:})",
+        ),
+        (
+            "atomic_noexcept { }",
+            "AtomicStatement:atomic_noexcept(CompoundStatement:})",
+        ),
+        (
+            "atomic_cancel { ; }",
+            "AtomicStatement:atomic_cancel(CompoundStatement:}(NullStatement:;))",
+        ),
+        (
+            "atomic_commit { }",
+            "AtomicStatement:atomic_commit(CompoundStatement:})",
+        ),
     ];
     check(&rt, rt.alloc(), BEFORE, BEHIND, &rows)
 }
