@@ -302,7 +302,7 @@ fn types_are_read(rt: HostRuntime) -> Result<(), Fail> {
             "TypeSpecifierSeq(TxException:tx_exception(TypeId(TypeSpecifierSeq(TypeName:T) PointerDeclarator:*(OmittedId)))) 7",
         ),
         ("auto", "TypeSpecifierSeq(SimpleTypeSpecifier:auto) 1"),
-        ("const", "Syntax 0"),
+        ("const", "Syntax 1"),
         ("long bool", "TypeSpecifierSeq(SimpleTypeSpecifier:long) 1"),
         (
             "unsigned bool",
