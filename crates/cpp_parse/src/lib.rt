@@ -1,4 +1,6 @@
-//! Reads statements, declarations and units.
+//! Reads a unit of C++14: its declarations, members of classes, statements and the bodies of lambdas.
+//!
+//! `parse_unit` is the call; the readers beneath it each answer the longest text of their rule of the grammar ([`cpp_syntax`]).
 #![tactic(auto)]
 
 mod blocks;

@@ -67,9 +67,14 @@ enum Answer {
     TooDeep { token: u32 },
 }
 
-/// The one unit of the tokens of a source.
+/// The one unit of the tokens of a source, of which there are at most 1,048,576: C++14 annex A cut to the language, with the
+/// blocks of ISO/IEC TS 19841:2015. `source` is the number that the places of its nodes have.
 ///
 /// Its trees are those of the grammar ([`cpp_syntax`]): its declarations, with the body of each lambda as its last kid.
+///
+/// `Syntax` comes exactly where the tokens are no unit; its token is the last up to which a reader came, and their number stands for the end
+/// of the text. `Nesting` comes exactly where they are a unit that nests deeper than 200; its token is that of the first node that does.
+/// `Memory` comes where memory ran out, or where the text nests further than calls may be nested.
 pub fn parse_unit(alloc: Global, source: u32, tokens: &Tokens) -> Result<Unit, ParseFault>
     requires { length tokens.now.items.items ≤ 1048576 }
     ensures { ParsesUnit source (lexemes_of tokens.now) result }
