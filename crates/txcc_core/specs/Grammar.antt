@@ -12,7 +12,7 @@ use Rattle.cpp_lex.specs.declared.TokKind.{TokKind}
 use Rattle.cpp_lex.specs.declared.TokKind.TheVariants.{Name, Key, Punct, Int as IntTok, Char as CharTok}
 use Rattle.cpp_lex.specs.Tokens.{Lexeme, IsTokens}
 use Rattle.cpp_lex.specs.Ints.{int_type_of}
-use Rattle.cpp_lex.specs.declared.IntType.TheVariants.{Int as IntType}
+use Rattle.tx_ints.specs.declared.kinds.IntKind.TheVariants.{Int as IntType}
 use Rattle.txcc_core.specs.declared.tree.Sign.{Sign}
 use Rattle.txcc_core.specs.declared.tree.Sign.TheVariants.{Plus, Minus}
 use Rattle.txcc_core.specs.declared.tree.Signed.{Signed}

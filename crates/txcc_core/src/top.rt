@@ -8,7 +8,7 @@ ghost use Rattle.txcc_core.specs.Below.{IsWell};
 ghost use Rattle.txcc_core.specs.Grammar.{Accepts};
 ghost use Rattle.txcc_core.specs.Report.{end_lines};
 ghost use Rattle.txcc_core.specs.Words.{texts};
-ghost use Rattle.txcc_core.specs.TopCall.{Outside, IsBare, Reads, Answers, IsRunStatus};
+ghost use Rattle.txcc_core.specs.TopCall.{HostState, IsBare, Reads, Answers, IsRunStatus};
 ghost use Rattle.txcc_core.specs.Writes.{IsRefusal, UsageSays, RefusalSays, WroteRun, UnwrittenSays};
 
 use crate::answer::{Answer, Ran, Refusal, Status};
