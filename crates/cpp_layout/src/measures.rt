@@ -5,6 +5,7 @@ ghost use Rattle.cpp_types.specs.Typ.{shape_form};
 ghost use Rattle.cpp_types.specs.Class.{InOrder, classes_of, member_of};
 ghost use Rattle.cpp_layout.specs.Layout.{form_extent, class_extent, base_items, end_from};
 ghost use Rattle.cpp_layout.specs.Measured.{IsComplete, HoldsComplete, HeldBelow, BaseComplete, Measured, InBounds, Follows, member_extents, empty_cursor};
+ghost use Rattle.cpp_layout.specs.declared.extents.TheConstants.{GREATEST_SIZE};
 
 use crate::alignments::align_of;
 use crate::cursor::{LayoutCursor, append, no_items, whole_of};

@@ -6,6 +6,7 @@ ghost use Rattle.cpp_types.specs.Typ.{typ_of, shape_form};
 ghost use Rattle.cpp_types.specs.Class.{Class, Member, InOrder, classes_of, class_of, member_of};
 ghost use Rattle.cpp_layout.specs.Layout.{class_extent, extent_of, member_extent, end_from, next_multiple};
 ghost use Rattle.cpp_layout.specs.Measured.{IsComplete, HoldsComplete, HeldBelow, Measured, HasMember, InBounds, member_extents, member_offset};
+ghost use Rattle.cpp_layout.specs.declared.extents.TheConstants.{GREATEST_SIZE};
 
 use crate::cursor::{LayoutCursor, aligned_up};
 use crate::extents::SizeAlign;
@@ -42,7 +43,7 @@ pub fn size_align(ty: &Ty, classes: &[ClassRec]) -> Result<SizeAlign, TooLarge>
 
 // The offset of a member after the cursor `head` and the members before it; `None` where the members
 // pass the greatest size.
-fn member_place(
+fn member_found(
     head: LayoutCursor,
     members: &[MemberRec],
     member: u32,
@@ -71,7 +72,7 @@ fn offset_found(classes: &[ClassRec], class: u32, member: u32) -> Option<u32>
     let number = found.complete?;
     let base = base_cursor(found.base, classes)?;
     let head = with_pointer(base, classes, class)?;
-    member_place(head, &found.members, member, number, classes)
+    member_found(head, &found.members, member, number, classes)
 }
 
 /// The offset of a member in the objects of a class, in bytes.

@@ -6,6 +6,7 @@ ghost use Rattle.cpp_types.specs.Class.{classes_of, base_of, completion_of, func
 ghost use Rattle.cpp_types.specs.Conversion.{chain};
 ghost use Rattle.cpp_layout.specs.Layout.{is_virtual_function, has_virtual, has_class_pointer, pointer_items, end_from, greatest_align};
 ghost use Rattle.cpp_layout.specs.Measured.{InBounds, Follows};
+ghost use Rattle.cpp_layout.specs.declared.extents.TheConstants.{GREATEST_SIZE};
 
 use crate::cursor::{LayoutCursor, append};
 use crate::extents::scalar_of;

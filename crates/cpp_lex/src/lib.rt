@@ -23,6 +23,9 @@ mod skipped;
 mod tests;
 mod words;
 
+/// The greatest length of a text, in bytes.
+pub const GREATEST_TEXT: u64 = 1_048_576;
+
 /// What a token is.
 #[derive(Clone, Copy, Debug, PartialEq, Eq)]
 pub enum TokKind {
@@ -117,7 +120,7 @@ fn add_piece(
     from: usize,
     piece: Piece,
 ) -> Result<(), AllocError>
-    requires small { length text.now ≤ 1048576 }
+    requires small { length text.now ≤ GREATEST_TEXT }
     requires piece { IsPiece text.now from piece }
     ensures { OnOk result (map lexeme_of tokens.new.items ≡ with_piece text.now (map lexeme_of tokens.old.items) piece.kind from piece.to) }
 {
@@ -138,7 +141,7 @@ fn add_piece(
 
 /// The tokens of a text, or the position of the first byte where none begins.
 pub fn lex(alloc: Global, text: &[u8]) -> Result<Tokens, LexFault>
-    requires { length text.now ≤ 1048576 }
+    requires { length text.now ≤ GREATEST_TEXT }
     ensures { MatchResult result (λ tokens. IsTokens text.now (lexemes_of tokens)) (IsFault text.now) }
 {
     let mut items = Vec::new(alloc);

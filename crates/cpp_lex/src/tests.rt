@@ -2,6 +2,7 @@
 
 use super::*;
 use std::process::Abort;
+use tx_ints::IntKind;
 
 type Wanted<'a> = (TokKind, u32, u32, u64, &'a [u8]);
 

@@ -1,6 +1,7 @@
 -- What an answer of the program says.
 use Rattle.std.specs.Prelude.{◌≡◌, ◌⊎◌, ℕ, List, ◌++◌, Option, Some, None, codes}
 use Rattle.tx_host.specs.Told.{Seen, Files, IsFront, with_more, with_read, HasRisen, GainsPart}
+use Rattle.cpp_lex.specs.declared.TheConstants.{GREATEST_TEXT}
 use Rattle.txcc_core.specs.declared.answer.Ran.{Ran}
 use Rattle.txcc_core.specs.declared.answer.Refusal.{Refusal}
 use Rattle.txcc_core.specs.declared.answer.Answer.{Answer}
@@ -28,8 +29,8 @@ HasNoForm words = (steps : ℕ) (file : List ℕ) → AsksFor words steps file �
 -- files, the text is that file, or its front where it has more bytes than the limit
 pub record Reads (words : List (List ℕ)) (old new : HostState) (steps : ℕ) (file text : List ℕ) : Type 0 where
   pub asks : AsksFor words steps file
-  pub seen : new.seen ≡ with_read old.seen file 1048576 text
-  pub front : IsFront old.files file 1048576 text
+  pub seen : new.seen ≡ with_read old.seen file GREATEST_TEXT text
+  pub front : IsFront old.files file GREATEST_TEXT text
 
 -- the text that was read is a program, and this is a run of it
 pub record Executes (words : List (List ℕ)) (old new : HostState) (ran : Ran) : Type 0 where

@@ -4,7 +4,7 @@ use Rattle.cpp_layout.specs.Layout.{class_extent, member_extent, end_from}
 use Rattle.std.proofs.Common.{take}
 use Rattle.cpp_layout.proofs.Nesting.{slice_below, rest_over, member_complete, member_over, large_item, own_or, place_is, align_at, extents_of}
 use Rattle.cpp_layout.proofs.Options.{none_of}
-use Rattle.cpp_layout.proofs.objects.member_place.Goals as goal
+use Rattle.cpp_layout.proofs.objects.member_found.Goals as goal
 
 pub with_members-requires-clause-held : goal.with_members-requires-clause-held
 with_members-requires-clause-held c = slice_below (classes_of c.args.classes.now) c.args.number c.args.member c.args.members.now c.requires.held
