@@ -1,4 +1,4 @@
-// The bound on turns is smaller than the program needs: NAME.args asks for six.
+// The bound on turns is smaller than the program needs: steps_out.args asks for six.
 int x;
 
 int main() {
