@@ -15,7 +15,7 @@ use Rattle.tx_serial.specs.Turn.{turn, commits}
 use Rattle.undo_log.specs.View.{HasCapacity}
 use Rattle.tx_runtime.specs.declared.engine.Engine.{Engine}
 use Rattle.tx_runtime.specs.declared.thread.ThreadSlot.{ThreadSlot}
-use Rattle.tx_runtime.specs.View.{machine_in, place_in}
+use Rattle.tx_runtime.specs.View.{machine_in, layout_in}
 
 -- it goes on without a transaction, and this is its next event
 pub record IsOutside {S : Type 0} (R : S → Type 0) (a : Thread S) (l : Local S) (e : Event) : Type 0 where
@@ -54,7 +54,7 @@ IsReadyToNote {A} {K} capacity t threads = (s : ThreadSlot A K) → slice_get th
 
 -- The turn of thread t led from old to new and was of this kind, whatever the policy would have answered.
 abbrev pub Turns : {A K S : Type 0} → (A → S) → (K → S) → Thread S → ℕ → Engine A K → TurnKind → Engine A K → Type 0
-Turns state saved a t old kind new = (answer : Clash → Choice) → record { machine = machine_in state saved new; kind = kind } ≡ turn a (place_in old) answer t (machine_in state saved old)
+Turns state saved a t old kind new = (answer : Clash → Choice) → record { machine = machine_in state saved new; kind = kind } ≡ turn a (layout_in old) answer t (machine_in state saved old)
 
 -- the thread of that number may be joined by thread t, and was started
 pub record IsJoined {S : Type 0} (t : ℕ) (id : ℤ) (m : Machine S) (n : ℕ) : Type 0 where
@@ -124,7 +124,7 @@ IsStill {S} t m = (l : Local S) → m.threads t ≡ Some l → l.ended ≡ true
 -- The innermost block of thread t was left, and what it did stays.
 abbrev pub Commits : {A K S : Type 0} → (A → S) → (K → S) → Thread S → ℕ → Engine A K → TurnKind → Engine A K → Type 0
 Commits {A} {K} {S} state saved a t old kind new = (l : Local S) (b : ℕ) (k : S) (ss : List Save) → (machine_in state saved old).threads t ≡ Some l → l.tx ≡ OpenTx b k ss
-    → record { machine = machine_in state saved new; kind = kind } ≡ commits (place_in old) t (machine_in state saved old) l (a.after l.state Nothing) b k ss
+    → record { machine = machine_in state saved new; kind = kind } ≡ commits (layout_in old) t (machine_in state saved old) l (a.after l.state Nothing) b k ss
 
 -- The turn of thread t led from the machine old to the machine new and was of this kind; where the policy was asked, its
 -- answer was this choice, which the rule allows.

@@ -4,7 +4,7 @@ ghost use Rattle.own_table.specs.declared.table.Holders.{Holders};
 ghost use Rattle.tx_events.specs.Memory.{MemoryLayout, can_access, update};
 ghost use Rattle.tx_events.specs.Thread.{Answers};
 ghost use Rattle.tx_events.specs.declared.Reply.TheVariants.{Nothing};
-ghost use Rattle.tx_memory.specs.View.{place_of, words_of};
+ghost use Rattle.tx_memory.specs.View.{layout_of, words_of};
 ghost use Rattle.tx_runtime.specs.Saves.{saves_of, newest, handed, newest_without, IsFresh};
 ghost use Rattle.tx_runtime.specs.Threads.{local_of, tx_of, waits_of, is_sound, has_saves, stage_of, birth_in, closed_by};
 ghost use Rattle.tx_runtime.specs.declared.thread.Transaction.{Transaction};
@@ -424,9 +424,9 @@ impl<A: Actor> ThreadSlot<A, A::Saved> {
 
     /// Gives the word back what it held at the outermost savepoint, and forgets its notes.
     pub(crate) fn undo_word(&mut self, memory: &mut Memory, word: u64)
-        requires word { can_access (place_of memory.old) word 8 ≡ true }
-        requires sound { is_sound (place_of memory.old) self.old ≡ true }
-        ensures place { place_of memory.new ≡ place_of memory.old }
+        requires word { can_access (layout_of memory.old) word 8 ≡ true }
+        requires sound { is_sound (layout_of memory.old) self.old ≡ true }
+        ensures layout { layout_of memory.new ≡ layout_of memory.old }
         ensures words { words_of memory.new ≡ update (words_of memory.old) word
             (kept_or (oldest (saves_of self.old.log) word) (words_of memory.old word)) }
         ensures local { (holders : Holders) (t : ℕ) → local_of A.state A.saved_state holders t self.new
@@ -434,7 +434,7 @@ impl<A: Actor> ThreadSlot<A, A::Saved> {
               tx = tx_of A.saved_state self.old.tx (forget_all (saves_of self.old.log) word);
             } }
         ensures waits { waits_of self.new.waits ≡ no_waits }
-        ensures sound { is_sound (place_of memory.old) self.new ≡ true }
+        ensures sound { is_sound (layout_of memory.old) self.new ≡ true }
         ensures tx { self.new.tx ≡ self.old.tx }
         ensures actor { self.new.actor ≡ self.old.actor }
     {
@@ -446,12 +446,12 @@ impl<A: Actor> ThreadSlot<A, A::Saved> {
     /// exactly where it notes none, and then nothing changes.
     pub(crate) fn undo_newest(&mut self, memory: &mut Memory) -> Option<u64>
         requires mark { 0 < length (marks_of self.old.log) }
-        requires sound { is_sound (place_of memory.old) self.old ≡ true }
+        requires sound { is_sound (layout_of memory.old) self.old ≡ true }
         ensures none { IfNone result ((x : ℕ) → newest (saves_of self.old.log) x ≡ None) }
         ensures noted { IfSome result (λ w. is_noted (newest (saves_of self.old.log)) w ≡ true) }
         ensures least { IfSome result (λ w. (v : ℕ) → v < w → is_noted (newest (saves_of self.old.log)) v ≡ false) }
-        ensures access { IfSome result (λ w. can_access (place_of memory.old) w 8 ≡ true) }
-        ensures place { place_of memory.new ≡ place_of memory.old }
+        ensures access { IfSome result (λ w. can_access (layout_of memory.old) w 8 ≡ true) }
+        ensures layout { layout_of memory.new ≡ layout_of memory.old }
         ensures words { IfSome result (λ w. words_of memory.new ≡ update (words_of memory.old) w
             (kept_or (newest (saves_of self.old.log) w) (words_of memory.old w))) }
         ensures local { IfSome result (λ w. (holders : Holders) (t : ℕ) → local_of A.state A.saved_state holders t self.new
@@ -462,7 +462,7 @@ impl<A: Actor> ThreadSlot<A, A::Saved> {
         ensures same_words { IfNone result (words_of memory.new ≡ words_of memory.old) }
         ensures same { IfNone result ((holders : Holders) (t : ℕ) → local_of A.state A.saved_state holders t self.new ≡ local_of A.state A.saved_state holders t self.old) }
         ensures same_waits { IfNone result (self.new.waits ≡ self.old.waits) }
-        ensures sound { is_sound (place_of memory.old) self.new ≡ true }
+        ensures sound { is_sound (layout_of memory.old) self.new ≡ true }
     {
         let Some(word) = self.log.undo_newest(memory) else {
             return None;

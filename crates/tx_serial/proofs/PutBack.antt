@@ -8,10 +8,10 @@ use Rattle.tx_events.specs.Memory.{MemoryLayout}
 use Rattle.tx_events.specs.World.{World, Alive, Lock}
 use Rattle.tx_serial.specs.Machine.{Local, Tx, NoTx, OpenTx, GivingUp, Closing, kept_or, oldest, held_by, wrote_by, is_live, live_in, eldest}
 use Rattle.tx_serial.specs.Shows.{ShowsTx, ShowsThread, saves_of, put_back_by, put_back}
-use Rattle.tx_serial.proofs.Agrees.{undoes, Going}
-use Rattle.tx_serial.proofs.Search.{eldest_none, eldest_some, eldest_below}
-use Rattle.tx_serial.proofs.Levels.{bottom, none_oldest}
-use Rattle.tx_serial.proofs.Here.{and_false, not_true, based}
+use Rattle.tx_serial.proofs.WorldAgreement.{undoes, Going}
+use Rattle.tx_serial.proofs.SearchLemmas.{eldest_none, eldest_some, eldest_below}
+use Rattle.tx_serial.proofs.SavepointLevels.{bottom, none_oldest}
+use Rattle.tx_serial.proofs.TurnContext.{and_false, not_true, based}
 
 module _ {S : Type 0} (threads : ℕ → Option (Local S)) (x : ℕ) where
   abbrev Same : ℕ → Type 0

@@ -16,7 +16,7 @@ use Rattle.tx_events.specs.Memory.{update, MemoryLayout, can_access, word_of, wo
 use Rattle.tx_events.specs.World.{target}
 use Rattle.tx_serial.specs.Machine.{Machine, Local, Tx, NoTx, OpenTx, GivingUp, Closing, Save, is_noted, birth, birth_of, has_tx, tx_in, least, blocker, lock_owner, busy, clash_of}
 use Rattle.tx_serial.specs.Turn.{Turned, bare, gives_up, clashes, load_in, store_in, load_out, store_out, joins, begins, sync_in, sync_idle, closes, outermost, commits, cancels_by, cancels, raises, in_does, out_does, without, lets_go, given_back, gives_back, turn_in, turn_of, turn_at, turn}
-use Rattle.tx_serial.proofs.Frames.{at_update}
+use Rattle.tx_serial.proofs.UntouchedThreads.{at_update}
 
 module _ {S : Type 0} (a : Thread S) (p : MemoryLayout) (t : ℕ) (m : Machine S) (l : Local S) (is : m.threads t ≡ Some l) where
   -- every transaction that is there before and after has one birth

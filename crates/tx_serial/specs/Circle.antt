@@ -5,7 +5,7 @@ use Rattle.choosers.specs.declared.Choice.{Choice}
 use Rattle.tx_events.specs.declared.TurnKind.TheVariants.{Waited}
 use Rattle.tx_events.specs.Thread.{Thread}
 use Rattle.tx_events.specs.Memory.{MemoryLayout}
-use Rattle.tx_serial.specs.Machine.{Machine, Local, tx_in, birth_of, keeps_off}
+use Rattle.tx_serial.specs.Machine.{Machine, Local, tx_in, birth_of, conflicts_with}
 use Rattle.tx_serial.specs.Turn.{turn}
 use Rattle.tx_serial.specs.Kinds.{Accesses, GoesOn, Asked}
 
@@ -31,7 +31,7 @@ pub record Blocks {S : Type 0} (a : Thread S) (p : MemoryLayout) (m : Machine S)
   pub goes : GoesOn t m local
   pub store : Bool
   pub access : Accesses p (a.next local.state) store word
-  pub off : keeps_off t store word m.threads u ≡ true
+  pub off : conflicts_with t store word m.threads u ≡ true
 
 -- Thread t waits for a word that thread u keeps from it: its turn would be Waited.
 pub record WaitsFor {S : Type 0} (a : Thread S) (p : MemoryLayout) (answer : Clash → Choice) (m : Machine S) (t u : ℕ) : Type 0 where

@@ -150,7 +150,7 @@ pub record Shows {S : Type 0} (a : Thread S) (p : MemoryLayout) (m : Machine S) 
   pub going : m.end ≡ None → Stands a p m w
 
 -- The order of the machine is enabled step by step from the start, and leads to a world that the machine stands for.
-pub record Shown {S : Type 0} (a : Thread S) (p : MemoryLayout) (start : World S) (m : Machine S) : Type 0 where
+pub record ShownByReplay {S : Type 0} (a : Thread S) (p : MemoryLayout) (start : World S) (m : Machine S) : Type 0 where
   pub world : World S
   pub replays : Replays a p start m.order world
   pub shows : Shows a p m world

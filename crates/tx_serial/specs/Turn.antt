@@ -35,8 +35,8 @@ abbrev pub steps : {S : Type 0} → ℕ → Machine S → Local S → Machine S
 steps t m l = record m { threads = update m.threads t (Some l); waits = update m.waits t no_waits }
 
 -- the order gains t
-abbrev pub told : {S : Type 0} → ℕ → Machine S → Machine S
-told t m = record m { order = m.order ++ t ∷ [] }
+abbrev pub order_gains : {S : Type 0} → ℕ → Machine S → Machine S
+order_gains t m = record m { order = m.order ++ t ∷ [] }
 
 -- the program ends so
 abbrev pub halts : {S : Type 0} → ℕ → Machine S → End → Turned S
@@ -56,11 +56,11 @@ bare s = record { state = s; ended = false; held = λ _. false; wrote = λ _. fa
 
 abbrev pub load_out : {S : Type 0} → Thread S → ℕ → Machine S → Local S → ℕ → ℕ → Option ℕ → Turned S
 load_out a t m l addr size (Some u) = waited t m (word_of addr) u
-load_out a t m l addr size None = ran (told t (steps t m (record l { state = a.after l.state (Loaded (load m.memory addr size)) })))
+load_out a t m l addr size None = ran (order_gains t (steps t m (record l { state = a.after l.state (Loaded (load m.memory addr size)) })))
 
 abbrev pub store_out : {S : Type 0} → Thread S → ℕ → Machine S → Local S → ℕ → ℕ → ℕ → Option ℕ → Turned S
 store_out a t m l addr size value (Some u) = waited t m (word_of addr) u
-store_out a t m l addr size value None = ran (record (told t (steps t m (record l { state = a.after l.state Nothing }))) {
+store_out a t m l addr size value None = ran (record (order_gains t (steps t m (record l { state = a.after l.state Nothing }))) {
   memory = store m.memory addr size value;
 })
 
@@ -73,20 +73,20 @@ begins t m l s None = ran (record (steps t m (record l { state = s; tx = OpenTx 
 
 abbrev pub sync_idle : {S : Type 0} → ℕ → Machine S → Local S → Option ℕ → Turned S
 sync_idle t m l (Some u) = stays (BlockWait u) m
-sync_idle t m l None = ran (record (told t (steps t m l)) { lock = lock_in t m.lock })
+sync_idle t m l None = ran (record (order_gains t (steps t m l)) { lock = lock_in t m.lock })
 
 abbrev pub sync_in : {S : Type 0} → ℕ → Machine S → Local S → Option ℕ → Turned S
 sync_in t m l (Some u) = stays (BlockWait u) m
 sync_in t m l None = sync_idle t m l (busy t m)
 
 abbrev pub spawns : {S : Type 0} → ℕ → Machine S → Local S → S → Machine S
-spawns t m l child = record (told t m) {
+spawns t m l child = record (order_gains t m) {
   started = m.started + 1;
   threads = update (update m.threads m.started (Some (bare child))) t (Some l);
   waits = update m.waits t no_waits;
 }
 
--- Join, with the thread to be joined, if the number is can_access
+-- Join, with the thread to be joined, if the number is that of one that may be joined
 
 abbrev pub number_of : ℤ → ℕ
 number_of (pos n) = n
@@ -94,7 +94,7 @@ number_of (negsuc n) = 0
 
 abbrev pub joins : {S : Type 0} → ℕ → ℤ → Machine S → Local S → Option (Local S) → Turned S
 joins t id m l None = halts t m (Trapped BadJoin)
-joins t id m l (Some u) = cond u.ended (ran (told t (steps t m l))) (stays (JoinWait (number_of id)) m)
+joins t id m l (Some u) = cond u.ended (ran (order_gains t (steps t m l))) (stays (JoinWait (number_of id)) m)
 
 -- the rows of a thread that has no transaction
 abbrev pub out_does : {S : Type 0} → Thread S → MemoryLayout → ℕ → Machine S → Local S → Event → Turned S
@@ -103,12 +103,12 @@ out_does a p t m l (Load addr size vol) = cond (can_access p addr size) (load_ou
 out_does a p t m l (Store addr size value vol) = cond (can_access p addr size) (store_out a t m l addr size value (blocker t true (word_of addr) m)) (halts t m (Trapped BadAddress))
 out_does a p t m l (BeginAtomic kind) = begins t m l (a.after l.state Nothing) (lock_owner t m.lock.holder)
 out_does a p t m l BeginSync = sync_in t m (record l { state = a.after l.state Nothing }) (lock_owner t m.lock.holder)
-out_does a p t m l EndSync = ran (record (told t (steps t m (record l { state = a.after l.state Nothing }))) { lock = lock_out m.lock })
+out_does a p t m l EndSync = ran (record (order_gains t (steps t m (record l { state = a.after l.state Nothing }))) { lock = lock_out m.lock })
 out_does a p t m l (Spawn f x) = cond (nat_lt m.started p.limit) (ran (spawns t m (record l { state = a.after l.state (Id (pos m.started)) }) (a.child l.state m.started f x))) (halts t m (Trapped TooManyThreads))
 out_does a p t m l (Join id) = joins t id m (record l { state = a.after l.state Nothing }) (target t id m.threads)
-out_does a p t m l (Out byte) = ran (record (told t (steps t m (record l { state = a.after l.state Nothing }))) { out = m.out ++ byte ∷ [] })
-out_does a p t m l Inp = ran (record (told t (steps t m (record l { state = a.after l.state (Byte (byte_of m.input)) }))) { input = input_after m.input })
-out_does a p t m l Done = ran (told t (steps t m (record l { state = a.after l.state Nothing; ended = true })))
+out_does a p t m l (Out byte) = ran (record (order_gains t (steps t m (record l { state = a.after l.state Nothing }))) { out = m.out ++ byte ∷ [] })
+out_does a p t m l Inp = ran (record (order_gains t (steps t m (record l { state = a.after l.state (Byte (byte_of m.input)) }))) { input = input_after m.input })
+out_does a p t m l Done = ran (order_gains t (steps t m (record l { state = a.after l.state Nothing; ended = true })))
 out_does a p t m l (Stop e) = halts t m e
 -- by the laws of a thread's blocks these never come here
 out_does a p t m l EndAtomic = stays Idle m
@@ -156,7 +156,7 @@ closes b None = NoTx
 closes b (Some x) = Closing b
 
 abbrev pub outermost : {S : Type 0} → MemoryLayout → ℕ → Machine S → Local S → S → ℕ → Turned S
-outermost p t m l s b = ran (told t (steps t m (record l { state = s; tx = closes b (least l.held (word_bound p)) })))
+outermost p t m l s b = ran (order_gains t (steps t m (record l { state = s; tx = closes b (least l.held (word_bound p)) })))
 
 -- the newest savepoint is dropped, and hands down its notes
 abbrev pub commits : {S : Type 0} → MemoryLayout → ℕ → Machine S → Local S → S → ℕ → S → List Save → Turned S

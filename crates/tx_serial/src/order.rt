@@ -9,7 +9,7 @@ ghost use Rattle.tx_events.specs.Memory.{MemoryLayout};
 ghost use Rattle.tx_events.specs.World.{first_world};
 ghost use Rattle.tx_serial.specs.Turn.{Slot, turn, turns, first_machine};
 ghost use Rattle.tx_serial.specs.Sound.{Sound};
-ghost use Rattle.tx_serial.specs.Shows.{Shown};
+ghost use Rattle.tx_serial.specs.Shows.{ShownByReplay};
 ghost use Rattle.tx_serial.specs.Laws.{HeldApart, LockAlone, Rests};
 
 use tx_events::Actor;
@@ -21,7 +21,7 @@ use tx_events::Actor;
 pub fn order_replays<A: Actor>()
     ensures { (p : MemoryLayout) (memory : ℕ → ℕ) (input : List ℕ) (main : A.State) (slots : List Slot) →
         p.limit ≤ 64 → A.is_reached main → A.thread.blocks main ≡ [] →
-        Shown A.thread p (first_world memory input main) (turns A.thread p slots (first_machine memory input main)) }
+        ShownByReplay A.thread p (first_world memory input main) (turns A.thread p slots (first_machine memory input main)) }
 {}
 
 /// Each machine that turns lead to is sound: births are distinct and below the next birth, and the open blocks of each

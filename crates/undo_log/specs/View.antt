@@ -1,4 +1,4 @@
--- What a caller sees of a log: its notes, and for each mark the place at which its notes begin.
+-- What a caller sees of a log: its notes, and for each mark the position at which its notes begin.
 use Rattle.std.specs.Prelude.{ℕ, ◌<◌, ◌-◌, ◌≡◌, List, length, drop, slice_index, vec_len, vec_capacity}
 use Rattle.undo_log.specs.declared.notes.Note.{Note}
 use Rattle.undo_log.specs.declared.undo.Log.{Log}
