@@ -1,5 +1,5 @@
 -- Entries of an index, and words that a list begins with.
-use Rattle.std.proofs.Common.{ℕ, ◌≡◌, ◌==◌, ◌<◌, ◌≤◌, suc, zero, cond, Option, Some, None, List, [], ◌∷◌, ◌++◌, length, take, drop, get_or, refl, ap, sym, subst, ◌∙◌, ◌⊎◌, inl, inr, ◌||◌, arith}
+use Rattle.std.proofs.Common.{ℕ, ◌≡◌, ◌==◌, ◌<◌, ◌≤◌, suc, zero, cond, Option, Some, None, List, [], ◌∷◌, ◌++◌, length, take, drop, get_or, refl, ap, sym, subst, take-append-drop, ◌∙◌, ◌⊎◌, inl, inr, ◌||◌, arith}
 use Rattle.std.proofs.lemmas.List.{map-append, take-append-le}
 use Rattle.std.proofs.Math.Seq.{take-append_seam}
 use Rattle.std.proofs.lemmas.Option.{slice_get_within, get_or_from_slice_get, none-some}
@@ -152,6 +152,13 @@ pub begins_then : (notes more : List Note) (ws : List ℕ) (count : ℕ) → Beg
 begins_then notes more ws count h =
     begins_more (noted_words (take count notes)) (take count ws) (noted_words more) (begins_cut notes ws count h)
     ∙ ap (take (length (take count ws))) (sym (map-append (λ (k : Note). k.word) (take count notes) more))
+
+-- the index is cut to notes that are as they were
+pub begins_kept : (old new : List Note) (ws : List ℕ) (count : ℕ) → take count new ≡ take count old → BeginsWith (noted_words old) ws → BeginsWith (noted_words new) (take count ws)
+begins_kept old new ws count same h =
+    let front : BeginsWith (noted_words (take count new)) (take count ws) = subst (λ z. BeginsWith (noted_words z) (take count ws)) (sym same) (begins_cut old ws count h) in
+    let all : noted_words (take count new) ++ noted_words (drop count new) ≡ noted_words new = sym (map-append (λ (k : Note). k.word) (take count new) (drop count new)) ∙ ap noted_words (take-append-drop count new) in
+    subst (λ z. BeginsWith z (take count ws)) all (begins_more (noted_words (take count new)) (take count ws) (noted_words (drop count new)) front)
 
 -- the same of equal lists
 pub begins_same : {all now ws kept : List ℕ} → now ≡ all → kept ≡ ws → BeginsWith all ws → BeginsWith now kept

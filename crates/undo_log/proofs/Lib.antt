@@ -2,3 +2,4 @@ mod IndexLists
 pub mod NoteLists
 mod LastPositions
 pub mod PutBack
+pub mod NoteOrder

@@ -5,7 +5,7 @@ use Rattle.undo_log.specs.declared.undo.Log.{Log}
 use Rattle.undo_log.specs.IndexView.{words_listed, CanAdd}
 
 abbrev pub notes_of : Log → List Note
-notes_of log = log.notes.items
+notes_of log = log.list.notes.items
 
 abbrev pub marks_of : Log → List ℕ
 marks_of log = log.marks.items
@@ -19,7 +19,7 @@ newest_notes log = drop (newest_start (marks_of log)) (notes_of log)
 
 -- there is room for one note and one mark more, and the index has all notes and room for one more
 pub record HasCapacity (log : Log) : Type 0 where
-  pub notes : vec_len log.notes < vec_capacity log.notes
+  pub notes : vec_len log.list.notes < vec_capacity log.list.notes
   pub marks : vec_len log.marks < vec_capacity log.marks
   pub indexed : length (words_listed log.index) ≡ length (notes_of log)
   pub index : CanAdd log.index

@@ -9,6 +9,9 @@ use crate::notes::Note;
 use std::alloc::{AllocError, Global};
 use std::collections::HashMap;
 
+/// Below one word in so many that there is room for, an index is cleared word by word, else as a whole.
+const FEW: usize = 128;
+
 /// A word of the list.
 #[derive(Clone, Copy)]
 pub(crate) struct Entry {
@@ -103,6 +106,25 @@ impl Index {
         while self.len() > count {
             self.pop();
         }
+    }
+
+    /// Takes out all words.
+    pub(crate) fn clear(&mut self)
+        ensures { words_listed self.new ≡ [] }
+    {
+        if self.len() <= self.newest.capacity() / FEW {
+            self.truncate(0);
+        } else {
+            self.clear_whole();
+        }
+    }
+
+    /// Takes out all words at once.
+    fn clear_whole(&mut self)
+        ensures { words_listed self.new ≡ [] }
+    {
+        self.newest.clear();
+        self.entries.clear();
     }
 
     /// Takes out the last word.

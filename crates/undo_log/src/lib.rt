@@ -7,6 +7,7 @@
 
 mod index;
 pub mod laws;
+mod list;
 pub mod notes;
 #[cfg(test)]
 mod tests;

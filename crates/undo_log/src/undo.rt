@@ -4,21 +4,20 @@ ghost use Rattle.undo_log.specs.Index.{words_in, BeginsWith};
 ghost use Rattle.undo_log.specs.Notes.{noted_words};
 
 use crate::index::Index;
-use crate::notes::{
-    Note, first_old, least_word, move_marks, put_all_back, put_word_back, remove_from,
-};
+use crate::list::NoteList;
+use crate::notes::{Note, move_marks, put_all_back, put_word_back};
 use std::alloc::{AllocError, Global};
 use tx_memory::Memory;
 
 /// Notes of words, with one mark for each savepoint, and an index by word.
 #[derive(Drop)]
 pub struct Log {
-    notes: Vec<Note>,
+    list: NoteList,
     marks: Vec<usize>,
     index: Index,
-    ghost within: { (i : ℕ) → i < length marks.items → slice_index marks.items i ≤ length notes.items },
+    ghost within: { (i : ℕ) → i < length marks.items → slice_index marks.items i ≤ length list.notes.items },
     ghost ascending: { (i j : ℕ) → i ≤ j → j < length marks.items → slice_index marks.items i ≤ slice_index marks.items j },
-    ghost indexed: { BeginsWith (noted_words notes.items) (words_in index.entries.items) },
+    ghost indexed: { BeginsWith (noted_words list.notes.items) (words_in index.entries.items) },
 }
 
 impl Log {
@@ -26,6 +25,7 @@ impl Log {
     ghost use Rattle.tx_events.specs.Memory.{can_access};
     ghost use Rattle.tx_memory.specs.View.{layout_of, words_of};
     ghost use Rattle.undo_log.specs.Notes.{first_note, is_noted, put_back, word_back, others, can_put_back};
+    ghost use Rattle.std.specs.List.Sorted.{IsPermutation};
     ghost use Rattle.undo_log.specs.View.{notes_of, marks_of, newest_start, newest_notes, HasCapacity};
 
     /// A log without notes and marks.
@@ -34,7 +34,7 @@ impl Log {
         ensures marks { marks_of result ≡ [] }
     {
         Log {
-            notes: Vec::new(alloc),
+            list: NoteList::new(alloc),
             marks: Vec::new(alloc),
             index: Index::new(alloc),
         }
@@ -47,9 +47,9 @@ impl Log {
         ensures marks { marks_of self.new ≡ marks_of self.old }
         ensures capacity { OnOk result (HasCapacity self.new) }
     {
-        self.notes.reserve(1)?;
+        self.list.reserve()?;
         self.marks.reserve(1)?;
-        self.index.catch_up(self.notes.as_slice())?;
+        self.index.catch_up(self.list.notes.as_slice())?;
         self.index.reserve()
     }
 
@@ -61,7 +61,7 @@ impl Log {
         ensures marks { marks_of self.new ≡ marks_of self.old ++ length (notes_of self.old) ∷ [] }
     {
         let number = self.marks.len();
-        let _ = self.marks.push(self.notes.len());
+        let _ = self.marks.push(self.list.len());
         number
     }
 
@@ -75,7 +75,8 @@ impl Log {
     {
         let start = self.start();
         if !self.index.has_since(start, word) {
-            let _ = self.notes.push(Note { word, old });
+            let is_again = self.index.has_since(self.list.distinct, word);
+            self.list.push(Note { word, old }, start, is_again);
             self.index.push(word);
         }
     }
@@ -102,8 +103,8 @@ impl Log {
         ensures marks { marks_of self.new ≡ take (mark + 1) (marks_of self.old) }
     {
         let start = self.marks[mark];
-        put_all_back(memory, &self.notes[start..]);
-        self.notes.truncate(start);
+        put_all_back(memory, &self.list.notes[start..]);
+        self.list.truncate(start);
         self.index.truncate(start);
         self.marks.truncate(mark + 1);
     }
@@ -114,15 +115,41 @@ impl Log {
         ensures marks { marks_of self.new ≡ [] }
     {
         self.marks.clear();
-        self.notes.clear();
-        self.index.truncate(0);
+        self.list.clear();
+        self.index.clear();
+    }
+
+    /// Goes back to one mark and no notes, as a new log is after its first `mark`.
+    pub fn start_over(&mut self)
+        requires { 0 < length (marks_of self.old) }
+        ensures notes { notes_of self.new ≡ [] }
+        ensures marks { marks_of self.new ≡ 0 ∷ [] }
+    {
+        self.marks.truncate(1);
+        self.marks[0] = 0;
+        self.list.clear();
+        self.index.clear();
+    }
+
+    /// Puts the notes of the newest mark in order of their words, the greatest first, where it is known that they note no
+    /// word twice; else it changes nothing. The words under the mark can then be undone without a search.
+    pub fn order_newest(&mut self)
+        ensures marks { marks_of self.new ≡ marks_of self.old }
+        ensures older { take (newest_start (marks_of self.old)) (notes_of self.new)
+            ≡ take (newest_start (marks_of self.old)) (notes_of self.old) }
+        ensures newest { IsPermutation (newest_notes self.old) (newest_notes self.new) }
+        ensures first { (word : ℕ) → first_note (newest_notes self.new) word ≡ first_note (newest_notes self.old) word }
+    {
+        let start = self.start();
+        let _moved = self.list.sort(start);
+        self.index.truncate(start);
     }
 
     /// All notes, the oldest first.
     pub fn notes(&self) -> &[Note]
         ensures { result.now ≡ notes_of self.now }
     {
-        self.notes.as_slice()
+        self.list.notes.as_slice()
     }
 
     /// For each mark the position at which its notes begin, the oldest mark first.
@@ -150,10 +177,10 @@ impl Log {
         ensures same_notes { IfNone result (notes_of self.new ≡ notes_of self.old) }
     {
         let start = self.start();
-        let word = least_word(&self.notes[start..])?;
-        put_word_back(memory, &self.notes[start..], word);
-        remove_from(&mut self.notes, start, word);
-        self.index.truncate(start);
+        let word = self.list.least_since(start)?;
+        put_word_back(memory, self.list.first_since(start, word), word);
+        let kept = self.list.remove(start, word);
+        self.index.truncate(kept);
         Some(word)
     }
 
@@ -166,10 +193,36 @@ impl Log {
         ensures marks { marks_of self.new
             ≡ map (λ m. length (others word (take m (notes_of self.old)))) (marks_of self.old) }
     {
-        put_word_back(memory, self.notes.as_slice(), word);
-        move_marks(&mut self.marks, self.notes.as_slice(), word);
-        remove_from(&mut self.notes, 0, word);
-        self.index.truncate(0);
+        if self.list.is_above(word) {
+            return;
+        }
+        put_word_back(memory, self.list.first_since(0, word), word);
+        self.move_marks(word);
+        let kept = self.list.remove(0, word);
+        self.index.truncate(kept);
+    }
+
+    /// Moves the marks to where their notes begin once the word's notes are gone.
+    fn move_marks(&mut self, word: u64)
+        ensures notes { notes_of self.new ≡ notes_of self.old }
+        ensures marks { marks_of self.new
+            ≡ map (λ m. length (others word (take m (notes_of self.old)))) (marks_of self.old) }
+    {
+        if self.marks_stay(word) {
+            return;
+        }
+        move_marks(&mut self.marks, self.list.notes.as_slice(), word);
+    }
+
+    /// Whether it is known that no mark moves once the word's notes are gone.
+    fn marks_stay(&self, word: u64) -> bool
+        ensures { result ≡ true → marks_of self.now
+            ≡ map (λ m. length (others word (take m (notes_of self.now)))) (marks_of self.now) }
+    {
+        if !self.list.ends_in(0, word) {
+            return false;
+        }
+        self.start() < self.list.len()
     }
 
     /// Where the notes of the newest mark begin.
