@@ -6,8 +6,8 @@ ghost use Rattle.own_table.specs.declared.TheConstants.{STRIPES};
 ghost use Rattle.own_table.specs.Records.{stripe_of, blocks, is_write, raised};
 ghost use Rattle.own_table.specs.Stripes.{records_at, hold_at, HasStripeCapacity, IsPlaced};
 
-use crate::hold::Mode;
 use crate::STRIPES;
+use crate::hold::Mode;
 use crate::stripe::Stripe;
 use std::alloc::{AllocError, Global};
 
