@@ -28,3 +28,5 @@ pub mod IdleWaits
 pub mod OrderGains
 pub mod WorkedRuns
 pub mod OneTrace
+pub mod TurnSteps
+pub mod OwnEnds

@@ -93,8 +93,8 @@ module _ {S : Type 0} (a : Thread S) (p : MemoryLayout) where
         ap (λ zs. first ++ zs) rest.3 ∙ sym (append_assoc first (items_of a p h.0 order rest.0 rest.1) (step_items a p t rest.0 rest.2.before (a.next rest.2.before) v rest.2.does)),
       )
 
-  pub trace_grows : (start : World S) (order : List ℕ) (t : ℕ) (items more : List Item) → TraceOf a p start order items → TraceOf a p start (order ++ t ∷ []) more → OneStepMore a p t items more
+  pub trace_grows : (start : World S) (order : List ℕ) (t : ℕ) (items more : List Item) → TraceOf a p start order items → TraceOf a p start (order ++ t ∷ []) more → OneStepMore a p start order t items more
   trace_grows start order t items more h g =
       let last = split t order start g.world g.replays in
       let same = one_trace start order (items_of a p start order last.0 last.1) items (record { world = last.0; replays = last.1; is = refl }) h in
-      record { before = last.0; after = g.world; step = last.2; is = g.is ∙ (last.3 ∙ ap (λ zs. zs ++ step_items a p t last.0 last.2.before (a.next last.2.before) g.world last.2.does) (sym same)) }
+      record { before = last.0; after = g.world; replayed = last.1; step = last.2; replays = g.replays; is = g.is ∙ (last.3 ∙ ap (λ zs. zs ++ step_items a p t last.0 last.2.before (a.next last.2.before) g.world last.2.does) (sym same)) }

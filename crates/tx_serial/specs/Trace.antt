@@ -80,9 +80,12 @@ pub record TraceOf {S : Type 0} (a : Thread S) (p : MemoryLayout) (start : World
   pub replays : Replays a p start order world
   pub is : items ≡ items_of a p start order world replays
 
--- The one list has the items of one more step, of thread t, than the other.
-pub record OneStepMore {S : Type 0} (a : Thread S) (p : MemoryLayout) (t : ℕ) (items more : List Item) : Type 0 where
+-- The one list has the items of one more step, of thread t, than the other. That step leads from the world to which the
+-- order replays to the one to which the order with t behind it replays.
+pub record OneStepMore {S : Type 0} (a : Thread S) (p : MemoryLayout) (start : World S) (order : List ℕ) (t : ℕ) (items more : List Item) : Type 0 where
   pub before : World S
   pub after : World S
+  pub replayed : Replays a p start order before
   pub step : Step a p t before after
+  pub replays : Replays a p start (order ++ t ∷ []) after
   pub is : more ≡ (items ++ step_items a p t before step.before (a.next step.before) after step.does)

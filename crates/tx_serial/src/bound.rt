@@ -1,4 +1,5 @@
 //! How many turns a program needs that spawns nothing.
+ghost use Rattle.tx_events.specs.declared.TheConstants.{THREAD_LIMIT};
 ghost use Rattle.std.specs.Prelude.{◌≡◌, ℕ, ◌+◌, ◌*◌, ◌≤◌, false, List, [], Some};
 ghost use Rattle.choosers.specs.declared.Clash.{Clash};
 ghost use Rattle.choosers.specs.declared.Choice.{Choice};
@@ -17,19 +18,19 @@ use tx_events::Actor;
 /// or JoinWait, whatever the policy would answer.
 pub fn turn_bound<A: Actor>()
     ensures ends { (p : MemoryLayout) (memory : ℕ → ℕ) (input : List ℕ) (main : A.State) (instructions accesses : ℕ) (order : List ℕ) (v : World (A.State × Tally)) (e : End) (slots : List Slot) →
-        p.limit ≤ 64 → A.is_reached main → A.thread.blocks main ≡ [] →
+        p.limit ≤ THREAD_LIMIT → A.is_reached main → A.thread.blocks main ≡ [] →
         (run : Replays (tallied A.thread) p (first_world memory input (main, no_tally)) order v) →
         AtMost A.thread p instructions accesses (first_world memory input (main, no_tally)) order v run → v.end ≡ Some e →
         instructions + 2 * accesses ≤ zeros slots →
         ((turns A.thread p slots (first_machine memory input main)).end ≡ Some e) × ((turns A.thread p slots (first_machine memory input main)).out ≡ v.out) }
     ensures units { (p : MemoryLayout) (memory : ℕ → ℕ) (input : List ℕ) (main : A.State) (n : ℕ) (order : List ℕ) (v : World (A.State × Tally)) (e : End) (slots : List Slot) →
-        p.limit ≤ 64 → A.is_reached main → A.thread.blocks main ≡ [] →
+        p.limit ≤ THREAD_LIMIT → A.is_reached main → A.thread.blocks main ≡ [] →
         (run : Replays (tallied A.thread) p (first_world memory input (main, no_tally)) order v) →
         AtMost A.thread p (64 * n + 64) n (first_world memory input (main, no_tally)) order v run → v.end ≡ Some e →
         66 * n + 64 ≤ zeros slots →
         ((turns A.thread p slots (first_machine memory input main)).end ≡ Some e) × ((turns A.thread p slots (first_machine memory input main)).out ≡ v.out) }
     ensures never_waits { (p : MemoryLayout) (memory : ℕ → ℕ) (input : List ℕ) (main : A.State) (instructions accesses : ℕ) (order : List ℕ) (v : World (A.State × Tally)) (e : End) (slots : List Slot) →
-        p.limit ≤ 64 → A.is_reached main → A.thread.blocks main ≡ [] →
+        p.limit ≤ THREAD_LIMIT → A.is_reached main → A.thread.blocks main ≡ [] →
         (run : Replays (tallied A.thread) p (first_world memory input (main, no_tally)) order v) →
         AtMost A.thread p instructions accesses (first_world memory input (main, no_tally)) order v run → v.end ≡ Some e →
         (answer : Clash → Choice) (t : ℕ) → is_waiting (turn A.thread p answer t (turns A.thread p slots (first_machine memory input main))).kind ≡ false }

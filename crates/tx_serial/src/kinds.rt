@@ -1,4 +1,5 @@
 //! Which kinds of turn come, and exactly where.
+ghost use Rattle.tx_events.specs.declared.TheConstants.{THREAD_LIMIT};
 ghost use Rattle.std.specs.Prelude.{◌≡◌, ℕ, ◌≤◌, false};
 ghost use Rattle.choosers.specs.declared.Clash.{Clash};
 ghost use Rattle.choosers.specs.declared.Choice.{Choice};
@@ -16,7 +17,7 @@ use tx_events::Actor;
 /// is never BlockWait or JoinWait; while the transaction gives up it is Undone, and while it closes it is Released.
 pub fn kind_comes<A: Actor>()
     ensures { (p : MemoryLayout) (answer : Clash → Choice) (t : ℕ) (m : Machine A.State) (l : Local A.State) →
-        p.limit ≤ 64 → Sound A.is_reached A.thread p m → GoesOn t m l →
+        p.limit ≤ THREAD_LIMIT → Sound A.is_reached A.thread p m → GoesOn t m l →
         KindBy A.thread p answer t m l l.tx (turn A.thread p answer t m).kind }
 {}
 

@@ -1,4 +1,5 @@
 //! The order of every list of turns replays in the indivisible world.
+ghost use Rattle.tx_events.specs.declared.TheConstants.{THREAD_LIMIT};
 ghost use Rattle.std.specs.Prelude.{◌≡◌, ℕ, ◌≤◌, List, [], None, true};
 ghost use Rattle.choosers.specs.declared.Clash.{Clash};
 ghost use Rattle.choosers.specs.declared.Choice.{Choice};
@@ -20,7 +21,7 @@ use tx_events::Actor;
 /// outermost savepoint, and each thread, as `Stands` says part by part.
 pub fn order_replays<A: Actor>()
     ensures { (p : MemoryLayout) (memory : ℕ → ℕ) (input : List ℕ) (main : A.State) (slots : List Slot) →
-        p.limit ≤ 64 → A.is_reached main → A.thread.blocks main ≡ [] →
+        p.limit ≤ THREAD_LIMIT → A.is_reached main → A.thread.blocks main ≡ [] →
         ShownByReplay A.thread p (first_world memory input main) (turns A.thread p slots (first_machine memory input main)) }
 {}
 
@@ -30,7 +31,7 @@ pub fn order_replays<A: Actor>()
 /// so BlockWait and JoinWait, which leave the waits, stand between no two of the turns that they count.
 pub fn stays_sound<A: Actor>()
     ensures sound { (p : MemoryLayout) (memory : ℕ → ℕ) (input : List ℕ) (main : A.State) (slots : List Slot) →
-        p.limit ≤ 64 → A.is_reached main → A.thread.blocks main ≡ [] →
+        p.limit ≤ THREAD_LIMIT → A.is_reached main → A.thread.blocks main ≡ [] →
         Sound A.is_reached A.thread p (turns A.thread p slots (first_machine memory input main)) }
     ensures apart { (p : MemoryLayout) (memory : ℕ → ℕ) (input : List ℕ) (main : A.State) (slots : List Slot) →
         (turns A.thread p slots (first_machine memory input main)).end ≡ None →
@@ -39,7 +40,7 @@ pub fn stays_sound<A: Actor>()
         (turns A.thread p slots (first_machine memory input main)).end ≡ None →
         LockAlone (turns A.thread p slots (first_machine memory input main)) }
     ensures rests { (p : MemoryLayout) (memory : ℕ → ℕ) (input : List ℕ) (main : A.State) (slots : List Slot) →
-        p.limit ≤ 64 → A.is_reached main → A.thread.blocks main ≡ [] →
+        p.limit ≤ THREAD_LIMIT → A.is_reached main → A.thread.blocks main ≡ [] →
         Rests A.thread (turns A.thread p slots (first_machine memory input main)) }
 {}
 

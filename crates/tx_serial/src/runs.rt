@@ -1,12 +1,14 @@
 //! Whole runs: what they come to, and that the recorded picks give them again.
-ghost use Rattle.std.specs.Prelude.{◌≡◌, ℕ, ◌≤◌, length, List, [], Option, Some};
+ghost use Rattle.tx_events.specs.declared.TheConstants.{THREAD_LIMIT};
+ghost use Rattle.std.specs.Prelude.{◌≡◌, ℕ, ◌≤◌, length, List, [], Option, Some, None};
+ghost use Rattle.tx_events.specs.declared.End.TheVariants.{StepsOut};
 ghost use Rattle.choosers.specs.declared.Clash.{Clash};
 ghost use Rattle.choosers.specs.declared.Choice.{Choice};
 ghost use Rattle.choosers.specs.declared.Seen.{Seen};
 ghost use Rattle.tx_events.specs.Memory.{MemoryLayout};
 ghost use Rattle.tx_events.specs.World.{first_world};
 ghost use Rattle.tx_serial.specs.Machine.{Machine};
-ghost use Rattle.tx_serial.specs.Turn.{Slot, first_machine};
+ghost use Rattle.tx_serial.specs.Turn.{Slot, turns, first_machine};
 ghost use Rattle.tx_serial.specs.Run.{PickedBy, Outcome, RunOf, not_begun, slots_of, sum_of, Together};
 ghost use Rattle.tx_serial.specs.Laws.{Replayed};
 
@@ -34,7 +36,7 @@ pub fn turns_counted<A: Actor>()
 /// StepsOut because no end came, the world has none.
 pub fn run_replays<A: Actor>()
     ensures { (p : MemoryLayout) (bound : ℕ) (memory : ℕ → ℕ) (input : List ℕ) (main : A.State) (slots : List Slot) (result : Outcome) →
-        p.limit ≤ 64 → A.is_reached main → A.thread.blocks main ≡ [] →
+        p.limit ≤ THREAD_LIMIT → A.is_reached main → A.thread.blocks main ≡ [] →
         RunOf A.thread p bound (first_machine memory input main) slots result →
         Replayed A.thread p (first_world memory input main) result }
 {}
@@ -46,4 +48,13 @@ pub fn equal_replay<A: Actor>()
         RunOf A.thread p bound first (slots_of answer recorded) result →
         RunOf A.thread p bound first (slots_of answer picked) again →
         Together recorded picked → (picked ≡ recorded) × (again ≡ result) }
+{}
+
+/// A run ends with StepsOut only where it has taken as many turns as its bound and no end has come: no thread ends the
+/// program so.
+pub fn steps_out_at_the_bound<A: Actor>()
+    ensures { (p : MemoryLayout) (bound : ℕ) (memory : ℕ → ℕ) (input : List ℕ) (main : A.State) (slots : List Slot) (result : Outcome) →
+        p.limit ≤ THREAD_LIMIT → A.is_reached main → A.thread.blocks main ≡ [] →
+        RunOf A.thread p bound (first_machine memory input main) slots result → result.end ≡ StepsOut →
+        (length slots ≡ bound) × ((turns A.thread p slots (first_machine memory input main)).end ≡ None) }
 {}

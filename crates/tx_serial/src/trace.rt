@@ -14,9 +14,10 @@ pub fn one_trace<A: Actor>()
         TraceOf A.thread p start order items → TraceOf A.thread p start order other → other ≡ items }
 {}
 
-/// An order that grows by one thread has a trace that grows by the items of one step of that thread.
+/// An order that grows by one thread has a trace that grows by the items of one step of that thread: the step from the
+/// world to which that very order replays.
 pub fn trace_grows<A: Actor>()
     ensures { (p : MemoryLayout) (start : World A.State) (order : List ℕ) (t : ℕ) (items more : List Item) →
         TraceOf A.thread p start order items → TraceOf A.thread p start (order ++ t ∷ []) more →
-        OneStepMore A.thread p t items more }
+        OneStepMore A.thread p start order t items more }
 {}

@@ -1,4 +1,5 @@
 //! Under the rule of the policy `older` there is no circle of waits for words.
+ghost use Rattle.tx_events.specs.declared.TheConstants.{THREAD_LIMIT};
 ghost use Rattle.std.specs.Prelude.{◌≡◌, ℕ, ◌<◌, ◌≤◌, true};
 ghost use Rattle.choosers.specs.declared.Clash.{Clash};
 ghost use Rattle.choosers.specs.declared.Choice.{Choice};
@@ -17,11 +18,11 @@ use tx_events::Actor;
 /// of every blocking transaction.
 pub fn older_waits<A: Actor>()
     ensures rolled { (p : MemoryLayout) (answer : Clash → Choice) (m : Machine A.State) (t word holder : ℕ) →
-        p.limit ≤ 64 → Sound A.is_reached A.thread p m → AnswersAt is_older A.thread p t answer m →
+        p.limit ≤ THREAD_LIMIT → Sound A.is_reached A.thread p m → AnswersAt is_older A.thread p t answer m →
         (turn A.thread p answer t m).kind ≡ Rolled word holder →
         Blocks A.thread p m t holder word × (birth_of (m.threads holder) < birth_of (m.threads t)) }
     ensures waited { (p : MemoryLayout) (answer : Clash → Choice) (m : Machine A.State) (t word holder : ℕ) →
-        p.limit ≤ 64 → Sound A.is_reached A.thread p m → AnswersAt is_older A.thread p t answer m →
+        p.limit ≤ THREAD_LIMIT → Sound A.is_reached A.thread p m → AnswersAt is_older A.thread p t answer m →
         tx_in (m.threads t) ≡ true → (turn A.thread p answer t m).kind ≡ Waited word holder →
         (u : ℕ) → Blocks A.thread p m t u word → birth_of (m.threads t) < birth_of (m.threads u) }
 {}
@@ -30,13 +31,13 @@ pub fn older_waits<A: Actor>()
 /// turn, the one with the greatest never waits for a word, and no circle of waits for words arises.
 pub fn no_circle_of_waits<A: Actor>()
     ensures eldest { (p : MemoryLayout) (answer : Clash → Choice) (m : Machine A.State) (t word holder : ℕ) →
-        p.limit ≤ 64 → Sound A.is_reached A.thread p m → AnswersAt is_older A.thread p t answer m →
+        p.limit ≤ THREAD_LIMIT → Sound A.is_reached A.thread p m → AnswersAt is_older A.thread p t answer m →
         IsEldest t m → (turn A.thread p answer t m).kind ≡ Rolled word holder → ⊥ }
     ensures youngest { (p : MemoryLayout) (answer : Clash → Choice) (m : Machine A.State) (t word holder : ℕ) →
-        p.limit ≤ 64 → Sound A.is_reached A.thread p m → AnswersAt is_older A.thread p t answer m →
+        p.limit ≤ THREAD_LIMIT → Sound A.is_reached A.thread p m → AnswersAt is_older A.thread p t answer m →
         IsYoungest t m → (turn A.thread p answer t m).kind ≡ Waited word holder → ⊥ }
     ensures circle { (p : MemoryLayout) (answer : Clash → Choice) (m : Machine A.State) (t : ℕ) →
-        p.limit ≤ 64 → Sound A.is_reached A.thread p m → AnswersBy is_older A.thread p answer m →
+        p.limit ≤ THREAD_LIMIT → Sound A.is_reached A.thread p m → AnswersBy is_older A.thread p answer m →
         WaitsOn A.thread p answer m t t → ⊥ }
 {}
 
