@@ -1,5 +1,5 @@
 -- The savepoints of a log after each of its calls.
-use Rattle.std.proofs.Common.{ℕ, zero, suc, ◌≡◌, ◌<◌, ◌≤◌, ◌+◌, ◌-◌, true, cond, List, [], ◌∷◌, ◌++◌, length, take, map, reverse, get_or, refl, ap, sym, ◌∙◌, subst, arith}
+use Rattle.std.proofs.Common.{ℕ, zero, suc, ◌≡◌, ◌<◌, ◌≤◌, ◌+◌, ◌-◌, true, cond, List, [], ◌∷◌, ◌++◌, length, take, drop, map, reverse, get_or, refl, ap, sym, ◌∙◌, subst, arith}
 use Rattle.std.specs.Prelude.{slice_index}
 use Rattle.std.proofs.lemmas.List.{reverse-append}
 use Rattle.std.proofs.lemmas.Bool.{eqb-true, false≢true}
@@ -10,6 +10,7 @@ use Rattle.undo_log.specs.View.{notes_of, marks_of, newest_start, newest_notes}
 use Rattle.undo_log.proofs.NoteLists.{moved_to}
 use Rattle.tx_serial.specs.Machine.{no_save, oldest, forget_all, note}
 use Rattle.tx_runtime.specs.Saves.{saves_by, saves_of, newest, handed, newest_without, begins_at}
+use Rattle.std.proofs.Math.Path.{fun_ext}
 use Rattle.tx_runtime.proofs.SavepointLists.{saves_marked, saves_noted, saves_dropped, saves_forgot, saves_forgot_all, oldest_first, Descends, EndsAtZero}
 
 -- marks, the newest first
@@ -106,6 +107,19 @@ log_forgot old new word h n m =
     ∙ (ap (saves_by kept) (newest_first (marks_of old) h)
     ∙ (saves_forgot (notes_of old) start rest word (newest_within old h)
     ∙ ap (λ ms. newest_without word (saves_by (notes_of old) ms)) (sym (newest_first (marks_of old) h)))))
+
+-- the notes of the newest mark may stand in another order
+pub log_ordered : (old new : Log) → 0 < length (marks_of old) → take (newest_start (marks_of old)) (notes_of new) ≡ take (newest_start (marks_of old)) (notes_of old)
+    → ((w : ℕ) → first_note (drop (newest_start (marks_of old)) (notes_of new)) w ≡ first_note (newest_notes old) w) → marks_of new ≡ marks_of old → saves_of new ≡ saves_of old
+unfolding saves_of
+log_ordered old new h older first m =
+    let start = newest_start (marks_of old) in
+    let rest = reverse (before_newest (marks_of old)) in
+    ap (λ ms. saves_by (notes_of new) (reverse ms)) m
+    ∙ (ap (saves_by (notes_of new)) (newest_first (marks_of old) h)
+    ∙ (ap (λ f. f ∷ saves_by (take start (notes_of new)) rest) (fun_ext first)
+    ∙ (ap (λ ns. first_note (newest_notes old) ∷ saves_by ns rest) older
+    ∙ sym (ap (saves_by (notes_of old)) (newest_first (marks_of old) h)))))
 
 handed_two : (notes : List Note) (m o : ℕ) (ms : List ℕ) → Descends (length notes) (m ∷ o ∷ ms) → saves_by notes (o ∷ ms) ≡ handed (saves_by notes (m ∷ o ∷ ms))
 handed_two notes m o ms d = saves_dropped notes m o ms d.0 d.1.0

@@ -18,7 +18,7 @@ use Rattle.tx_runtime.specs.declared.thread.ThreadSlot.{ThreadSlot}
 use Rattle.tx_runtime.specs.declared.engine.Engine.{Engine}
 use Rattle.tx_runtime.specs.Here.{Chosen}
 use Rattle.tx_runtime.specs.Runtime.{ReachedBy, KeepsOrder, HoldsOf, ShowsActor, saves_in, flag_in}
-use Rattle.tx_runtime.specs.Saves.{saves_of, saves_by, is_nil, begins_at}
+use Rattle.tx_runtime.specs.Saves.{saves_of, saves_by, is_nil, marks_fit, begins_at}
 use Rattle.tx_runtime.specs.Threads.{local_in, threads_of, waits_of, waits_by, tx_of, tx_by, undoes, is_write, is_sound, has_saves, IsWhole}
 use Rattle.tx_runtime.specs.View.{machine_in, layout_in}
 use Rattle.tx_runtime.specs.declared.thread.Transaction.{Transaction}
@@ -88,9 +88,9 @@ pub no_saves : (log : Log) → marks_of log ≡ [] → saves_of log ≡ []
 unfolding saves_of
 no_saves log h = ap (λ ms. saves_by (notes_of log) (reverse ms)) h
 
-bare_of : (b c : Bool) → (b || c) ≡ true → b ≡ false → c ≡ true
-bare_of true c h e = absurd (false≢true (sym e))
-bare_of false c h e = h
+bare_of : (b : Bool) (ms : List ℕ) → marks_fit b ms ≡ true → b ≡ false → is_nil ms ≡ true
+bare_of true ms h e = absurd (false≢true (sym e))
+bare_of false ms h e = h
 
 saves_shown : {K S : Type 0} (saved : K → S) (o : Option (Transaction K)) (ss : List Save) → (has_saves o ≡ false → ss ≡ []) → ss ≡ shows.saves_of (tx_of saved o ss)
 saves_shown saved None ss h = h refl
@@ -111,8 +111,8 @@ module _ {A K S : Type 0} (state : A → S) (saved : K → S) (e : Engine A K) (
     pub log_at : saves_of s.log ≡ saves_in ((machine_in state saved e).threads t)
     log_at =
         let sound = whole_sound (layout_in e) e.limit e.holders e.threads.items t s e.whole here read in
-        let bare = (and_parts (can_put_back (layout_in e) (notes_of s.log) && begins_at (notes_of s.log) (marks_of s.log)) (has_saves s.tx || is_nil (marks_of s.log)) sound).1 in
-        saves_shown saved s.tx (saves_of s.log) (λ none. no_saves s.log (nil_marks (marks_of s.log) (bare_of (has_saves s.tx) (is_nil (marks_of s.log)) bare none)))
+        let bare = (and_parts (can_put_back (layout_in e) (notes_of s.log) && begins_at (notes_of s.log) (marks_of s.log)) (marks_fit (has_saves s.tx) (marks_of s.log)) sound).1 in
+        saves_shown saved s.tx (saves_of s.log) (λ none. no_saves s.log (nil_marks (marks_of s.log) (bare_of (has_saves s.tx) (marks_of s.log) bare none)))
         ∙ ap saves_in (sym (thread_at state saved e.holders e.threads.items t s here read))
 
     pub actor_at : ShowsActor state ((machine_in state saved e).threads t) (Some s.actor)

@@ -2,7 +2,6 @@
 ghost use Rattle.std.specs.Prelude.{◌≡◌, ℕ, ◌<◌, List, Some, None, length, slice_get, is_some, true, IfOk, OnErr};
 ghost use Rattle.tx_runtime.specs.Here.{IsOpen, GivesUp, Closes, Turns};
 ghost use Rattle.tx_runtime.specs.Allocation.{MayAllocate};
-ghost use Rattle.tx_runtime.specs.Saves.{IsFresh};
 ghost use Rattle.own_table.specs.Table.{hold_of};
 ghost use Rattle.tx_events.specs.Memory.{word_bound};
 ghost use Rattle.tx_runtime.specs.Threads.{held_in, closed_by};
@@ -15,17 +14,8 @@ ghost use Rattle.tx_serial.specs.Turn.{clashes, closes};
 ghost use Rattle.choosers.specs.declared.Choice.TheVariants.{Yield};
 
 use crate::engine::Engine;
-use crate::thread::fresh_log;
 use std::alloc::AllocError;
 use tx_events::{Actor, TurnKind};
-use undo_log::Log;
-
-/// What a thread needs to stand again after its outermost BeginAtomic.
-#[derive(Drop)]
-struct Restart<K> {
-    copy: K,
-    log: Log,
-}
 
 impl<A: Actor> Engine<A, A::Saved> {
     /// The least word is released; where it was the last, the thread has no transaction.
@@ -92,13 +82,13 @@ impl<A: Actor> Engine<A, A::Saved> {
         ensures same { OnErr result (machine_in A.state A.saved_state self.new ≡ machine_in A.state A.saved_state self.old) }
         ensures layout { layout_in self.new ≡ layout_in self.old }
     {
-        let restart = self.restart(t)?;
+        let copy = self.copy_kept(t)?;
         let Some(word) = self.holders.release_one(t) else {
             return Ok(TurnKind::Idle);
         };
         let thread = &mut self.threads[t as usize];
         thread.undo_word(&mut self.memory, word);
-        thread.start_again(restart.copy, restart.log);
+        thread.start_again(copy);
         Ok(TurnKind::Undone { word })
     }
 
@@ -142,23 +132,20 @@ impl<A: Actor> Engine<A, A::Saved> {
         ensures same { OnErr result (machine_in A.state A.saved_state self.new ≡ machine_in A.state A.saved_state self.old) }
         ensures layout { layout_in self.new ≡ layout_in self.old }
     {
-        let restart = self.restart(t)?;
+        let copy = self.copy_kept(t)?;
         let thread = &mut self.threads[t as usize];
-        thread.start_again(restart.copy, restart.log);
+        thread.start_again(copy);
         Ok(TurnKind::Rolled { word, holder })
     }
 
-    /// Makes what the thread needs to start again.
-    fn restart(&self, t: u8) -> Result<Restart<A::Saved>, AllocError>
+    /// Copies the state just after the thread's outermost BeginAtomic.
+    fn copy_kept(&self, t: u8) -> Result<A::Saved, AllocError>
         requires started { t < length self.now.threads.items }
         requires tx { (s : ThreadSlot A A.Saved) → slice_get self.now.threads.items t ≡ Some s → is_some s.tx ≡ true }
-        ensures fresh { IfOk result (λ r. IsFresh r.log) }
-        ensures copy { IfOk result (λ r. (s : ThreadSlot A A.Saved) (x : Transaction A.Saved) → slice_get self.now.threads.items t ≡ Some s → s.tx ≡ Some x
-            → A.saved_state r.copy ≡ A.saved_state x.kept) }
+        ensures { IfOk result (λ copy. (s : ThreadSlot A A.Saved) (x : Transaction A.Saved) → slice_get self.now.threads.items t ≡ Some s → s.tx ≡ Some x
+            → A.saved_state copy ≡ A.saved_state x.kept) }
     {
-        let log = fresh_log(self.alloc)?;
         let thread = &self.threads[t as usize];
-        let copy = thread.copy_kept()?;
-        Ok(Restart { copy, log })
+        thread.copy_kept()
     }
 }

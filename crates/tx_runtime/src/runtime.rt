@@ -40,6 +40,7 @@ fn is_inside(kind: TurnKind, accesses: bool) -> bool
 impl<A: Actor> Runtime<A> {
     ghost use Rattle.std.specs.Prelude.{ℕ, ◌<◌, ◌≤◌, ◌^◌, ◌+◌, ◌-◌, false, None, IfOk, OnErr, option_copied};
     ghost use Rattle.std.specs.Fn.{FnReturnsAt};
+    ghost use Rattle.tx_events.specs.declared.TheConstants.{THREAD_LIMIT};
     ghost use Rattle.choosers.specs.Answers.{KeepsRule};
     ghost use Rattle.tx_memory.specs.View.{layout_of, words_of};
     ghost use Rattle.tx_runtime.specs.Here.{Chosen};
@@ -57,7 +58,7 @@ impl<A: Actor> Runtime<A> {
         threads: u8,
     ) -> Result<Runtime<A>, AllocError>
         requires some { 0 < threads }
-        requires limit { threads ≤ 64 }
+        requires limit { threads ≤ THREAD_LIMIT }
         requires memory { (layout_of memory).limit ≡ threads }
         ensures first { IfOk result (λ r. machine_of A.state A.saved_state r ≡ first_machine (words_of memory) input.items (A.state main)) }
         ensures layout { IfOk result (λ r. layout_at r ≡ layout_of memory) }
@@ -121,6 +122,14 @@ impl<A: Actor> Runtime<A> {
         let kind = self.engine.turn(t, policy)?;
         self.inside[t as usize] = is_inside(kind, accesses);
         Ok(kind)
+    }
+
+    /// The memory, as the turns so far left it.
+    pub fn memory(&self) -> &Memory
+        ensures words { words_of result.now ≡ (machine_of A.state A.saved_state self.now).memory }
+        ensures layout { layout_of result.now ≡ layout_at self.now }
+    {
+        &self.engine.memory
     }
 
     /// How the program has ended, if it has.

@@ -53,16 +53,6 @@ pub(crate) struct ThreadSlot<A, K> {
     pub(crate) log: Log,
 }
 
-/// A log with one savepoint, which notes nothing.
-pub(crate) fn fresh_log(alloc: Global) -> Result<Log, AllocError>
-    ensures { IfOk result IsFresh }
-{
-    let mut log = Log::new(alloc);
-    log.reserve(0)?;
-    let _ = log.mark();
-    Ok(log)
-}
-
 impl WaitCount {
     pub(crate) fn none() -> WaitCount
         ensures { waits_of result ≡ no_waits }
@@ -342,6 +332,7 @@ impl<A: Actor> ThreadSlot<A, A::Saved> {
 
     /// The transaction begins to give up.
     pub(crate) fn give_up(&mut self)
+        requires { 0 < length (marks_of self.old.log) }
         ensures local { (holders : Holders) (t : ℕ) (x : Transaction A.Saved) → self.old.tx ≡ Some x
             → local_of A.state A.saved_state holders t self.new ≡ record (local_of A.state A.saved_state holders t self.old) {
               tx = GivingUp x.birth (A.saved_state x.kept) (saves_of self.old.log);
@@ -349,10 +340,11 @@ impl<A: Actor> ThreadSlot<A, A::Saved> {
         ensures waits { waits_of self.new.waits ≡ no_waits }
         ensures sound { (p : MemoryLayout) → has_saves self.old.tx ≡ true → is_sound p self.old ≡ true → is_sound p self.new ≡ true }
     {
+        self.order();
+        self.waits = WaitCount::none();
         if let Some(tx) = &mut self.tx {
             tx.stage = Stage::Undoing;
         }
-        self.waits = WaitCount::none();
     }
 
     /// Copies the kept state.
@@ -366,9 +358,22 @@ impl<A: Actor> ThreadSlot<A, A::Saved> {
         }
     }
 
-    /// Stands again just after the outermost BeginAtomic, in this copy of the kept state and with this log.
-    pub(crate) fn start_again(&mut self, copy: A::Saved, log: Log)
-        requires { IsFresh log }
+    /// Puts the notes of the newest savepoint in order, so that its words can be undone without a search.
+    fn order(&mut self)
+        requires { 0 < length (marks_of self.old.log) }
+        ensures local { (holders : Holders) (t : ℕ) → local_of A.state A.saved_state holders t self.new ≡ local_of A.state A.saved_state holders t self.old }
+        ensures saves { saves_of self.new.log ≡ saves_of self.old.log }
+        ensures marks { marks_of self.new.log ≡ marks_of self.old.log }
+        ensures waits { self.new.waits ≡ self.old.waits }
+        ensures tx { self.new.tx ≡ self.old.tx }
+        ensures sound { (p : MemoryLayout) → is_sound p self.old ≡ true → is_sound p self.new ≡ true }
+    {
+        self.log.order_newest();
+    }
+
+    /// Stands again just after the outermost BeginAtomic, in this copy of the kept state.
+    pub(crate) fn start_again(&mut self, copy: A::Saved)
+        requires { 0 < length (marks_of self.old.log) }
         ensures local { (holders : Holders) (t : ℕ) (x : Transaction A.Saved) → self.old.tx ≡ Some x
             → local_of A.state A.saved_state holders t self.new ≡ record (local_of A.state A.saved_state holders t self.old) {
               state = A.saved_state copy;
@@ -379,7 +384,7 @@ impl<A: Actor> ThreadSlot<A, A::Saved> {
     {
         self.actor.restore(copy);
         self.waits = WaitCount::none();
-        self.log = log;
+        self.log.start_over();
         if let Some(tx) = &mut self.tx {
             tx.stage = Stage::Open;
         }
@@ -445,6 +450,31 @@ impl<A: Actor> ThreadSlot<A, A::Saved> {
     /// Gives the least word that the newest savepoint notes what it notes, forgets the note and answers the word: `None`
     /// exactly where it notes none, and then nothing changes.
     pub(crate) fn undo_newest(&mut self, memory: &mut Memory) -> Option<u64>
+        requires mark { 0 < length (marks_of self.old.log) }
+        requires sound { is_sound (layout_of memory.old) self.old ≡ true }
+        ensures none { IfNone result ((x : ℕ) → newest (saves_of self.old.log) x ≡ None) }
+        ensures noted { IfSome result (λ w. is_noted (newest (saves_of self.old.log)) w ≡ true) }
+        ensures least { IfSome result (λ w. (v : ℕ) → v < w → is_noted (newest (saves_of self.old.log)) v ≡ false) }
+        ensures access { IfSome result (λ w. can_access (layout_of memory.old) w 8 ≡ true) }
+        ensures layout { layout_of memory.new ≡ layout_of memory.old }
+        ensures words { IfSome result (λ w. words_of memory.new ≡ update (words_of memory.old) w
+            (kept_or (newest (saves_of self.old.log) w) (words_of memory.old w))) }
+        ensures local { IfSome result (λ w. (holders : Holders) (t : ℕ) → local_of A.state A.saved_state holders t self.new
+            ≡ record (local_of A.state A.saved_state holders t self.old) {
+              tx = tx_of A.saved_state self.old.tx (newest_without w (saves_of self.old.log));
+            }) }
+        ensures waits { IfSome result (λ w. waits_of self.new.waits ≡ no_waits) }
+        ensures same_words { IfNone result (words_of memory.new ≡ words_of memory.old) }
+        ensures same { IfNone result ((holders : Holders) (t : ℕ) → local_of A.state A.saved_state holders t self.new ≡ local_of A.state A.saved_state holders t self.old) }
+        ensures same_waits { IfNone result (self.new.waits ≡ self.old.waits) }
+        ensures sound { is_sound (layout_of memory.old) self.new ≡ true }
+    {
+        self.order();
+        self.undo_least(memory)
+    }
+
+    /// The same, in whatever order the notes stand.
+    fn undo_least(&mut self, memory: &mut Memory) -> Option<u64>
         requires mark { 0 < length (marks_of self.old.log) }
         requires sound { is_sound (layout_of memory.old) self.old ≡ true }
         ensures none { IfNone result ((x : ℕ) → newest (saves_of self.old.log) x ≡ None) }

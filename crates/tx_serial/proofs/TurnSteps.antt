@@ -20,10 +20,10 @@ use Rattle.choosers.specs.declared.Choice.TheVariants.{Wait, Yield}
 use Rattle.tx_events.specs.Thread.{Thread, is_own_end}
 use Rattle.tx_events.specs.Memory.{update, MemoryLayout, can_access, word_of, word_bound, load}
 use Rattle.tx_events.specs.World.{target, byte_of}
-use Rattle.tx_serial.specs.Machine.{Machine, Local, Tx, NoTx, OpenTx, GivingUp, Closing, Save, no_save, lock_owner, clash_of, hand, note, forget, forget_all, blocker, busy, least, is_noted, birth_of}
-use Rattle.tx_serial.specs.Turn.{Turned, ran, steps, stays, order_gains, number_of, bare, clashes, gives_up, given_back, closes, without, halts, load_in, store_in, load_out, store_out, joins, begins, sync_in, sync_idle, spawns, outermost, commits, cancels_by, cancels, raises, in_does, out_does, lets_go, gives_back, turn_in, turn}
+use Rattle.tx_serial.specs.Machine.{Machine, Local, Tx, NoTx, OpenTx, GivingUp, Closing, Save, no_save, lock_owner, clash_of, hand, note, forget, forget_all, blocker, busy, least, is_noted, birth_of, no_waits, wait_more}
+use Rattle.tx_serial.specs.Turn.{Turned, ran, steps, stays, waited, order_gains, number_of, bare, clashes, gives_up, given_back, closes, without, halts, load_in, store_in, load_out, store_out, joins, begins, sync_in, sync_idle, spawns, outermost, commits, cancels_by, cancels, raises, in_does, out_does, lets_go, gives_back, turn_in, turn}
 use Rattle.tx_serial.specs.Kinds.{is_ran, GoesOn}
-use Rattle.tx_serial.specs.Steps.{reply_of, is_begin, draws, births_after, Executes}
+use Rattle.tx_serial.specs.Steps.{reply_of, is_begin, draws, births_after, waits_after, Executes}
 use Rattle.tx_serial.proofs.KindConditions.{turn_is}
 use Rattle.tx_events.proofs.BlockRuns.{update_same, update_elsewhere}
 
@@ -34,17 +34,21 @@ module _ {S : Type 0} (a : Thread S) (p : MemoryLayout) (t : ℕ) (m : Machine S
     pub others : (u : ℕ) → (u == t) ≡ false → u < m.started → r.machine.threads u ≡ m.threads u
     pub executes : is_ran r.kind ≡ true → r.machine.end ≡ None → (n : Local S) × (r.machine.threads t ≡ Some n) × (n.state ≡ a.after l.state (reply_of m event))
     pub own : (e : End) → r.machine.end ≡ Some e → (is_own_end e ≡ true) ⊎ (event ≡ Stop e)
+    pub waits : r.machine.end ≡ None → r.machine.waits t ≡ waits_after m t r.kind
+    pub waits_else : (u : ℕ) → (u == t) ≡ false → r.machine.waits u ≡ m.waits u
 
   no_end : {X : Type 0} (e : End) → m.end ≡ Some e → X
   no_end e h = absurd (none-some e (sym goes ∙ h))
 
   -- nothing of the threads changes
-  still : (kind : TurnKind) (drawn : Bool) (event : Event) (q : Machine S) → is_ran kind ≡ false → q.births ≡ m.births → q.threads ≡ m.threads → q.end ≡ m.end → Row drawn event (record { machine = q; kind = kind })
-  still kind drawn event q k b ts e = record {
+  still : (kind : TurnKind) (drawn : Bool) (event : Event) (q : Machine S) → is_ran kind ≡ false → q.births ≡ m.births → q.threads ≡ m.threads → q.end ≡ m.end → q.waits t ≡ waits_after m t kind → ((u : ℕ) → (u == t) ≡ false → q.waits u ≡ m.waits u) → Row drawn event (record { machine = q; kind = kind })
+  still kind drawn event q k b ts e w v = record {
     births = b ∙ sym (ap (λ c. births_after (c && drawn) m.births) k);
     others = λ u n h. ap (λ f. f u) ts;
     executes = λ h i. absurd (false≢true (sym k ∙ h));
     own = λ f h. no_end f (sym e ∙ h);
+    waits = λ h. w;
+    waits_else = v;
   }
 
   halt : (e : End) (event : Event) → (is_own_end e ≡ true) ⊎ (event ≡ Stop e) → Row false event (halts t m e)
@@ -53,6 +57,8 @@ module _ {S : Type 0} (a : Thread S) (p : MemoryLayout) (t : ℕ) (m : Machine S
     others = λ u n h. refl;
     executes = λ h q. absurd (none-some e (sym q));
     own = λ f h. subst (λ z. (is_own_end z ≡ true) ⊎ (event ≡ Stop z)) (same_Some e f h) own;
+    waits = λ h. absurd (none-some e (sym h));
+    waits_else = λ u n. refl;
   }
 
   either : (drawn : Bool) (event : Event) (b : Bool) (x y : Turned S) → Row drawn event x → Row drawn event y → Row drawn event (cond b x y)
@@ -60,45 +66,55 @@ module _ {S : Type 0} (a : Thread S) (p : MemoryLayout) (t : ℕ) (m : Machine S
   either drawn event false x y f g = g
 
   -- the thread's step, whatever else of the machine changes
-  step : (event : Event) (l' : Local S) (q : Machine S) → q.births ≡ m.births → q.threads ≡ update m.threads t (Some l') → q.end ≡ m.end → l'.state ≡ a.after l.state (reply_of m event) → Row false event (ran q)
-  step event l' q b ts e s = record {
+  step : (event : Event) (l' : Local S) (q : Machine S) → q.births ≡ m.births → q.threads ≡ update m.threads t (Some l') → q.end ≡ m.end → q.waits ≡ update m.waits t no_waits → l'.state ≡ a.after l.state (reply_of m event) → Row false event (ran q)
+  step event l' q b ts e w s = record {
     births = b;
     others = λ u n h. ap (λ f. f u) ts ∙ update_elsewhere m.threads t (Some l') u n;
     executes = λ h i. (l', ap (λ f. f t) ts ∙ update_same m.threads t (Some l'), s);
     own = λ f h. no_end f (sym e ∙ h);
+    waits = λ h. ap (λ f. f t) w ∙ update_same m.waits t no_waits;
+    waits_else = λ u n. ap (λ f. f u) w ∙ update_elsewhere m.waits t no_waits u n;
   }
 
   -- a change of the thread that is no step
-  change : (kind : TurnKind) (event : Event) (l' : Local S) (q : Machine S) → is_ran kind ≡ false → q.births ≡ m.births → q.threads ≡ update m.threads t (Some l') → q.end ≡ m.end → Row false event (record { machine = q; kind = kind })
-  change kind event l' q k b ts e = record {
+  change : (kind : TurnKind) (event : Event) (l' : Local S) (q : Machine S) → is_ran kind ≡ false → q.births ≡ m.births → q.threads ≡ update m.threads t (Some l') → q.end ≡ m.end → q.waits ≡ update m.waits t no_waits → waits_after m t kind ≡ no_waits → Row false event (record { machine = q; kind = kind })
+  change kind event l' q k b ts e w v = record {
     births = b ∙ sym (ap (λ c. births_after (c && false) m.births) k);
     others = λ u n h. ap (λ f. f u) ts ∙ update_elsewhere m.threads t (Some l') u n;
     executes = λ h i. absurd (false≢true (sym k ∙ h));
     own = λ f h. no_end f (sym e ∙ h);
+    waits = λ h. ap (λ f. f t) w ∙ (update_same m.waits t no_waits ∙ sym v);
+    waits_else = λ u n. ap (λ f. f u) w ∙ update_elsewhere m.waits t no_waits u n;
   }
 
+  -- thread t waits one turn more
+  waits_row : (event : Event) (x u : ℕ) → Row false event (waited t m x u)
+  waits_row event x u =
+      let more = wait_more (m.waits t) x (birth_of (m.threads u)) in
+      still (Waited x u) false event _ refl refl refl refl (update_same m.waits t more) (λ v n. update_elsewhere m.waits t more v n)
+
   load_out_row : (addr size : ℕ) (vol : Bool) (o : Option ℕ) → Row false (Load addr size vol) (load_out a t m l addr size o)
-  load_out_row addr size vol (Some u) = still (Waited (word_of addr) u) false (Load addr size vol) _ refl refl refl refl
-  load_out_row addr size vol None = step (Load addr size vol) (record l { state = a.after l.state (Loaded (load m.memory addr size)) }) _ refl refl refl refl
+  load_out_row addr size vol (Some u) = waits_row (Load addr size vol) (word_of addr) u
+  load_out_row addr size vol None = step (Load addr size vol) (record l { state = a.after l.state (Loaded (load m.memory addr size)) }) _ refl refl refl refl refl
 
   store_out_row : (addr size value : ℕ) (vol : Bool) (o : Option ℕ) → Row false (Store addr size value vol) (store_out a t m l addr size value o)
-  store_out_row addr size value vol (Some u) = still (Waited (word_of addr) u) false (Store addr size value vol) _ refl refl refl refl
-  store_out_row addr size value vol None = step (Store addr size value vol) (record l { state = a.after l.state Nothing }) _ refl refl refl refl
+  store_out_row addr size value vol (Some u) = waits_row (Store addr size value vol) (word_of addr) u
+  store_out_row addr size value vol None = step (Store addr size value vol) (record l { state = a.after l.state Nothing }) _ refl refl refl refl refl
 
   join_row : (id : ℤ) (o : Option (Local S)) → Row false (Join id) (joins t id m (record l { state = a.after l.state Nothing }) o)
   join_row id None = halt (Trapped BadJoin) (Join id) (inl refl)
-  join_row id (Some u) = either false (Join id) u.ended _ _ (step (Join id) (record l { state = a.after l.state Nothing }) _ refl refl refl refl) (still (JoinWait (number_of id)) false (Join id) _ refl refl refl refl)
+  join_row id (Some u) = either false (Join id) u.ended _ _ (step (Join id) (record l { state = a.after l.state Nothing }) _ refl refl refl refl refl) (still (JoinWait (number_of id)) false (Join id) _ refl refl refl refl refl (λ v n. refl))
 
   idle_row : (o : Option ℕ) → Row false BeginSync (sync_idle t m (record l { state = a.after l.state Nothing }) o)
-  idle_row (Some u) = still (BlockWait u) false BeginSync _ refl refl refl refl
-  idle_row None = step BeginSync (record l { state = a.after l.state Nothing }) _ refl refl refl refl
+  idle_row (Some u) = still (BlockWait u) false BeginSync _ refl refl refl refl refl (λ v n. refl)
+  idle_row None = step BeginSync (record l { state = a.after l.state Nothing }) _ refl refl refl refl refl
 
   sync_row : (o : Option ℕ) → Row false BeginSync (sync_in t m (record l { state = a.after l.state Nothing }) o)
-  sync_row (Some u) = still (BlockWait u) false BeginSync _ refl refl refl refl
+  sync_row (Some u) = still (BlockWait u) false BeginSync _ refl refl refl refl refl (λ v n. refl)
   sync_row None = idle_row (busy t m)
 
   begin_row : (kind : BlockKind) (o : Option ℕ) → Row true (BeginAtomic kind) (begins t m l (a.after l.state Nothing) o)
-  begin_row kind (Some u) = still (BlockWait u) true (BeginAtomic kind) _ refl refl refl refl
+  begin_row kind (Some u) = still (BlockWait u) true (BeginAtomic kind) _ refl refl refl refl refl (λ v n. refl)
   begin_row kind None =
       let l' : Local S = record l { state = a.after l.state Nothing; tx = OpenTx m.births (a.after l.state Nothing) (no_save ∷ []) } in
       record {
@@ -106,6 +122,8 @@ module _ {S : Type 0} (a : Thread S) (p : MemoryLayout) (t : ℕ) (m : Machine S
         others = λ u n h. update_elsewhere m.threads t (Some l') u n;
         executes = λ h i. (l', update_same m.threads t (Some l'), refl);
         own = λ e h. no_end e h;
+        waits = λ h. update_same m.waits t no_waits;
+        waits_else = λ u n. update_elsewhere m.waits t no_waits u n;
       }
 
   spawn_row : (f : ℕ) (x : ℤ) → Row false (Spawn f x) (ran (spawns t m (record l { state = a.after l.state (Id (pos m.started)) }) (a.child l.state m.started f x)))
@@ -117,36 +135,38 @@ module _ {S : Type 0} (a : Thread S) (p : MemoryLayout) (t : ℕ) (m : Machine S
         others = λ u n h. update_elsewhere more t (Some l') u n ∙ update_elsewhere m.threads m.started (Some (bare (a.child l.state m.started f x))) u (ne_eqb u m.started (λ e. absurd (omega (arith, e, h))));
         executes = λ h i. (l', update_same more t (Some l'), refl);
         own = λ e h. no_end e h;
+        waits = λ h. update_same m.waits t no_waits;
+        waits_else = λ u n. update_elsewhere m.waits t no_waits u n;
       }
 
   out_row : (e : Event) → Row (is_begin e) e (out_does a p t m l e)
-  out_row Silent = step Silent (record l { state = a.after l.state Nothing }) _ refl refl refl refl
+  out_row Silent = step Silent (record l { state = a.after l.state Nothing }) _ refl refl refl refl refl
   out_row (Load addr size vol) = either false (Load addr size vol) (can_access p addr size) _ _ (load_out_row addr size vol (blocker t false (word_of addr) m)) (halt (Trapped BadAddress) (Load addr size vol) (inl refl))
   out_row (Store addr size value vol) = either false (Store addr size value vol) (can_access p addr size) _ _ (store_out_row addr size value vol (blocker t true (word_of addr) m)) (halt (Trapped BadAddress) (Store addr size value vol) (inl refl))
   out_row (BeginAtomic kind) = begin_row kind (lock_owner t m.lock.holder)
-  out_row EndAtomic = still Idle false EndAtomic _ refl refl refl refl
-  out_row (Raise kind can) = still Idle false (Raise kind can) _ refl refl refl refl
+  out_row EndAtomic = still Idle false EndAtomic _ refl refl refl refl refl (λ v n. refl)
+  out_row (Raise kind can) = still Idle false (Raise kind can) _ refl refl refl refl refl (λ v n. refl)
   out_row BeginSync = sync_row (lock_owner t m.lock.holder)
-  out_row EndSync = step EndSync (record l { state = a.after l.state Nothing }) _ refl refl refl refl
+  out_row EndSync = step EndSync (record l { state = a.after l.state Nothing }) _ refl refl refl refl refl
   out_row (Spawn f x) = either false (Spawn f x) (nat_lt m.started p.limit) _ _ (spawn_row f x) (halt (Trapped TooManyThreads) (Spawn f x) (inl refl))
   out_row (Join id) = join_row id (target t id m.threads)
-  out_row (Out byte) = step (Out byte) (record l { state = a.after l.state Nothing }) _ refl refl refl refl
-  out_row Inp = step Inp (record l { state = a.after l.state (Byte (byte_of m.input)) }) _ refl refl refl refl
-  out_row Done = step Done (record l { state = a.after l.state Nothing; ended = true }) _ refl refl refl refl
+  out_row (Out byte) = step (Out byte) (record l { state = a.after l.state Nothing }) _ refl refl refl refl refl
+  out_row Inp = step Inp (record l { state = a.after l.state (Byte (byte_of m.input)) }) _ refl refl refl refl refl
+  out_row Done = step Done (record l { state = a.after l.state Nothing; ended = true }) _ refl refl refl refl refl
   out_row (Stop e) = halt e (Stop e) (inr refl)
 
   module _ (b : ℕ) (kk : S) (ss : List Save) where
     clash_row : (event : Event) (choice : Choice) (x u : ℕ) → Row false event (clashes p choice t m l b kk ss x u)
-    clash_row event Wait x u = still (Waited x u) false event _ refl refl refl refl
-    clash_row event Yield x u = change (Rolled x u) event (gives_up l b kk ss (least l.held (word_bound p))) _ refl refl refl refl
+    clash_row event Wait x u = waits_row event x u
+    clash_row event Yield x u = change (Rolled x u) event (gives_up l b kk ss (least l.held (word_bound p))) _ refl refl refl refl refl refl
 
     load_in_row : (answer : Clash → Choice) (addr size : ℕ) (vol : Bool) (o : Option ℕ) → Row false (Load addr size vol) (load_in a p answer t m l b kk ss addr size o)
     load_in_row answer addr size vol (Some u) = clash_row (Load addr size vol) (answer (clash_of t false (word_of addr) m b u)) (word_of addr) u
-    load_in_row answer addr size vol None = step (Load addr size vol) (record l { state = a.after l.state (Loaded (load m.memory addr size)); held = update l.held (word_of addr) true; tx = OpenTx b kk ss }) _ refl refl refl refl
+    load_in_row answer addr size vol None = step (Load addr size vol) (record l { state = a.after l.state (Loaded (load m.memory addr size)); held = update l.held (word_of addr) true; tx = OpenTx b kk ss }) _ refl refl refl refl refl
 
     store_in_row : (answer : Clash → Choice) (addr size value : ℕ) (vol : Bool) (o : Option ℕ) → Row false (Store addr size value vol) (store_in a p answer t m l b kk ss addr size value o)
     store_in_row answer addr size value vol (Some u) = clash_row (Store addr size value vol) (answer (clash_of t true (word_of addr) m b u)) (word_of addr) u
-    store_in_row answer addr size value vol None = step (Store addr size value vol) (record l { state = a.after l.state Nothing; held = update l.held (word_of addr) true; wrote = update l.wrote (word_of addr) true; tx = OpenTx b kk (note ss (word_of addr) (m.memory (word_of addr))) }) _ refl refl refl refl
+    store_in_row answer addr size value vol None = step (Store addr size value vol) (record l { state = a.after l.state Nothing; held = update l.held (word_of addr) true; wrote = update l.wrote (word_of addr) true; tx = OpenTx b kk (note ss (word_of addr) (m.memory (word_of addr))) }) _ refl refl refl refl refl
 
     -- leaving a block, where the event is answered by nothing
     module _ (event : Event) (nothing : reply_of m event ≡ Nothing) where
@@ -154,20 +174,20 @@ module _ {S : Type 0} (a : Thread S) (p : MemoryLayout) (t : ℕ) (m : Machine S
       after_it = ap (a.after l.state) (sym nothing)
 
       outermost_row : Row false event (outermost p t m l (a.after l.state Nothing) b)
-      outermost_row = step event (record l { state = a.after l.state Nothing; tx = closes b (least l.held (word_bound p)) }) _ refl refl refl after_it
+      outermost_row = step event (record l { state = a.after l.state Nothing; tx = closes b (least l.held (word_bound p)) }) _ refl refl refl refl after_it
 
       commits_row : (ts : List Save) → Row false event (commits p t m l (a.after l.state Nothing) b kk ts)
-      commits_row [] = still Idle false event _ refl refl refl refl
+      commits_row [] = still Idle false event _ refl refl refl refl refl (λ v n. refl)
       commits_row (n ∷ []) = outermost_row
-      commits_row (n ∷ o ∷ ts) = step event (record l { state = a.after l.state Nothing; tx = OpenTx b kk (hand n o ∷ ts) }) _ refl refl refl after_it
+      commits_row (n ∷ o ∷ ts) = step event (record l { state = a.after l.state Nothing; tx = OpenTx b kk (hand n o ∷ ts) }) _ refl refl refl refl after_it
 
       cancels_by_row : (n : Save) (ts : List Save) (o : Option ℕ) → Row false event (cancels_by p t m l (a.after l.state Nothing) b kk n ts o)
-      cancels_by_row n ts (Some x) = change (Undone x) event (record l { tx = OpenTx b kk (forget n x ∷ ts) }) _ refl refl refl refl
+      cancels_by_row n ts (Some x) = change (Undone x) event (record l { tx = OpenTx b kk (forget n x ∷ ts) }) _ refl refl refl refl refl refl
       cancels_by_row n [] None = outermost_row
-      cancels_by_row n (o ∷ ts) None = step event (record l { state = a.after l.state Nothing; tx = OpenTx b kk (o ∷ ts) }) _ refl refl refl after_it
+      cancels_by_row n (o ∷ ts) None = step event (record l { state = a.after l.state Nothing; tx = OpenTx b kk (o ∷ ts) }) _ refl refl refl refl after_it
 
       cancels_row : (ts : List Save) → Row false event (cancels p t m l (a.after l.state Nothing) b kk ts)
-      cancels_row [] = still Idle false event _ refl refl refl refl
+      cancels_row [] = still Idle false event _ refl refl refl refl refl (λ v n. refl)
       cancels_row (n ∷ ts) = cancels_by_row n ts (least (is_noted n) (word_bound p))
 
       raises_row : (kind : BlockKind) (can : Bool) → Row false event (raises p t m l (a.after l.state Nothing) b kk ss kind can)
@@ -178,7 +198,7 @@ module _ {S : Type 0} (a : Thread S) (p : MemoryLayout) (t : ℕ) (m : Machine S
 
     -- a step inside the block, with these savepoints
     inner : (event : Event) (z : Tx S) → reply_of m event ≡ Nothing → Row false event (ran (steps t m (record l { state = a.after l.state Nothing; tx = z })))
-    inner event z nothing = step event (record l { state = a.after l.state Nothing; tx = z }) _ refl refl refl (ap (a.after l.state) (sym nothing))
+    inner event z nothing = step event (record l { state = a.after l.state Nothing; tx = z }) _ refl refl refl refl (ap (a.after l.state) (sym nothing))
 
     in_row : (answer : Clash → Choice) (e : Event) → Row false e (in_does a p answer t m l b kk ss e)
     in_row answer Silent = inner Silent (OpenTx b kk ss) refl
@@ -190,19 +210,19 @@ module _ {S : Type 0} (a : Thread S) (p : MemoryLayout) (t : ℕ) (m : Machine S
     in_row answer BeginSync = inner BeginSync (OpenTx b kk ss) refl
     in_row answer EndSync = inner EndSync (OpenTx b kk ss) refl
     in_row answer (Stop e) = halt e (Stop e) (inr refl)
-    in_row answer (Spawn f x) = still Idle false (Spawn f x) _ refl refl refl refl
-    in_row answer (Join id) = still Idle false (Join id) _ refl refl refl refl
-    in_row answer (Out byte) = still Idle false (Out byte) _ refl refl refl refl
-    in_row answer Inp = still Idle false Inp _ refl refl refl refl
-    in_row answer Done = still Idle false Done _ refl refl refl refl
+    in_row answer (Spawn f x) = still Idle false (Spawn f x) _ refl refl refl refl refl (λ v n. refl)
+    in_row answer (Join id) = still Idle false (Join id) _ refl refl refl refl refl (λ v n. refl)
+    in_row answer (Out byte) = still Idle false (Out byte) _ refl refl refl refl refl (λ v n. refl)
+    in_row answer Inp = still Idle false Inp _ refl refl refl refl refl (λ v n. refl)
+    in_row answer Done = still Idle false Done _ refl refl refl refl refl (λ v n. refl)
 
   back_row : (event : Event) (b : ℕ) (kk : S) (ss : List Save) (o : Option ℕ) → Row false event (gives_back p t m l b kk ss o)
-  back_row event b kk ss None = still Idle false event _ refl refl refl refl
-  back_row event b kk ss (Some x) = change (Undone x) event (given_back l b kk ss x (least (without l.held x) (word_bound p))) _ refl refl refl refl
+  back_row event b kk ss None = still Idle false event _ refl refl refl refl refl (λ v n. refl)
+  back_row event b kk ss (Some x) = change (Undone x) event (given_back l b kk ss x (least (without l.held x) (word_bound p))) _ refl refl refl refl refl refl
 
   go_row : (event : Event) (b : ℕ) (o : Option ℕ) → Row false event (lets_go p t m l b o)
-  go_row event b None = still Idle false event _ refl refl refl refl
-  go_row event b (Some x) = change (Released x) event (record l { held = without l.held x; wrote = without l.wrote x; tx = closes b (least (without l.held x) (word_bound p)) }) _ refl refl refl refl
+  go_row event b None = still Idle false event _ refl refl refl refl refl (λ v n. refl)
+  go_row event b (Some x) = change (Released x) event (record l { held = without l.held x; wrote = without l.wrote x; tx = closes b (least (without l.held x) (word_bound p)) }) _ refl refl refl refl refl refl
 
   abbrev at_begin : Tx S → Bool
   at_begin NoTx = is_begin (a.next l.state)
@@ -275,3 +295,9 @@ module _ {S : Type 0} (a : Thread S) (p : MemoryLayout) (answer : Clash → Choi
 
   pub end_own : (e : End) → (turn a p answer t m).machine.end ≡ Some e → (is_own_end e ≡ true) ⊎ (a.next l.state ≡ Stop e)
   end_own = row.own
+
+  pub waits_counted : (turn a p answer t m).machine.end ≡ None → (turn a p answer t m).machine.waits t ≡ waits_after m t (turn a p answer t m).kind
+  waits_counted = row.waits
+
+  pub waits_stay : (u : ℕ) → (u == t) ≡ false → (turn a p answer t m).machine.waits u ≡ m.waits u
+  waits_stay = row.waits_else

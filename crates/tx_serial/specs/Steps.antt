@@ -8,7 +8,8 @@ use Rattle.tx_events.specs.declared.TurnKind.{TurnKind}
 use Rattle.tx_events.specs.Memory.{load}
 use Rattle.tx_events.specs.Thread.{Thread}
 use Rattle.tx_events.specs.World.{byte_of}
-use Rattle.tx_serial.specs.Machine.{Machine, Local, Tx, NoTx, OpenTx, GivingUp, Closing}
+use Rattle.tx_events.specs.declared.TurnKind.TheVariants.{Ran, Waited, BlockWait, JoinWait, Rolled, Undone, Released, Idle}
+use Rattle.tx_serial.specs.Machine.{Machine, Local, Waits, Tx, NoTx, OpenTx, GivingUp, Closing, no_waits, wait_more, birth_of}
 use Rattle.tx_serial.specs.Turn.{Turned}
 use Rattle.tx_serial.specs.Kinds.{is_ran}
 
@@ -61,3 +62,15 @@ draws a l (Closing b) kind = false
 -- the next birth after it
 abbrev pub births_after : Bool → ℕ → ℕ
 births_after drawn births = cond drawn (births + 1) births
+
+-- The waits of thread t after its turn of this kind: a Waited turn counts one more at its word and against the birth of the
+-- blocking thread; each other turn that changes the thread ends them; and BlockWait, JoinWait and Idle leave them.
+abbrev pub waits_after : {S : Type 0} → Machine S → ℕ → TurnKind → Waits
+waits_after m t (Waited x u) = wait_more (m.waits t) x (birth_of (m.threads u))
+waits_after m t Ran = no_waits
+waits_after m t (Rolled x u) = no_waits
+waits_after m t (Undone x) = no_waits
+waits_after m t (Released x) = no_waits
+waits_after m t (BlockWait u) = m.waits t
+waits_after m t (JoinWait n) = m.waits t
+waits_after m t Idle = m.waits t

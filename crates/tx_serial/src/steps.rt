@@ -6,7 +6,7 @@ ghost use Rattle.tx_events.specs.declared.TurnKind.TheVariants.{Ran};
 ghost use Rattle.tx_events.specs.Memory.{MemoryLayout};
 ghost use Rattle.tx_serial.specs.Kinds.{GoesOn};
 ghost use Rattle.tx_serial.specs.Machine.{Machine, Local, birth_of};
-ghost use Rattle.tx_serial.specs.Steps.{Executes, draws, births_after};
+ghost use Rattle.tx_serial.specs.Steps.{Executes, draws, births_after, waits_after};
 ghost use Rattle.tx_serial.specs.Turn.{turn};
 
 use tx_events::Actor;
@@ -34,4 +34,16 @@ pub fn births_drawn<A: Actor>()
     ensures own { (p : MemoryLayout) (answer : Clash → Choice) (t : ℕ) (m : Machine A.State) (l : Local A.State) →
         GoesOn t m l → draws A.thread l l.tx (turn A.thread p answer t m).kind ≡ true →
         birth_of ((turn A.thread p answer t m).machine.threads t) ≡ m.births }
+{}
+
+/// After each turn that does not end the program, the waits of its thread are these: one more than there were at that word
+/// against that least birth after a Waited turn, or one where there were none such; the same after BlockWait, JoinWait and
+/// Idle; and none after each other turn. The waits of other threads stay. So they count exactly the Waited turns at that word
+/// and least birth since the thread's last turn that executed, rolled back, undid or released.
+pub fn waits_counted<A: Actor>()
+    ensures own { (p : MemoryLayout) (answer : Clash → Choice) (t : ℕ) (m : Machine A.State) (l : Local A.State) →
+        GoesOn t m l → (turn A.thread p answer t m).machine.end ≡ None →
+        (turn A.thread p answer t m).machine.waits t ≡ waits_after m t (turn A.thread p answer t m).kind }
+    ensures others { (p : MemoryLayout) (answer : Clash → Choice) (t u : ℕ) (m : Machine A.State) (l : Local A.State) →
+        GoesOn t m l → (u == t) ≡ false → (turn A.thread p answer t m).machine.waits u ≡ m.waits u }
 {}

@@ -11,6 +11,7 @@ use Rattle.tx_runtime.proofs.ThreadTables.{thread_at, stepped, same_holds, whole
 use Rattle.tx_runtime.proofs.HoldLemmas.{some_least, access_bound}
 use Rattle.tx_runtime.proofs.TransactionParts.{open_parts, open_live}
 use Rattle.tx_runtime.proofs.ClosingRows.{rolls_some}
+use Rattle.tx_runtime.proofs.SlotLemmas.{live_marks}
 use Rattle.tx_runtime.proofs.closing.Engine+A+A+Saved.roll_holding.Goals as goal
 
 pub invariant_of-self : goal.invariant_of-self
@@ -53,3 +54,16 @@ returns-clause-done g c = λ l b k ss at tx.
     ∙ ap (λ z. record (local_of g.A.Actor.state g.A.Actor.saved_state self.holders t s) { tx = GivingUp b k z }) parts.1)))
     c.give_up.ensures.waits)
     ∙ rolls_some (layout_in self) t m l b k ss least_is.0 c.args.word c.args.holder least_is.1
+
+pub give_up-requires : goal.give_up-requires
+give_up-requires g c =
+    let self = c.args.self.now in
+    let t = c.args.t in
+    let s = c.index_mut-thread.result.now in
+    let h : t < length self.threads.items = c.requires.started in
+    let its = thread_at g.A.Actor.state g.A.Actor.saved_state self.holders self.threads.items t s h c.index_mut-thread.ensures.value in
+    let is = c.requires.open (local_of g.A.Actor.state g.A.Actor.saved_state self.holders t s) its in
+    let p = layout_of self.memory in
+    let sound = whole_sound p self.limit self.holders self.threads.items t s self.whole h c.index_mut-thread.ensures.value in
+    let mine = open_parts g.A.Actor.saved_state s.tx (saves_of s.log) is.saves is.birth is.kept is.tx in
+    live_marks p s sound (open_live g.A.Actor.saved_state s.tx is.birth is.kept mine.0)
