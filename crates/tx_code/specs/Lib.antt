@@ -1,0 +1,4 @@
+pub mod Objects
+pub mod WellFormed
+pub mod Images
+pub mod Views
