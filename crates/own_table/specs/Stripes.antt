@@ -42,10 +42,10 @@ pub record IsTable (stripes : List Stripe) (held : List HeldWords) : Type 0 wher
   pub placed : IsPlaced stripes
   pub kept : (t w : ℕ) → t < length held → times_in (words_at held t) w ≡ (if is_some (hold_at stripes t w) then 1 else 0)
 
-abbrev pub HasStripeRoom : Option Stripe → Type 0
-HasStripeRoom None = Unit {0}
-HasStripeRoom (Some s) = vec_len s.records < vec_capacity s.records
+abbrev pub HasStripeCapacity : Option Stripe → Type 0
+HasStripeCapacity None = Unit {0}
+HasStripeCapacity (Some s) = vec_len s.records < vec_capacity s.records
 
-abbrev pub HasWordRoom : Option HeldWords → Type 0
-HasWordRoom None = Unit {0}
-HasWordRoom (Some h) = heap_len h.words < heap_capacity h.words
+abbrev pub HasWordCapacity : Option HeldWords → Type 0
+HasWordCapacity None = Unit {0}
+HasWordCapacity (Some h) = heap_len h.words < heap_capacity h.words

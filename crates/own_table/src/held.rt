@@ -34,13 +34,13 @@ impl HeldWords {
     /// Makes room for one word more.
     pub(crate) fn reserve(&mut self) -> Result<(), AllocError>
         ensures same { heap_items self.new.words ≡ heap_items self.old.words }
-        ensures room { OnOk result (heap_len self.new.words < heap_capacity self.new.words) }
+        ensures capacity { OnOk result (heap_len self.new.words < heap_capacity self.new.words) }
     {
         self.words.reserve(1)
     }
 
     pub(crate) fn add(&mut self, word: u64)
-        requires room { heap_len self.old.words < heap_capacity self.old.words }
+        requires capacity { heap_len self.old.words < heap_capacity self.old.words }
         ensures { (w : ℕ) → times_in (heap_items self.new.words) w
             ≡ times_in (heap_items self.old.words) w + (if word == w then 1 else 0) }
     {

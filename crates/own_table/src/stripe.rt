@@ -55,7 +55,7 @@ impl Stripe {
     /// Makes room for one record more.
     pub(crate) fn reserve(&mut self) -> Result<(), AllocError>
         ensures same { self.new.records.items ≡ self.old.records.items }
-        ensures room { OnOk result (vec_len self.new.records < vec_capacity self.new.records) }
+        ensures capacity { OnOk result (vec_len self.new.records < vec_capacity self.new.records) }
     {
         self.records.reserve(1)
     }
@@ -63,7 +63,7 @@ impl Stripe {
     /// Puts the record into the place of the one of its word, or beside the others where there is none.
     pub(crate) fn put(&mut self, holds: HoldRec)
         requires sound { is_sound holds ≡ true }
-        requires room { IsNone (record_of self.old.records.items holds.word)
+        requires capacity { IsNone (record_of self.old.records.items holds.word)
             → vec_len self.old.records < vec_capacity self.old.records }
         ensures found { (w : ℕ) → record_of self.new.records.items w
             ≡ (if holds.word == w then Some holds else record_of self.old.records.items w) }

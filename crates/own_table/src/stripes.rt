@@ -2,7 +2,7 @@
 ghost use Rattle.std.specs.Prelude.{◌≡◌, ◌==◌, ◌≢◌, ◌<◌, ◌&&◌, ℕ, true, false, [], length, if◌then◌else◌, None, is_none, IfOk, OnOk, slice_get, is_some};
 ghost use Rattle.std.specs.List.{list_all};
 ghost use Rattle.own_table.specs.Records.{stripe_of, blocks, is_write, raised};
-ghost use Rattle.own_table.specs.Stripes.{records_at, hold_at, HasStripeRoom, IsPlaced};
+ghost use Rattle.own_table.specs.Stripes.{records_at, hold_at, HasStripeCapacity, IsPlaced};
 
 use crate::hold::Mode;
 use crate::stripe::Stripe;
@@ -36,7 +36,7 @@ pub(crate) fn reserve_record(stripes: &mut Vec<Stripe>, word: u64) -> Result<(),
     requires { length stripes.old.items ≡ 256 }
     ensures len { length stripes.new.items ≡ 256 }
     ensures same { (s : ℕ) → records_at stripes.new.items s ≡ records_at stripes.old.items s }
-    ensures room { OnOk result (HasStripeRoom (slice_get stripes.new.items (stripe_of word))) }
+    ensures capacity { OnOk result (HasStripeCapacity (slice_get stripes.new.items (stripe_of word))) }
 {
     let stripe = &mut stripes[stripe_index(word)];
     stripe.reserve()
@@ -47,7 +47,7 @@ pub(crate) fn take_record(stripes: &mut Vec<Stripe>, word: u64, t: u8, mode: Mod
     requires len { length stripes.old.items ≡ 256 }
     requires placed { IsPlaced stripes.old.items }
     requires thread { t < 64 }
-    requires room { HasStripeRoom (slice_get stripes.old.items (stripe_of word)) }
+    requires capacity { HasStripeCapacity (slice_get stripes.old.items (stripe_of word)) }
     requires unblocked { (u : ℕ) → u ≢ t → blocks (hold_at stripes.old.items u word) (is_write mode) ≡ false }
     ensures len { length stripes.new.items ≡ 256 }
     ensures placed { IsPlaced stripes.new.items }

@@ -23,7 +23,7 @@ impl Holders {
     ghost use Rattle.own_table.specs.Bits.{has_bit};
     ghost use Rattle.own_table.specs.Records.{blocks, is_write, is_sound, raised, record_of, records_of, stripe_of};
     ghost use Rattle.own_table.specs.Stripes.{records_at};
-    ghost use Rattle.own_table.specs.Table.{hold_of, thread_limit, HasRoom};
+    ghost use Rattle.own_table.specs.Table.{hold_of, thread_limit, HasCapacity};
 
     /// A table for threads with numbers below `threads`, of which none holds a word.
     pub fn new(alloc: Global, threads: u8) -> Result<Holders, AllocError>
@@ -79,7 +79,7 @@ impl Holders {
     pub fn reserve(&mut self, word: u64) -> Result<(), AllocError>
         ensures same { (t w : ℕ) → hold_of self.new t w ≡ hold_of self.old t w }
         ensures limit { thread_limit self.new ≡ thread_limit self.old }
-        ensures room { OnOk result (HasRoom self.new word) }
+        ensures capacity { OnOk result (HasCapacity self.new word) }
     {
         reserve_record(&mut self.stripes, word)?;
         reserve_words(&mut self.held)
@@ -89,7 +89,7 @@ impl Holders {
     /// holding for reading too.
     pub fn take(&mut self, word: u64, t: u8, mode: Mode)
         requires thread { t < thread_limit self.old }
-        requires room { HasRoom self.old word }
+        requires capacity { HasCapacity self.old word }
         requires unblocked { (u : ℕ) → u ≢ t → blocks (hold_of self.old u word) (is_write mode) ≡ false }
         ensures taken { (u w : ℕ) → hold_of self.new u w
             ≡ (if u == t && word == w then raised (hold_of self.old t word) mode else hold_of self.old u w) }

@@ -2,7 +2,7 @@
 use Rattle.std.proofs.Common.{ℕ, ◌≡◌, ◌==◌, ◌<◌, ◌≤◌, ◌+◌, ◌-◌, ◌*◌, ◌/◌, ◌%◌, ◌^◌, ◌&&◌, ◌||◌, true, false, cond, nat_le, nat_lt, Option, Some, None, refl, ap, sym, ◌∙◌, inl, inr, ◌⊎◌, arith}
 use Rattle.std.proofs.lemmas.Bool.{eqb-true, eq-eqb, ne_eqb, cases_lt, cases_Bool, ltb-true, leb-true, lt-ltb, le-ltb, le-leb, lt-leb, and_parts, or_parts, and_from, or_left}
 use Rattle.std.proofs.lemmas.Option.{none-some, same_Some}
-use Rattle.tx_events.specs.Memory.{Place, in_globals, in_stacks, globals_end, word_of, is_mapped, is_aligned, can_access}
+use Rattle.tx_events.specs.Memory.{MemoryLayout, in_globals, in_stacks, globals_end, word_of, is_mapped, is_aligned, can_access}
 use Rattle.tx_events.specs.Thread.{is_size}
 use Rattle.tx_events.specs.declared.GlobalCell.{GlobalCell}
 use Rattle.tx_memory.specs.Cells.{lies_within}
@@ -10,24 +10,24 @@ use Rattle.tx_memory.proofs.BitParts.{moved, some_size}
 use Rattle.tx_memory.specs.Words.{slot_of, word_count}
 
 -- the word at slot i of the globals, or of a stack, holds the byte
-pub record InGlobals (p : Place) (a i : ℕ) : Type 0 where
+pub record InGlobals (p : MemoryLayout) (a i : ℕ) : Type 0 where
   pub from : 65536 ≤ a
   pub to : a < globals_end p
   pub is : i ≡ (a - 65536) / 8
 
-pub record InStack (p : Place) (a i : ℕ) : Type 0 where
+pub record InStack (p : MemoryLayout) (a i : ℕ) : Type 0 where
   pub from : 16777216 ≤ a
   pub thread : (a - 16777216) / 131072 < p.limit
   pub to : (a - 16777216) % 131072 < 65536
   pub is : i ≡ p.globals / 8 + (a - 16777216) / 131072 * 8192 + (a - 16777216) % 131072 / 8
 
-abbrev stack_slot : Place → ℕ → ℕ
+abbrev stack_slot : MemoryLayout → ℕ → ℕ
 stack_slot p a = p.globals / 8 + (a - 16777216) / 131072 * 8192 + (a - 16777216) % 131072 / 8
 
-abbrev in_stack : Place → ℕ → Option ℕ
+abbrev in_stack : MemoryLayout → ℕ → Option ℕ
 in_stack p a = cond (in_stacks p a) (Some (stack_slot p a)) None
 
-pub slot_cases : (p : Place) (a i : ℕ) → slot_of p a ≡ Some i → InGlobals p a i ⊎ InStack p a i
+pub slot_cases : (p : MemoryLayout) (a i : ℕ) → slot_of p a ≡ Some i → InGlobals p a i ⊎ InStack p a i
 slot_cases p a i e = elim (cases_Bool (in_globals p a)) [
   | inl g ↦
       let both = and_parts (nat_le 65536 a) (nat_lt a (globals_end p)) g in
@@ -43,14 +43,14 @@ slot_cases p a i e = elim (cases_Bool (in_globals p a)) [
   ]
 ]
 
-pub slot_within : (p : Place) (a i : ℕ) → p.globals % 8 ≡ 0 → slot_of p a ≡ Some i → i < word_count p
+pub slot_within : (p : MemoryLayout) (a i : ℕ) → p.globals % 8 ≡ 0 → slot_of p a ≡ Some i → i < word_count p
 slot_within p a i w e = elim (slot_cases p a i e) [
   | inl g ↦ omega (arith, w, g.from, g.to, g.is)
   | inr s ↦ omega (arith, w, s.from, s.thread, s.to, s.is)
 ]
 
 -- two words have two slots
-pub one_word : (p : Place) (a b i : ℕ) → p.globals % 8 ≡ 0 → a % 8 ≡ 0 → b % 8 ≡ 0 → slot_of p a ≡ Some i → slot_of p b ≡ Some i → a ≡ b
+pub one_word : (p : MemoryLayout) (a b i : ℕ) → p.globals % 8 ≡ 0 → a % 8 ≡ 0 → b % 8 ≡ 0 → slot_of p a ≡ Some i → slot_of p b ≡ Some i → a ≡ b
 one_word p a b i w x y e f = elim (slot_cases p a i e) [
   | inl g ↦ elim (slot_cases p b i f) [
     | inl h ↦ omega (arith, w, x, y, g.from, g.to, g.is, h.from, h.to, h.is)
@@ -75,7 +75,7 @@ lt_same a b m n f g = elim (cases_lt a m) [
 ]
 
 -- a word lies where its bytes lie
-in_globals_word : (p : Place) (a : ℕ) → in_globals p (a - a % 8) ≡ in_globals p a
+in_globals_word : (p : MemoryLayout) (a : ℕ) → in_globals p (a - a % 8) ≡ in_globals p a
 in_globals_word p a =
     ap (λ b. b && nat_lt (a - a % 8) (globals_end p)) (le_same 65536 (a - a % 8) a (λ h. omega (arith, h)) (λ h. omega (arith, h)))
     ∙ ap (λ b. nat_le 65536 a && b) (lt_same (a - a % 8) a (globals_end p) (globals_end p) (λ h. omega (arith, h)) (λ h. omega (arith, h)))
@@ -92,7 +92,7 @@ word_low a h = omega (arith, h)
 word_inside : (a : ℕ) → 16777216 ≤ a → nat_lt ((a - a % 8 - 16777216) % 131072) 65536 ≡ nat_lt ((a - 16777216) % 131072) 65536
 word_inside a h = lt_same ((a - a % 8 - 16777216) % 131072) ((a - 16777216) % 131072) 65536 65536 (λ k. omega (arith, h, word_offset a h, k)) (λ k. omega (arith, h, word_offset a h, k))
 
-in_stacks_word : (p : Place) (a : ℕ) → in_stacks p (a - a % 8) ≡ in_stacks p a
+in_stacks_word : (p : MemoryLayout) (a : ℕ) → in_stacks p (a - a % 8) ≡ in_stacks p a
 in_stacks_word p a =
     let w : ℕ = a - a % 8 in
     let same : nat_le 16777216 w ≡ nat_le 16777216 a = le_same 16777216 (a - a % 8) a (λ h. omega (arith, h)) (λ h. omega (arith, h)) in
@@ -107,7 +107,7 @@ in_stacks_word p a =
           ∙ ap (λ b. nat_le 16777216 a && nat_lt ((a - 16777216) / 131072) p.limit && b) (word_inside a h))
     ]
 
-pub slot_of_word : (p : Place) (a : ℕ) → slot_of p (word_of a) ≡ slot_of p a
+pub slot_of_word : (p : MemoryLayout) (a : ℕ) → slot_of p (word_of a) ≡ slot_of p a
 unfolding word_of
 slot_of_word p a = elim (cases_Bool (in_globals p a)) [
   | inl g ↦
@@ -129,13 +129,13 @@ pub word_of_whole : (a : ℕ) → word_of a % 8 ≡ 0
 unfolding word_of
 word_of_whole a = omega arith
 
-unmapped : (p : Place) (a : ℕ) → is_mapped p a ≡ false → slot_of p a ≡ None
+unmapped : (p : MemoryLayout) (a : ℕ) → is_mapped p a ≡ false → slot_of p a ≡ None
 unfolding is_mapped
 unmapped p a h =
     let both = or_parts (in_globals p a) (in_stacks p a) h in
     ap (λ b. cond b (Some ((a - 65536) / 8)) (in_stack p a)) both.0 ∙ ap (λ b. cond b (Some (stack_slot p a)) None) both.1
 
-mapped : (p : Place) (a : ℕ) → is_mapped p a ≡ true → (i : ℕ) × (slot_of p a ≡ Some i)
+mapped : (p : MemoryLayout) (a : ℕ) → is_mapped p a ≡ true → (i : ℕ) × (slot_of p a ≡ Some i)
 unfolding is_mapped
 mapped p a h = elim (cases_Bool (in_globals p a)) [
   | inl g ↦ ((a - 65536) / 8, ap (λ b. cond b (Some ((a - 65536) / 8)) (in_stack p a)) g)
@@ -143,7 +143,7 @@ mapped p a h = elim (cases_Bool (in_globals p a)) [
 ]
 
 -- an access that is aligned has a slot exactly where it does not trap
-pub aligned_slot : (p : Place) (a size : ℕ) → a % size ≡ 0 → slot_of p a ≡ cond (can_access p a size) (slot_of p a) None
+pub aligned_slot : (p : MemoryLayout) (a size : ℕ) → a % size ≡ 0 → slot_of p a ≡ cond (can_access p a size) (slot_of p a) None
 unfolding can_access is_aligned
 aligned_slot p a size h =
     let same : can_access p a size ≡ is_mapped p a = ap (λ b. b && is_mapped p a) (eq-eqb (a % size) 0 h) in
@@ -152,23 +152,23 @@ aligned_slot p a size h =
       | inr m ↦ unmapped p a m ∙ sym (ap (λ b. cond b (slot_of p a) None) (same ∙ m))
     ]
 
-pub misaligned : (p : Place) (a size : ℕ) → (a % size ≡ 0 → ⊥) → can_access p a size ≡ false
+pub misaligned : (p : MemoryLayout) (a size : ℕ) → (a % size ≡ 0 → ⊥) → can_access p a size ≡ false
 unfolding can_access is_aligned
 misaligned p a size h = ap (λ b. b && is_mapped p a) (ne_eqb (a % size) 0 h)
 
-access_mapped : (p : Place) (a size : ℕ) → can_access p a size ≡ true → is_mapped p a ≡ true
+access_mapped : (p : MemoryLayout) (a size : ℕ) → can_access p a size ≡ true → is_mapped p a ≡ true
 unfolding can_access
 access_mapped p a size k = (and_parts (is_aligned a size) (is_mapped p a) k).1
 
-pub access_aligned : (p : Place) (a size : ℕ) → can_access p a size ≡ true → a % size ≡ 0
+pub access_aligned : (p : MemoryLayout) (a size : ℕ) → can_access p a size ≡ true → a % size ≡ 0
 unfolding can_access is_aligned
 access_aligned p a size k = eqb-true (a % size) 0 (and_parts (is_aligned a size) (is_mapped p a) k).0
 
 -- what the slot of an access says of it
-pub accessed : (p : Place) (a size i : ℕ) → Some i ≡ cond (can_access p a size) (slot_of p a) None → (can_access p a size ≡ true) × (slot_of p a ≡ Some i)
+pub accessed : (p : MemoryLayout) (a size i : ℕ) → Some i ≡ cond (can_access p a size) (slot_of p a) None → (can_access p a size ≡ true) × (slot_of p a ≡ Some i)
 accessed p a size i e = elim (can_access p a size) as (λ b. Some i ≡ cond b (slot_of p a) None → (b ≡ true) × (slot_of p a ≡ Some i)) [ true ↦ λ k. (refl, sym k) | false ↦ λ k. absurd (none-some i (sym k)) ] e
 
-pub not_accessed : (p : Place) (a size : ℕ) → None ≡ cond (can_access p a size) (slot_of p a) None → can_access p a size ≡ false
+pub not_accessed : (p : MemoryLayout) (a size : ℕ) → None ≡ cond (can_access p a size) (slot_of p a) None → can_access p a size ≡ false
 not_accessed p a size e = elim (cases_Bool (can_access p a size)) [
   | inl k ↦
       let slot = mapped p a (access_mapped p a size k) in
@@ -180,7 +180,7 @@ not_accessed p a size e = elim (cases_Bool (can_access p a size)) [
 pub cell_access : (size limit : ℕ) (c : GlobalCell) → lies_within size c ≡ true → can_access (record { globals = size; limit = limit }) (65536 + c.offset) c.size ≡ true
 unfolding can_access is_aligned is_mapped
 cell_access size limit c h =
-    let p : Place = record { globals = size; limit = limit } in
+    let p : MemoryLayout = record { globals = size; limit = limit } in
     let all = and_parts (is_size c.size && c.offset % c.size == 0 && nat_le (c.offset + c.size) size) (nat_lt c.value (2 ^ (8 * c.size))) h in
     let most = and_parts (is_size c.size && c.offset % c.size == 0) (nat_le (c.offset + c.size) size) all.0 in
     let first = and_parts (is_size c.size) (c.offset % c.size == 0) most.0 in

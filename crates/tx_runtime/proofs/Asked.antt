@@ -8,7 +8,7 @@ use Rattle.choosers.specs.declared.Choice.TheVariants.{Wait}
 use Rattle.tx_events.specs.declared.Event.{Event}
 use Rattle.tx_events.specs.declared.Event.TheVariants.{Silent, Load, Store, Out, Inp, Spawn, Join, BeginAtomic, EndAtomic, Raise, BeginSync, EndSync, Done, Stop}
 use Rattle.tx_events.specs.declared.TurnKind.{TurnKind}
-use Rattle.tx_events.specs.Memory.{Place, can_access, word_of}
+use Rattle.tx_events.specs.Memory.{MemoryLayout, can_access, word_of}
 use Rattle.tx_events.specs.Thread.{Thread}
 use Rattle.tx_serial.specs.Machine.{Machine, Local, Save, Tx, NoTx, OpenTx, GivingUp, Closing, blocker, clash_of}
 use Rattle.tx_serial.specs.Turn.{turn}
@@ -16,7 +16,7 @@ use Rattle.tx_serial.specs.Run.{is_access}
 use Rattle.tx_serial.specs.Kinds.{Accesses, Asked}
 use Rattle.tx_runtime.specs.Here.{IsStill, Chosen}
 
-module _ {S : Type 0} (a : Thread S) (p : Place) (t : ℕ) (m : Machine S) where
+module _ {S : Type 0} (a : Thread S) (p : MemoryLayout) (t : ℕ) (m : Machine S) where
   -- the access at which the policy is asked, by the thread's next event
   pub record AskedAt (l : Local S) (e : Event) (c : Clash) : Type 0 where
     pub birth : ℕ

@@ -3,7 +3,7 @@ use Rattle.std.proofs.Common.{ℕ, ◌≡◌, Bool, length, get_or, ap, sym, ◌
 use Rattle.std.proofs.lemmas.Option.{same_Some}
 use Rattle.choosers.specs.declared.Clash.{Clash}
 use Rattle.tx_events.specs.declared.Event.{Event}
-use Rattle.tx_events.specs.Memory.{Place}
+use Rattle.tx_events.specs.Memory.{MemoryLayout}
 use Rattle.tx_events.specs.Thread.{Thread}
 use Rattle.tx_serial.specs.Machine.{Local, birth, birth_of, keeps_off, greatest, count, waits_at}
 use Rattle.tx_serial.specs.Kinds.{Accesses, Asked}
@@ -26,7 +26,7 @@ same_clash : (a b c d e z y x w v : ℕ) → a ≡ z → b ≡ y → c ≡ x →
 same_clash a b c d e z y x w v f g h i j =
     ap (λ n. clash n b c d e) f ∙ (ap (λ n. clash z n c d e) g ∙ (ap (λ n. clash z y n d e) h ∙ (ap (λ n. clash z y x n e) i ∙ ap (λ n. clash z y x w n) j)))
 
-module _ {A K S : Type 0} (state : A → S) (saved : K → S) (R : S → Type 0) (a : Thread S) (p : Place) (e : Engine A K) (t : ℕ) (s : ThreadSlot A K) (b : Blockers) (mine waits word : ℕ) where
+module _ {A K S : Type 0} (state : A → S) (saved : K → S) (R : S → Type 0) (a : Thread S) (p : MemoryLayout) (e : Engine A K) (t : ℕ) (s : ThreadSlot A K) (b : Blockers) (mine waits word : ℕ) where
   -- the runtime asks at the clash at which the machine asks
   pub shown : (event : Event) (store : Bool) → GoesInside R a t (machine_in state saved e) event → Accesses p event store word
       → SumsOf (keeps_off t store word (machine_in state saved e).threads) (λ u. birth_of ((machine_in state saved e).threads u)) (length e.threads.items) b

@@ -1,7 +1,7 @@
 -- The threads after a change of one of them.
 use Rattle.std.proofs.Common.{ℕ, zero, suc, ◌≡◌, ◌==◌, ◌<◌, ◌≤◌, Bool, true, false, cond, Option, Some, None, List, [], ◌∷◌, ◌++◌, ◌+◌, length, get_or, refl, ap, sym, ◌∙◌, subst, inl, inr, arith}
 use Rattle.std.specs.Prelude.{nat_lt, slice_get, ◌&&◌, is_some, Result, Ok, Err, OnOk, OnErr}
-use Rattle.undo_log.specs.View.{HasRoom}
+use Rattle.undo_log.specs.View.{HasCapacity}
 use Rattle.tx_runtime.specs.Here.{IsReady, IsReadyToNote}
 use Rattle.std.specs.List.{list_all}
 use Rattle.std.proofs.Math.ListN.{set, length-set}
@@ -10,7 +10,7 @@ use Rattle.std.proofs.lemmas.Bool.{eqb-true, eqb-false, cases_lt, cases_eq, eq-e
 use Rattle.std.proofs.lemmas.List.{get_or-set_same, get_or-set_other}
 use Rattle.std.proofs.lemmas.List.Folds.{list_all-append}
 use Rattle.std.proofs.lemmas.Option.{slice_get_past, slice_get-get_or, same_Some}
-use Rattle.tx_events.specs.Memory.{Place, update}
+use Rattle.tx_events.specs.Memory.{MemoryLayout, update}
 use Rattle.own_table.specs.declared.table.Holders.{Holders}
 use Rattle.own_table.specs.Table.{hold_of}
 use Rattle.tx_serial.specs.Machine.{Machine, Local, Waits, no_waits, wait_more, birth_of}
@@ -112,7 +112,7 @@ same_waits xs t s r h here e = fun_ext (λ u.
 
 -- the parts still fit together
 
-pub whole_set : {A K : Type 0} (p : Place) (limit : ℕ) (holders : Holders) (xs : List (ThreadSlot A K)) (t : ℕ) (s : ThreadSlot A K) → IsWhole p limit holders xs → is_sound p s ≡ true → IsWhole p limit holders (set xs t s)
+pub whole_set : {A K : Type 0} (p : MemoryLayout) (limit : ℕ) (holders : Holders) (xs : List (ThreadSlot A K)) (t : ℕ) (s : ThreadSlot A K) → IsWhole p limit holders xs → is_sound p s ≡ true → IsWhole p limit holders (set xs t s)
 whole_set p limit holders xs t s w h =
     let n : length (set xs t s) ≡ length xs = length-set xs t s in
     record {
@@ -126,7 +126,7 @@ whole_set p limit holders xs t s w h =
       sound = all_set (is_sound p) xs t s w.sound h;
     }
 
-pub whole_sound : {A K : Type 0} (p : Place) (limit : ℕ) (holders : Holders) (xs : List (ThreadSlot A K)) (t : ℕ) (s : ThreadSlot A K) → IsWhole p limit holders xs → t < length xs → s ≡ get_or xs t s → is_sound p s ≡ true
+pub whole_sound : {A K : Type 0} (p : MemoryLayout) (limit : ℕ) (holders : Holders) (xs : List (ThreadSlot A K)) (t : ℕ) (s : ThreadSlot A K) → IsWhole p limit holders xs → t < length xs → s ≡ get_or xs t s → is_sound p s ≡ true
 whole_sound p limit holders xs t s w h e = ap (is_sound p) e ∙ all_at (is_sound p) xs t s h w.sound
 
 pub same_holds : (t : ℕ) (holders : Holders) → SameHolds t holders holders
@@ -136,15 +136,15 @@ pub on_ok : {T E P Q : Type 0} (r : Result T E) → (P → Q) → OnOk r P → O
 on_ok (Ok x) f h = f h
 on_ok (Err e) f h = tt
 
-pub ready_set : {A K : Type 0} (room : A → Type 0) (xs : List (ThreadSlot A K)) (t : ℕ) (r : ThreadSlot A K) → t < length xs → room r.actor → IsReady room t (set xs t r)
-ready_set room xs t r h k s at =
+pub ready_set : {A K : Type 0} (capacity : A → Type 0) (xs : List (ThreadSlot A K)) (t : ℕ) (r : ThreadSlot A K) → t < length xs → capacity r.actor → IsReady capacity t (set xs t r)
+ready_set capacity xs t r h k s at =
     let is : slice_get (set xs t r) t ≡ Some r = get_set xs t r t h ∙ ap (λ b. cond b (Some r) (slice_get xs t)) (eq-eqb t t refl) in
-    subst (λ z. room z.actor) (same_Some r s (sym is ∙ at)) k
+    subst (λ z. capacity z.actor) (same_Some r s (sym is ∙ at)) k
 
-pub note_ready_set : {A K : Type 0} (room : A → Type 0) (xs : List (ThreadSlot A K)) (t : ℕ) (r : ThreadSlot A K) → t < length xs → room r.actor → HasRoom r.log → IsReadyToNote room t (set xs t r)
-note_ready_set room xs t r h k n s at =
+pub note_ready_set : {A K : Type 0} (capacity : A → Type 0) (xs : List (ThreadSlot A K)) (t : ℕ) (r : ThreadSlot A K) → t < length xs → capacity r.actor → HasCapacity r.log → IsReadyToNote capacity t (set xs t r)
+note_ready_set capacity xs t r h k n s at =
     let is : slice_get (set xs t r) t ≡ Some r = get_set xs t r t h ∙ ap (λ b. cond b (Some r) (slice_get xs t)) (eq-eqb t t refl) in
-    subst (λ z. room z.actor × HasRoom z.log) (same_Some r s (sym is ∙ at)) (k, n)
+    subst (λ z. capacity z.actor × HasCapacity z.log) (same_Some r s (sym is ∙ at)) (k, n)
 
 -- the machine where the threads have changed
 
@@ -212,7 +212,7 @@ length_push : {X : Type 0} (xs : List X) (v : X) → length (xs ++ v ∷ []) ≡
 length_push [] v = refl
 length_push (x ∷ xs) v = let rest = length_push xs v in omega (arith, rest)
 
-pub whole_push : {A K : Type 0} (p : Place) (limit : ℕ) (holders : Holders) (xs ys : List (ThreadSlot A K)) (s : ThreadSlot A K) → ys ≡ xs ++ s ∷ [] → IsWhole p limit holders xs → length xs < limit → is_sound p s ≡ true → IsWhole p limit holders ys
+pub whole_push : {A K : Type 0} (p : MemoryLayout) (limit : ℕ) (holders : Holders) (xs ys : List (ThreadSlot A K)) (s : ThreadSlot A K) → ys ≡ xs ++ s ∷ [] → IsWhole p limit holders xs → length xs < limit → is_sound p s ≡ true → IsWhole p limit holders ys
 whole_push p limit holders xs ys s e w h k =
     let n : length ys ≡ length xs + 1 = ap length e ∙ length_push xs s in
     record {
@@ -226,8 +226,8 @@ whole_push p limit holders xs ys s e w h k =
       sound = ap (list_all (is_sound p)) e ∙ (list_all-append (is_sound p) xs (s ∷ []) ∙ (ap (λ b. b && list_all (is_sound p) (s ∷ [])) w.sound ∙ ap (λ b. b && true) k));
     }
 
-pub ready_push : {A K : Type 0} (room : A → Type 0) (xs ys : List (ThreadSlot A K)) (s : ThreadSlot A K) (t : ℕ) → ys ≡ xs ++ s ∷ [] → t < length xs → IsReady room t xs → IsReady room t ys
-ready_push room xs ys s t e h k r at =
+pub ready_push : {A K : Type 0} (capacity : A → Type 0) (xs ys : List (ThreadSlot A K)) (s : ThreadSlot A K) (t : ℕ) → ys ≡ xs ++ s ∷ [] → t < length xs → IsReady capacity t xs → IsReady capacity t ys
+ready_push capacity xs ys s t e h k r at =
     k r (sym (ap (λ zs. slice_get zs t) e ∙ (get_push xs s t ∙ ap (λ b. cond b (Some s) (slice_get xs t)) (ne_eqb t (length xs) (λ q. absurd (omega (arith, q, h)))))) ∙ at)
 
 module _ {A K S : Type 0} (state : A → S) (saved : K → S) where

@@ -5,7 +5,7 @@ use Rattle.std.proofs.lemmas.Bool.{ltb-true}
 use Rattle.tx_events.specs.declared.Event.{Event}
 use Rattle.tx_events.specs.declared.Event.TheVariants.{Load, Store}
 use Rattle.tx_events.specs.Thread.{Thread, Lawful, may_come, is_size, no_atomic}
-use Rattle.tx_events.proofs.Words.{and_left, and_right}
+use Rattle.tx_events.proofs.WordLemmas.{and_left, and_right}
 
 module _ {S : Type 0} {R : S → Type 0} {a : Thread S} (laws : Lawful S R a) (s : S) (reached : R s) where
   comes : (e : Event) → a.next s ≡ e → may_come e (a.blocks s) ≡ true

@@ -9,10 +9,10 @@ use Rattle.tx_events.specs.declared.BlockKind.TheVariants.{NoExcept, Commit, Can
 use Rattle.tx_events.specs.declared.Event.{Event}
 use Rattle.tx_events.specs.declared.Event.TheVariants.{Silent, Load, Store, Out, Inp, Spawn, Join, BeginAtomic, EndAtomic, Raise, BeginSync, EndSync, Done, Stop}
 use Rattle.tx_events.specs.declared.Reply.TheVariants.{Nothing}
-use Rattle.tx_events.specs.Memory.{Place, can_access, word_of, word_bound}
+use Rattle.tx_events.specs.Memory.{MemoryLayout, can_access, word_of, word_bound}
 use Rattle.tx_events.specs.Thread.{Thread}
 use Rattle.tx_events.specs.World.{target}
-use Rattle.tx_events.proofs.Runs.{update_same}
+use Rattle.tx_events.proofs.BlockRuns.{update_same}
 use Rattle.tx_serial.specs.Machine.{Machine, Local, Save, OpenTx, GivingUp, blocker, busy, lock_owner, clash_of, least, is_noted}
 use Rattle.tx_serial.specs.Shows.{cancelling}
 use Rattle.tx_serial.specs.Turn.{Turned, load_out, store_out, begins, sync_idle, sync_in, joins, out_does, clashes, load_in, store_in, commits, cancels_by, in_does, without, given_back, gives_back, turn}
@@ -31,7 +31,7 @@ use Rattle.tx_runtime.proofs.Turned.{going_turn, outside_turn, inside_turn}
 abbrev Other : {S : Type 0} → Turned S → Type 0
 Other r = is_undone_or_released r.kind ≡ false
 
-module _ {S : Type 0} (a : Thread S) (p : Place) (t : ℕ) (m : Machine S) where
+module _ {S : Type 0} (a : Thread S) (p : MemoryLayout) (t : ℕ) (m : Machine S) where
   either : (b : Bool) (x y : Turned S) → Other x → Other y → Other (cond b x y)
   either true x y f g = f
   either false x y f g = g
@@ -125,7 +125,7 @@ module _ {S : Type 0} (a : Thread S) (p : Place) (t : ℕ) (m : Machine S) where
 
 -- a turn of another kind
 
-other_may : {S : Type 0} (a : Thread S) (p : Place) (t : ℕ) (m : Machine S) → ((answer : Clash → Choice) → Other (turn a p answer t m)) → MayGrow a p t m
+other_may : {S : Type 0} (a : Thread S) (p : MemoryLayout) (t : ℕ) (m : Machine S) → ((answer : Clash → Choice) → Other (turn a p answer t m)) → MayGrow a p t m
 other_may a p t m other answer h = absurd (false≢true (sym (other answer) ∙ h))
 
 -- the last word of those for which f holds

@@ -3,8 +3,8 @@ use Rattle.std.proofs.Common.{ℕ, ◌≡◌, ◌==◌, ◌<◌, ◌+◌, ◌-�
 use Rattle.std.specs.Prelude.{◌&&◌, ◌||◌, is_some}
 use Rattle.std.proofs.Math.Path.{fun_ext}
 use Rattle.std.proofs.lemmas.Bool.{cases_Bool, eqb-true, eqb-false, eq-eqb, ne_eqb, true≢false, false≢true}
-use Rattle.tx_events.specs.Memory.{Place, update, can_access, is_mapped, in_globals, in_stacks, is_aligned, word_of, word_bound, globals_start, stacks_start, stack_stride}
-use Rattle.tx_events.proofs.Words.{and_right, access_below}
+use Rattle.tx_events.specs.Memory.{MemoryLayout, update, can_access, is_mapped, in_globals, in_stacks, is_aligned, word_of, word_bound, globals_start, stacks_start, stack_stride}
+use Rattle.tx_events.proofs.WordLemmas.{and_right, access_below}
 use Rattle.tx_memory.specs.Words.{slot_of, stack_words}
 use Rattle.tx_memory.proofs.Slots.{slot_of_word, word_of_whole, aligned_slot, access_aligned}
 use Rattle.tx_memory.proofs.Memories.{own_address}
@@ -29,7 +29,7 @@ slot_cond true c i j h = (i, refl)
 slot_cond false true i j h = (j, refl)
 slot_cond false false i j h = absurd (false≢true h)
 
-slot_there : (p : Place) (a size : ℕ) → can_access p a size ≡ true → (i : ℕ) × (slot_of p a ≡ Some i)
+slot_there : (p : MemoryLayout) (a size : ℕ) → can_access p a size ≡ true → (i : ℕ) × (slot_of p a ≡ Some i)
 unfolding can_access is_mapped
 slot_there p a size h = slot_cond (in_globals p a) (in_stacks p a) ((a - globals_start) / 8) (p.globals / 8 + (a - stacks_start) / stack_stride * stack_words + (a - stacks_start) % stack_stride / 8) (and_right (is_aligned a size) (in_globals p a || in_stacks p a) h)
 
@@ -37,15 +37,15 @@ read_cond : (c : Bool) (i : ℕ) (o : Option ℕ) → o ≡ Some i → o ≡ con
 read_cond true i o e h = refl
 read_cond false i o e h = absurd (cc)
 
-pub access_word : (p : Place) (a size : ℕ) → can_access p a size ≡ true → can_access p (word_of a) 8 ≡ true
+pub access_word : (p : MemoryLayout) (a size : ℕ) → can_access p a size ≡ true → can_access p (word_of a) 8 ≡ true
 access_word p a size h =
     let there = slot_there p a size h in
     read_cond (can_access p (word_of a) 8) there.0 (slot_of p (word_of a)) (slot_of_word p a ∙ there.1) (aligned_slot p (word_of a) 8 (word_of_whole a))
 
-pub access_bound : (p : Place) (w : ℕ) → can_access p w 8 ≡ true → w < word_bound p
+pub access_bound : (p : MemoryLayout) (w : ℕ) → can_access p w 8 ≡ true → w < word_bound p
 access_bound p w h = subst (λ n. n < word_bound p) (own_address w (access_aligned p w 8 h)) (access_below p w 8 h)
 
-pub access_own : (p : Place) (w : ℕ) → can_access p w 8 ≡ true → word_of w ≡ w
+pub access_own : (p : MemoryLayout) (w : ℕ) → can_access p w 8 ≡ true → word_of w ≡ w
 access_own p w h = own_address w (access_aligned p w 8 h)
 
 eqb_turned : (a b : ℕ) → (a == b) ≡ (b == a)
@@ -114,7 +114,7 @@ released_wrote t word old new one = wrote_is t word None old new one
 
 -- the parts still fit together
 
-pub whole_hold : {A K : Type 0} (p : Place) (limit : ℕ) (old new : Holders) (xs : List (ThreadSlot A K)) (t word : ℕ) (mode : Option Mode) → IsWhole p limit old xs → t < length xs → OneHold t word mode old new → thread_limit new ≡ thread_limit old
+pub whole_hold : {A K : Type 0} (p : MemoryLayout) (limit : ℕ) (old new : Holders) (xs : List (ThreadSlot A K)) (t word : ℕ) (mode : Option Mode) → IsWhole p limit old xs → t < length xs → OneHold t word mode old new → thread_limit new ≡ thread_limit old
     → (is_some mode ≡ true → can_access p word 8 ≡ true) → IsWhole p limit new xs
 whole_hold p limit old new xs t word mode w h one same access = record {
   fits = w.fits;
@@ -144,10 +144,10 @@ whole_hold p limit old new xs t word mode w h one same access = record {
 some_true : (o : Option Mode) → o ≡ None → is_some o ≡ false
 some_true o e = ap is_some e
 
-pub least_word : (p : Place) (holders : Holders) (t w : ℕ) → can_access p w 8 ≡ true → held_in holders t w ≡ true → ((v : ℕ) → v < w → hold_of holders t v ≡ None) → least (held_in holders t) (word_bound p) ≡ Some w
+pub least_word : (p : MemoryLayout) (holders : Holders) (t w : ℕ) → can_access p w 8 ≡ true → held_in holders t w ≡ true → ((v : ℕ) → v < w → hold_of holders t v ≡ None) → least (held_in holders t) (word_bound p) ≡ Some w
 least_word p holders t w a h none = first_least (held_in holders t) (word_bound p) w (access_bound p w a) h (λ v l. ap is_some (none v l))
 
-pub none_held : (p : Place) (holders : Holders) (t : ℕ) → ((v : ℕ) → hold_of holders t v ≡ None) → least (held_in holders t) (word_bound p) ≡ None
+pub none_held : (p : MemoryLayout) (holders : Holders) (t : ℕ) → ((v : ℕ) → hold_of holders t v ≡ None) → least (held_in holders t) (word_bound p) ≡ None
 none_held p holders t none = no_least (held_in holders t) (word_bound p) (λ v l. ap is_some (none v))
 
 pub some_least : (f : ℕ → Bool) (n w : ℕ) → w < n → f w ≡ true → (x : ℕ) × (least f n ≡ Some x)
@@ -157,7 +157,7 @@ some_least f n w h e = by_least (least f n) refl
     by_least (Some x) i = (x, i)
     by_least None i = absurd (true≢false (sym e ∙ eldest_none f (λ k. k) n i w h))
 
-pub some_held : (p : Place) (holders : Holders) (t w : ℕ) → can_access p w 8 ≡ true → held_in holders t w ≡ true → (x : ℕ) × (least (held_in holders t) (word_bound p) ≡ Some x)
+pub some_held : (p : MemoryLayout) (holders : Holders) (t w : ℕ) → can_access p w 8 ≡ true → held_in holders t w ≡ true → (x : ℕ) × (least (held_in holders t) (word_bound p) ≡ Some x)
 some_held p holders t w a h = some_least (held_in holders t) (word_bound p) w (access_bound p w a) h
 
 -- a thread after its holds and its transaction changed

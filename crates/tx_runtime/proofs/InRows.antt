@@ -10,7 +10,7 @@ use Rattle.tx_events.specs.declared.Event.{Event}
 use Rattle.tx_events.specs.declared.Event.TheVariants.{Silent, Load, Store, Out, Inp, Spawn, Join, BeginAtomic, EndAtomic, Raise, BeginSync, EndSync, Done, Stop}
 use Rattle.tx_events.specs.declared.Reply.TheVariants.{Nothing, Loaded}
 use Rattle.tx_events.specs.declared.TurnKind.TheVariants.{Idle, Undone}
-use Rattle.tx_events.specs.Memory.{Place, update, can_access, word_of, word_bound, load, store}
+use Rattle.tx_events.specs.Memory.{MemoryLayout, update, can_access, word_of, word_bound, load, store}
 use Rattle.tx_events.specs.Thread.{Thread, Answers}
 use Rattle.tx_serial.specs.Machine.{Machine, Local, Save, OpenTx, blocker, clash_of, least, is_noted, hand, or_else, note, kept_or}
 use Rattle.tx_serial.specs.Turn.{Turned, ran, stays, steps, halts, load_in, store_in, clashes, outermost, commits, cancels, cancels_by, in_does}
@@ -18,7 +18,7 @@ use Rattle.tx_serial.specs.Kinds.{Accesses}
 use Rattle.tx_runtime.specs.Saves.{handed, newest, newest_without}
 use Rattle.tx_runtime.specs.Here.{is_passing, is_leaving}
 
-module _ {S : Type 0} (a : Thread S) (p : Place) (answer : Clash → Choice) (t : ℕ) (m : Machine S) (l : Local S) (b : ℕ) (k : S) (ss : List Save) where
+module _ {S : Type 0} (a : Thread S) (p : MemoryLayout) (answer : Clash → Choice) (t : ℕ) (m : Machine S) (l : Local S) (b : ℕ) (k : S) (ss : List Save) where
   pub passes_row : (e : Event) → is_passing e ≡ true → l.tx ≡ OpenTx b k ss → ran (steps t m (record l { state = a.after l.state Nothing })) ≡ in_does a p answer t m l b k ss e
   passes_row Silent h i = ap (λ z. ran (steps t m (record l { state = a.after l.state Nothing; tx = z }))) i
   passes_row BeginSync h i = ap (λ z. ran (steps t m (record l { state = a.after l.state Nothing; tx = z }))) i
@@ -116,7 +116,7 @@ passing_answer (BeginAtomic kind) h = absurd (false≢true h)
 passing_answer Done h = absurd (false≢true h)
 passing_answer (Stop e) h = absurd (false≢true h)
 
-module _ {S : Type 0} (p : Place) (t : ℕ) (m : Machine S) (l : Local S) (s : S) (b : ℕ) (k : S) where
+module _ {S : Type 0} (p : MemoryLayout) (t : ℕ) (m : Machine S) (l : Local S) (s : S) (b : ℕ) (k : S) where
   -- by the number of savepoints
 
   pub commits_none : (ss : List Save) → length ss ≡ 0 → stays Idle m ≡ commits p t m l s b k ss

@@ -8,7 +8,7 @@ use Rattle.tx_events.specs.declared.Trap.TheVariants.{BadAddress, TooManyThreads
 use Rattle.tx_events.specs.declared.Event.TheVariants.{Load, Store, Join, Spawn, BeginSync, BeginAtomic}
 use Rattle.tx_events.specs.declared.Reply.TheVariants.{Nothing, Loaded, Id}
 use Rattle.tx_events.specs.declared.TurnKind.TheVariants.{BlockWait, JoinWait}
-use Rattle.tx_events.specs.Memory.{Place, can_access, word_of, load}
+use Rattle.tx_events.specs.Memory.{MemoryLayout, can_access, word_of, load}
 use Rattle.tx_events.specs.Thread.{Thread}
 use Rattle.tx_events.specs.World.{target, lock_in}
 use Rattle.tx_serial.specs.Machine.{Machine, Local, blocker, lock_owner, busy}
@@ -24,7 +24,7 @@ pub loaded_some : (b : Bool) (v x : ℕ) (r : Option ℕ) → r ≡ cond b (Some
 loaded_some true v x r e f = (refl, same_Some x v (sym f ∙ e))
 loaded_some false v x r e f = absurd (cc)
 
-module _ {S : Type 0} (a : Thread S) (p : Place) (t : ℕ) (m : Machine S) (l : Local S) where
+module _ {S : Type 0} (a : Thread S) (p : MemoryLayout) (t : ℕ) (m : Machine S) (l : Local S) where
   pub load_traps : (addr size : ℕ) (vol : Bool) → can_access p addr size ≡ false → halts t m (Trapped BadAddress) ≡ out_does a p t m l (Load addr size vol)
   load_traps addr size vol e = ap (λ b. cond b (load_out a t m l addr size (blocker t false (word_of addr) m)) (halts t m (Trapped BadAddress))) (sym e)
 
@@ -79,7 +79,7 @@ module _ {S : Type 0} (a : Thread S) (p : Place) (t : ℕ) (m : Machine S) (l : 
       ap (λ z. stays (JoinWait (number_of z)) m) (sym i)
       ∙ (ap (λ b. cond b (ran (told t (steps t m stepped_local))) (stays (JoinWait (number_of id)) m)) (sym f) ∙ ap (joins t id m stepped_local) (sym e))
 
-pub spawn_full : {S : Type 0} (a : Thread S) (p : Place) (t : ℕ) (m : Machine S) (l : Local S) (f : ℕ) (x : ℤ) → nat_lt m.started p.limit ≡ false → halts t m (Trapped TooManyThreads) ≡ out_does a p t m l (Spawn f x)
+pub spawn_full : {S : Type 0} (a : Thread S) (p : MemoryLayout) (t : ℕ) (m : Machine S) (l : Local S) (f : ℕ) (x : ℤ) → nat_lt m.started p.limit ≡ false → halts t m (Trapped TooManyThreads) ≡ out_does a p t m l (Spawn f x)
 spawn_full a p t m l f x e = ap (λ b. cond b (ran (spawns t m (record l { state = a.after l.state (Id (pos m.started)) }) (a.child l.state m.started f x))) (halts t m (Trapped TooManyThreads))) (sym e)
 
 pub no_target : {X : Type 0} (t : ℕ) (id : ℤ) (threads : ℕ → Option X) → ((n : ℕ) → id ≡ pos n → (((n == 0) || (n == t)) ≡ false) → threads n ≡ None) → target t id threads ≡ None
@@ -89,7 +89,7 @@ no_target {X} t (pos n) threads h = elim ((n == 0) || (n == t)) as (λ b. ((n ==
   | false ↦ λ e. h n refl e
 ] refl
 
-pub spawn_done : {S : Type 0} (a : Thread S) (p : Place) (t : ℕ) (m : Machine S) (l : Local S) (f n : ℕ) (x i : ℤ) (child : S) → nat_lt m.started p.limit ≡ true → i ≡ pos m.started → child ≡ a.child l.state m.started f x
+pub spawn_done : {S : Type 0} (a : Thread S) (p : MemoryLayout) (t : ℕ) (m : Machine S) (l : Local S) (f n : ℕ) (x i : ℤ) (child : S) → nat_lt m.started p.limit ≡ true → i ≡ pos m.started → child ≡ a.child l.state m.started f x
     → ran (spawns t m (record l { state = a.after l.state (Id i) }) child) ≡ out_does a p t m l (Spawn f x)
 spawn_done a p t m l f n x i child e j k =
     ap (λ z. ran (spawns t m (record l { state = a.after l.state (Id z) }) child)) j

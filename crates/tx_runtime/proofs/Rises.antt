@@ -11,13 +11,13 @@ use Rattle.tx_events.specs.declared.Event.{Event}
 use Rattle.tx_events.specs.declared.Event.TheVariants.{Silent, Load, Store, Out, Inp, Spawn, Join, BeginAtomic, EndAtomic, Raise, BeginSync, EndSync, Done, Stop}
 use Rattle.tx_events.specs.declared.Reply.TheVariants.{Nothing}
 use Rattle.tx_events.specs.declared.TurnKind.{TurnKind}
-use Rattle.tx_events.specs.Memory.{Place, can_access, word_of, word_bound}
+use Rattle.tx_events.specs.Memory.{MemoryLayout, can_access, word_of, word_bound}
 use Rattle.tx_events.specs.Thread.{Thread}
 use Rattle.tx_events.specs.World.{target}
 use Rattle.tx_serial.specs.Machine.{Machine, Local, Save, Tx, NoTx, OpenTx, GivingUp, Closing, blocker, busy, lock_owner, clash_of, least, is_noted}
 use Rattle.tx_serial.specs.Turn.{Turned, load_out, store_out, begins, sync_idle, sync_in, joins, out_does, clashes, load_in, store_in, commits, cancels_by, cancels, raises, in_does, lets_go, gives_back, turn_in, turn_of, turn_at, turn}
 
-module _ {S : Type 0} (a : Thread S) (p : Place) (t : ℕ) (m : Machine S) where
+module _ {S : Type 0} (a : Thread S) (p : MemoryLayout) (t : ℕ) (m : Machine S) where
   abbrev Rises : Turned S → Type 0
   Rises r = (r.machine.births ≤ m.births + 1) × (r.machine.lock.depth ≤ m.lock.depth + 1)
 

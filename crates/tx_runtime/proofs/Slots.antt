@@ -3,7 +3,7 @@ use Rattle.std.proofs.Common.{ℕ, zero, suc, ◌≡◌, ◌==◌, ◌<◌, ◌�
 use Rattle.std.specs.Prelude.{◌&&◌, ◌||◌, All, is_some}
 use Rattle.std.proofs.lemmas.Bool.{and_parts, cases_Bool, eqb-true, ne_eqb, false≢true}
 use Rattle.std.proofs.Math.Path.{fun_ext}
-use Rattle.tx_events.specs.Memory.{Place, can_access, update}
+use Rattle.tx_events.specs.Memory.{MemoryLayout, can_access, update}
 use Rattle.own_table.specs.declared.table.Holders.{Holders}
 use Rattle.undo_log.specs.declared.notes.Note.{Note}
 use Rattle.undo_log.specs.declared.undo.Log.{Log}
@@ -39,18 +39,18 @@ fresh_saves log f =
 
 -- a sound thread
 
-pub record SoundLog {A K : Type 0} (p : Place) (s : ThreadSlot A K) : Type 0 where
+pub record SoundLog {A K : Type 0} (p : MemoryLayout) (s : ThreadSlot A K) : Type 0 where
   pub words : can_put_back p (notes_of s.log) ≡ true
   pub begins : begins_at (notes_of s.log) (marks_of s.log) ≡ true
   pub rest : (has_saves s.tx || is_nil (marks_of s.log)) ≡ true
 
-pub sound_parts : {A K : Type 0} (p : Place) (s : ThreadSlot A K) → is_sound p s ≡ true → SoundLog p s
+pub sound_parts : {A K : Type 0} (p : MemoryLayout) (s : ThreadSlot A K) → is_sound p s ≡ true → SoundLog p s
 sound_parts p s h =
     let both = and_parts (can_put_back p (notes_of s.log) && begins_at (notes_of s.log) (marks_of s.log)) (has_saves s.tx || is_nil (marks_of s.log)) h in
     let first = and_parts (can_put_back p (notes_of s.log)) (begins_at (notes_of s.log) (marks_of s.log)) both.0 in
     record { words = first.0; begins = first.1; rest = both.1 }
 
-pub back_drop : (p : Place) (notes : List Note) (n : ℕ) → can_put_back p notes ≡ true → can_put_back p (drop n notes) ≡ true
+pub back_drop : (p : MemoryLayout) (notes : List Note) (n : ℕ) → can_put_back p notes ≡ true → can_put_back p (drop n notes) ≡ true
 back_drop p notes zero h = h
 back_drop p [] (suc n) h = refl
 back_drop p (x ∷ xs) (suc n) h = back_drop p xs n (and_parts (can_access p x.word 8) (can_put_back p xs) h).1
@@ -63,14 +63,14 @@ back_is None w m = fun_ext (λ x. elim (cases_Bool (x == w)) [
 ])
 back_is (Some v) w m = refl
 
-back_take : (p : Place) (notes : List Note) (n : ℕ) → can_put_back p notes ≡ true → can_put_back p (take n notes) ≡ true
+back_take : (p : MemoryLayout) (notes : List Note) (n : ℕ) → can_put_back p notes ≡ true → can_put_back p (take n notes) ≡ true
 back_take p notes zero h = refl
 back_take p [] (suc n) h = refl
 back_take p (x ∷ xs) (suc n) h =
     let both = and_parts (can_access p x.word 8) (can_put_back p xs) h in
     ap (λ b. b && can_put_back p (take n xs)) both.0 ∙ back_take p xs n both.1
 
-back_others : (p : Place) (notes : List Note) (w : ℕ) → can_put_back p notes ≡ true → can_put_back p (others w notes) ≡ true
+back_others : (p : MemoryLayout) (notes : List Note) (w : ℕ) → can_put_back p notes ≡ true → can_put_back p (others w notes) ≡ true
 back_others p [] w h = refl
 back_others p (x ∷ xs) w h =
     let both = and_parts (can_access p x.word 8) (can_put_back p xs) h in
@@ -79,7 +79,7 @@ back_others p (x ∷ xs) w h =
       | false ↦ back_others p xs w both.1
     ]
 
-back_append : (p : Place) (a b : List Note) → can_put_back p a ≡ true → can_put_back p b ≡ true → can_put_back p (a ++ b) ≡ true
+back_append : (p : MemoryLayout) (a b : List Note) → can_put_back p a ≡ true → can_put_back p b ≡ true → can_put_back p (a ++ b) ≡ true
 back_append p [] b h k = k
 back_append p (x ∷ xs) b h k =
     let both = and_parts (can_access p x.word 8) (can_put_back p xs) h in
@@ -89,12 +89,12 @@ begins_some : (a b : List Note) (marks : List ℕ) → 0 < length marks → begi
 begins_some a b [] h = absurd (omega (arith, h))
 begins_some a b (m ∷ ms) h = refl
 
-sound_from : {A K : Type 0} (p : Place) (s : ThreadSlot A K) → SoundLog p s → is_sound p s ≡ true
+sound_from : {A K : Type 0} (p : MemoryLayout) (s : ThreadSlot A K) → SoundLog p s → is_sound p s ≡ true
 sound_from p s h = ap (λ b. b && begins_at (notes_of s.log) (marks_of s.log) && (has_saves s.tx || is_nil (marks_of s.log))) h.words
     ∙ (ap (λ b. b && (has_saves s.tx || is_nil (marks_of s.log))) h.begins ∙ h.rest)
 
 -- after the newest savepoint forgot a word
-pub sound_forgot : {A K : Type 0} (p : Place) (s : ThreadSlot A K) (log : Log) (w : ℕ) → 0 < length (marks_of s.log) → is_sound p s ≡ true
+pub sound_forgot : {A K : Type 0} (p : MemoryLayout) (s : ThreadSlot A K) (log : Log) (w : ℕ) → 0 < length (marks_of s.log) → is_sound p s ≡ true
     → notes_of log ≡ take (newest_start (marks_of s.log)) (notes_of s.log) ++ others w (newest_notes s.log) → marks_of log ≡ marks_of s.log → is_sound p (record s { log = log }) ≡ true
 sound_forgot p s log w some h n m =
     let old = sound_parts p s h in
@@ -115,7 +115,7 @@ nil_moved f [] = refl
 nil_moved f (m ∷ ms) = refl
 
 -- after all savepoints forgot a word
-pub sound_forgot_all : {A K : Type 0} (p : Place) (s : ThreadSlot A K) (log : Log) (w : ℕ) → is_sound p s ≡ true
+pub sound_forgot_all : {A K : Type 0} (p : MemoryLayout) (s : ThreadSlot A K) (log : Log) (w : ℕ) → is_sound p s ≡ true
     → notes_of log ≡ others w (notes_of s.log) → marks_of log ≡ map (moved_to w (notes_of s.log)) (marks_of s.log) → is_sound p (record s { log = log }) ≡ true
 sound_forgot_all p s log w h n m =
     let old = sound_parts p s h in
@@ -125,7 +125,7 @@ sound_forgot_all p s log w h n m =
       rest = ap (λ ms. has_saves s.tx || is_nil ms) m ∙ (ap (λ b. has_saves s.tx || b) (nil_moved (moved_to w (notes_of s.log)) (marks_of s.log)) ∙ old.rest);
     })
 
-pub newest_back : {A K : Type 0} (p : Place) (s : ThreadSlot A K) → is_sound p s ≡ true → can_put_back p (newest_notes s.log) ≡ true
+pub newest_back : {A K : Type 0} (p : MemoryLayout) (s : ThreadSlot A K) → is_sound p s ≡ true → can_put_back p (newest_notes s.log) ≡ true
 newest_back p s h = back_drop p (notes_of s.log) (newest_start (marks_of s.log)) (sound_parts p s h).words
 
 -- what the newest savepoint notes
@@ -151,13 +151,13 @@ not_noted (n ∷ ns) w v a l =
 pub newest_least : (log : Log) (w : ℕ) → 0 < length (marks_of log) → All (λ n. w ≤ n.word) (newest_notes log) → (v : ℕ) → v < w → is_noted (newest (saves_of log)) v ≡ false
 newest_least log w h a v l = ap (λ s. is_some (s v)) (newest_is log h) ∙ ap is_some (first_none (newest_notes log) v (not_noted (newest_notes log) w v a l))
 
-pub newest_access : {A K : Type 0} (p : Place) (s : ThreadSlot A K) (w : ℕ) → is_sound p s ≡ true → Notes.is_noted (newest_notes s.log) w ≡ true → can_access p w 8 ≡ true
+pub newest_access : {A K : Type 0} (p : MemoryLayout) (s : ThreadSlot A K) (w : ℕ) → is_sound p s ≡ true → Notes.is_noted (newest_notes s.log) w ≡ true → can_access p w 8 ≡ true
 newest_access p s w h e = noted_access p (newest_notes s.log) w e (newest_back p s h)
 
 pub newest_words : (log : Log) (w : ℕ) (old new : ℕ → ℕ) → 0 < length (marks_of log) → new ≡ word_back (first_note (newest_notes log) w) w old → new ≡ update old w (kept_or (newest (saves_of log) w) (old w))
 newest_words log w old new h e = e ∙ (back_is (first_note (newest_notes log) w) w old ∙ ap (λ s. update old w (kept_or (s w) (old w))) (sym (newest_is log h)))
 
-pub oldest_words : {A K : Type 0} (p : Place) (s : ThreadSlot A K) (w : ℕ) (old new : ℕ → ℕ) → is_sound p s ≡ true → new ≡ word_back (first_note (notes_of s.log) w) w old → new ≡ update old w (kept_or (oldest (saves_of s.log) w) (old w))
+pub oldest_words : {A K : Type 0} (p : MemoryLayout) (s : ThreadSlot A K) (w : ℕ) (old new : ℕ → ℕ) → is_sound p s ≡ true → new ≡ word_back (first_note (notes_of s.log) w) w old → new ≡ update old w (kept_or (oldest (saves_of s.log) w) (old w))
 oldest_words p s w old new h e = e ∙ (back_is (first_note (notes_of s.log) w) w old ∙ ap (λ o. update old w (kept_or o (old w))) (sym (oldest_is s.log w (sound_parts p s h).begins)))
 
 -- a thread that stands again after its outermost BeginAtomic
@@ -197,7 +197,7 @@ no_tx saved (Some x) ss e = absurd (no_tx_by x.stage x.birth (saved x.kept) ss e
 rest_nil : (b : Bool) (xs : List ℕ) → b ≡ false → (b || is_nil xs) ≡ true → xs ≡ []
 rest_nil b xs e h = nil_is xs (sym (ap (λ z. z || is_nil xs) e) ∙ h)
 
-pub idle_log : {A K S : Type 0} (saved : K → S) (p : Place) (s : ThreadSlot A K) → is_sound p s ≡ true → tx_of saved s.tx (saves_of s.log) ≡ NoTx → (notes_of s.log ≡ []) × (marks_of s.log ≡ [])
+pub idle_log : {A K S : Type 0} (saved : K → S) (p : MemoryLayout) (s : ThreadSlot A K) → is_sound p s ≡ true → tx_of saved s.tx (saves_of s.log) ≡ NoTx → (notes_of s.log ≡ []) × (marks_of s.log ≡ [])
 idle_log saved p s h e =
     let parts = sound_parts p s h in
     let marks = rest_nil (has_saves s.tx) (marks_of s.log) (no_tx saved s.tx (saves_of s.log) e) parts.rest in

@@ -10,7 +10,7 @@ use Rattle.tx_events.specs.declared.End.{End}
 use Rattle.tx_events.specs.declared.Event.{Event}
 use Rattle.tx_events.specs.declared.Event.TheVariants.{Silent, Load, Store, Out, Inp, Spawn, Join, BeginAtomic, EndAtomic, Raise, BeginSync, EndSync, Done, Stop}
 use Rattle.tx_events.specs.declared.TurnKind.TheVariants.{Idle}
-use Rattle.tx_events.specs.Memory.{Place}
+use Rattle.tx_events.specs.Memory.{MemoryLayout}
 use Rattle.tx_events.specs.Thread.{Thread}
 use Rattle.tx_serial.specs.Machine.{Machine, Local, Save, Tx, NoTx}
 use Rattle.tx_serial.specs.Run.{is_access, is_open, accesses_in}
@@ -110,7 +110,7 @@ module _ {A K S : Type 0} (state : A → S) (saved : K → S) (R : S → Type 0)
     accesses_bare stage = accesses_by NoTx (bare_tx saved s.tx (saves_of s.log) stage)
 
 -- an event that does not come where a block is open
-pub stays_in : {S : Type 0} (a : Thread S) (p : Place) (answer : Clash → Choice) (t : ℕ) (m : Machine S) (l : Local S) (b : ℕ) (k : S) (ss : List Save) (e : Event)
+pub stays_in : {S : Type 0} (a : Thread S) (p : MemoryLayout) (answer : Clash → Choice) (t : ℕ) (m : Machine S) (l : Local S) (b : ℕ) (k : S) (ss : List Save) (e : Event)
     → is_access e ≡ false → (e ≡ Silent → ⊥) → (e ≡ BeginSync → ⊥) → (e ≡ EndSync → ⊥) → ((x : BlockKind) → e ≡ BeginAtomic x → ⊥) → (e ≡ EndAtomic → ⊥) → ((x : BlockKind) (y : Bool) → e ≡ Raise x y → ⊥) → ((x : End) → e ≡ Stop x → ⊥)
     → stays Idle m ≡ in_does a p answer t m l b k ss e
 stays_in a p answer t m l b k ss Silent h n1 n2 n3 n4 n5 n6 n7 = absurd (n1 refl)

@@ -4,7 +4,7 @@ use Rattle.choosers.specs.declared.Clash.{Clash}
 use Rattle.choosers.specs.declared.Choice.{Choice}
 use Rattle.tx_events.specs.declared.Event.{Event}
 use Rattle.tx_events.specs.declared.TurnKind.TheVariants.{Idle}
-use Rattle.tx_events.specs.Memory.{Place, word_bound}
+use Rattle.tx_events.specs.Memory.{MemoryLayout, word_bound}
 use Rattle.tx_events.specs.Thread.{Thread, Answers}
 use Rattle.tx_events.specs.declared.Reply.{Reply}
 use Rattle.tx_runtime.specs.declared.thread.ThreadSlot.{ThreadSlot}
@@ -17,7 +17,7 @@ use Rattle.tx_runtime.proofs.Engines.{started_thread, thread_at}
 use Rattle.tx_serial.specs.Turn.{Turned, lets_go, gives_back, stays, out_does, in_does, turn_in, turn_of, turn_at, turn}
 use Rattle.tx_runtime.specs.Here.{GoesOutside, IsOutside, GoesInside, IsInside, GivesUp, Closes}
 
-module _ {S : Type 0} (a : Thread S) (p : Place) (answer : Clash → Choice) (t : ℕ) (m : Machine S) (l : Local S) where
+module _ {S : Type 0} (a : Thread S) (p : MemoryLayout) (answer : Clash → Choice) (t : ℕ) (m : Machine S) (l : Local S) where
   -- a thread that goes on
   pub going_turn : (tx : Tx S) → m.end ≡ None → m.threads t ≡ Some l → l.ended ≡ false → l.tx ≡ tx → turn_in a p answer t m l tx ≡ turn a p answer t m
   going_turn tx going at up is =

@@ -4,7 +4,7 @@ use Rattle.std.specs.Prelude.{is_some, slice_get, ◌&&◌, ◌||◌, reverse, r
 use Rattle.choosers.specs.declared.Clash.{Clash}
 use Rattle.choosers.specs.declared.Choice.{Choice}
 use Rattle.tx_events.specs.declared.TurnKind.{TurnKind}
-use Rattle.tx_events.specs.Memory.{Place}
+use Rattle.tx_events.specs.Memory.{MemoryLayout}
 use Rattle.tx_events.specs.Thread.{Thread, Lawful}
 use Rattle.tx_events.specs.World.{first_world}
 use Rattle.own_table.specs.declared.table.Holders.{Holders}
@@ -36,7 +36,7 @@ use Rattle.own_table.specs.Table.{thread_limit}
 use Rattle.tx_runtime.proofs.Engines.{no_thread, thread_at, whole_sound, threads_push, waits_push, get_set}
 use Rattle.tx_runtime.proofs.Logs.{saves_count}
 
-module _ {S : Type 0} (a : Thread S) (p : Place) where
+module _ {S : Type 0} (a : Thread S) (p : MemoryLayout) where
   one_more : (slots : List Slot) (t : ℕ) (answer : Clash → Choice) (first : Machine S)
       → turns a p (slots ++ record { thread = t; answer = answer } ∷ []) first ≡ (turn a p answer t (turns a p slots first)).machine
   one_more [] t answer first = refl
@@ -123,7 +123,7 @@ marks_shown log ss e = sym (saves_count log) ∙ ap length e
 
 -- the machine at the start
 
-pub first_whole : {A K : Type 0} (p : Place) (limit : ℕ) (holders : Holders) (xs : List (ThreadSlot A K)) (s : ThreadSlot A K) → xs ≡ s ∷ [] → p.limit ≡ limit → 0 < limit → limit ≤ 64 → thread_limit holders ≡ limit
+pub first_whole : {A K : Type 0} (p : MemoryLayout) (limit : ℕ) (holders : Holders) (xs : List (ThreadSlot A K)) (s : ThreadSlot A K) → xs ≡ s ∷ [] → p.limit ≡ limit → 0 < limit → limit ≤ 64 → thread_limit holders ≡ limit
     → ((t x : ℕ) → hold_of holders t x ≡ None) → is_sound p s ≡ true → IsWhole p limit holders xs
 first_whole p limit holders xs s e fits some few numbers free sound = let n : length xs ≡ 1 = ap length e in record {
   fits = sym fits;

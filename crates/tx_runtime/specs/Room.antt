@@ -4,7 +4,7 @@ use Rattle.choosers.specs.declared.Clash.{Clash}
 use Rattle.choosers.specs.declared.Choice.{Choice}
 use Rattle.tx_events.specs.declared.TurnKind.{TurnKind}
 use Rattle.tx_events.specs.declared.TurnKind.TheVariants.{Ran, Waited, BlockWait, JoinWait, Rolled, Undone, Released, Idle}
-use Rattle.tx_events.specs.Memory.{Place}
+use Rattle.tx_events.specs.Memory.{MemoryLayout}
 use Rattle.tx_events.specs.Thread.{Thread}
 use Rattle.tx_serial.specs.Machine.{Machine, Local, Save, GivingUp}
 use Rattle.tx_serial.specs.Turn.{again, turn}
@@ -32,5 +32,5 @@ pub record PutsBack {S : Type 0} (t : ℕ) (old new : Machine S) : Type 0 where
 
 -- The turn of thread t may take memory: whatever the policy answers, it is of no kind Undone or Released but at the last
 -- word of a transaction that gives up, where it puts the thread back.
-abbrev pub MayGrow : {S : Type 0} → Thread S → Place → ℕ → Machine S → Type 0
+abbrev pub MayGrow : {S : Type 0} → Thread S → MemoryLayout → ℕ → Machine S → Type 0
 MayGrow a p t m = (answer : Clash → Choice) → is_undone_or_released (turn a p answer t m).kind ≡ true → PutsBack t m (turn a p answer t m).machine

@@ -2,7 +2,7 @@
 use Rattle.std.specs.Prelude.{ℕ, ◌≡◌, ◌==◌, Bool, false, cond, is_some, List, [], Option, Some, None, slice_get}
 use Rattle.tx_events.specs.declared.actor.Actor.{Ghosts}
 use Rattle.tx_events.specs.declared.TurnKind.{TurnKind}
-use Rattle.tx_events.specs.Memory.{Place}
+use Rattle.tx_events.specs.Memory.{MemoryLayout}
 use Rattle.tx_events.specs.Thread.{Thread}
 use Rattle.tx_events.specs.World.{first_world}
 use Rattle.own_table.specs.declared.table.Holders.{Holders}
@@ -20,7 +20,7 @@ abbrev pub machine_of : {A K S : Type 0} {g : Ghosts A K} → (A → S) → (K �
 machine_of state saved r = machine_in state saved r.engine
 
 -- what is mapped, and how many threads may be started
-abbrev pub place_at : {A K : Type 0} {g : Ghosts A K} → Runtime A K g → Place
+abbrev pub place_at : {A K : Type 0} {g : Ghosts A K} → Runtime A K g → MemoryLayout
 place_at r = place_in r.engine
 
 -- thread numbers are below this
@@ -58,11 +58,11 @@ pub record HoldsOf {S : Type 0} (m : Machine S) (limit : ℕ) (holders : Holders
   pub numbers : thread_limit holders ≡ limit
 
 -- turns led from the machine `first` to this one
-abbrev pub ReachedBy : {S : Type 0} → Thread S → Place → Machine S → Machine S → Type 0
+abbrev pub ReachedBy : {S : Type 0} → Thread S → MemoryLayout → Machine S → Machine S → Type 0
 ReachedBy a p first m = (slots : List Slot) × (m ≡ turns a p slots first)
 
 -- What held of the turns so far holds after this one: it is reached from where the old machine was, and its order replays
 -- in the indivisible world.
-pub record Carries {S : Type 0} (R : S → Type 0) (a : Thread S) (p : Place) (old new : Machine S) : Type 0 where
+pub record Carries {S : Type 0} (R : S → Type 0) (a : Thread S) (p : MemoryLayout) (old new : Machine S) : Type 0 where
   pub reached : (first : Machine S) → ReachedBy a p first old → ReachedBy a p first new
   pub shown : (memory : ℕ → ℕ) (input : List ℕ) (main : S) → R main → a.blocks main ≡ [] → ReachedBy a p (first_machine memory input main) old → Shown a p (first_world memory input main) new

@@ -1,6 +1,6 @@
 -- The machine that a runtime shows.
 use Rattle.std.specs.Prelude.{ℕ, List, length, drop}
-use Rattle.tx_events.specs.Memory.{Place}
+use Rattle.tx_events.specs.Memory.{MemoryLayout}
 use Rattle.tx_events.specs.World.{Lock}
 use Rattle.tx_memory.specs.View.{place_of, words_of}
 use Rattle.tx_serial.specs.Machine.{Machine}
@@ -30,5 +30,5 @@ machine_in state saved e = record {
 }
 
 -- what is mapped, and how many threads may be started
-abbrev pub place_in : {A K : Type 0} → Engine A K → Place
+abbrev pub place_in : {A K : Type 0} → Engine A K → MemoryLayout
 place_in e = place_of e.memory

@@ -56,7 +56,7 @@ impl<A: Actor> Engine<A, A::Saved> {
         requires here { GivesUp t (machine_in A.state A.saved_state self.old) }
         ensures turned { IfOk result (λ kind. Turns A.state A.saved_state A.thread t self.old kind self.new) }
         ensures same { OnErr result (machine_in A.state A.saved_state self.new ≡ machine_in A.state A.saved_state self.old) }
-        ensures room { OnErr result (MayGrow A.thread (place_in self.old) t (machine_in A.state A.saved_state self.old)) }
+        ensures capacity { OnErr result (MayGrow A.thread (place_in self.old) t (machine_in A.state A.saved_state self.old)) }
         ensures place { place_in self.new ≡ place_in self.old }
     {
         let count = self.holders.count(t);

@@ -42,7 +42,7 @@ impl<A: Actor> Engine<A, A::Saved> {
     /// Makes room for a step of the thread.
     pub(crate) fn ready(&mut self, t: u8) -> Result<(), AllocError>
         requires { t < length self.old.threads.items }
-        ensures room { OnOk result (IsReady A.has_room t self.new.threads.items) }
+        ensures capacity { OnOk result (IsReady A.has_capacity t self.new.threads.items) }
         ensures same { machine_in A.state A.saved_state self.new ≡ machine_in A.state A.saved_state self.old }
         ensures place { place_in self.new ≡ place_in self.old }
     {
@@ -53,7 +53,7 @@ impl<A: Actor> Engine<A, A::Saved> {
     /// Makes room for a step of the thread, and for a note of the word or a savepoint.
     pub(crate) fn ready_to_note(&mut self, t: u8, word: u64) -> Result<(), AllocError>
         requires { t < length self.old.threads.items }
-        ensures room { OnOk result (IsReadyToNote A.has_room t self.new.threads.items) }
+        ensures capacity { OnOk result (IsReadyToNote A.has_capacity t self.new.threads.items) }
         ensures same { machine_in A.state A.saved_state self.new ≡ machine_in A.state A.saved_state self.old }
         ensures place { place_in self.new ≡ place_in self.old }
     {
@@ -64,7 +64,7 @@ impl<A: Actor> Engine<A, A::Saved> {
     /// The thread goes on after the next event, which was answered so. Its waits are over.
     pub(crate) fn step(&mut self, t: u8, reply: Reply)
         requires started { t < length self.old.threads.items }
-        requires room { IsReady A.has_room t self.old.threads.items }
+        requires capacity { IsReady A.has_capacity t self.old.threads.items }
         requires answers { (l : Local A.State) → (machine_in A.state A.saved_state self.old).threads t ≡ Some l → Answers (A.thread.next l.state) reply }
         ensures done { (l : Local A.State) → (machine_in A.state A.saved_state self.old).threads t ≡ Some l
             → machine_in A.state A.saved_state self.new ≡ steps t (machine_in A.state A.saved_state self.old) (record l { state = A.thread.after l.state reply }) }

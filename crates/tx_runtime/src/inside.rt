@@ -212,7 +212,7 @@ impl<A: Actor> Engine<A, A::Saved> {
         requires here { GoesInside A.is_reached A.thread t (machine_in A.state A.saved_state self.old) (Raise kind cancels) }
         ensures turned { IfOk result (λ kind. Turns A.state A.saved_state A.thread t self.old kind self.new) }
         ensures same { OnErr result (machine_in A.state A.saved_state self.new ≡ machine_in A.state A.saved_state self.old) }
-        ensures room { OnErr result (MayGrow A.thread (place_in self.old) t (machine_in A.state A.saved_state self.old)) }
+        ensures capacity { OnErr result (MayGrow A.thread (place_in self.old) t (machine_in A.state A.saved_state self.old)) }
         ensures place { place_in self.new ≡ place_in self.old }
     {
         match kind {
@@ -233,7 +233,7 @@ impl<A: Actor> Engine<A, A::Saved> {
         requires here { GoesInside A.is_reached A.thread t (machine_in A.state A.saved_state self.old) (Raise Cancel true) }
         ensures turned { IfOk result (λ kind. Turns A.state A.saved_state A.thread t self.old kind self.new) }
         ensures same { OnErr result (machine_in A.state A.saved_state self.new ≡ machine_in A.state A.saved_state self.old) }
-        ensures room { OnErr result (MayGrow A.thread (place_in self.old) t (machine_in A.state A.saved_state self.old)) }
+        ensures capacity { OnErr result (MayGrow A.thread (place_in self.old) t (machine_in A.state A.saved_state self.old)) }
         ensures place { place_in self.new ≡ place_in self.old }
     {
         if self.threads[t as usize].log.marks().len() == 0 {

@@ -111,7 +111,7 @@ impl<A: Actor> Runtime<A> {
             ≡ inside_after A.thread t (machine_of A.state A.saved_state self.old) kind (inside_of self.old) u) }
         ensures same { OnErr result (machine_of A.state A.saved_state self.new ≡ machine_of A.state A.saved_state self.old) }
         ensures kept { OnErr result ((u : ℕ) → inside_of self.new u ≡ inside_of self.old u) }
-        ensures room { OnErr result (MayGrow A.thread (place_at self.old) t (machine_of A.state A.saved_state self.old)) }
+        ensures capacity { OnErr result (MayGrow A.thread (place_at self.old) t (machine_of A.state A.saved_state self.old)) }
         ensures place { place_at self.new ≡ place_at self.old }
         ensures limit { limit_of self.new ≡ limit_of self.old }
         ensures births { (machine_of A.state A.saved_state self.new).births ≤ (machine_of A.state A.saved_state self.old).births + 1 }

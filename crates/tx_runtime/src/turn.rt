@@ -90,7 +90,7 @@ impl<A: Actor> Engine<A, A::Saved> {
         ensures chosen { IfOk result (λ kind. Chosen A.thread (place_in self.old) (FnReturnsAt F.Fn policy.now.answer) R.allows t
             (machine_in A.state A.saved_state self.old) kind (machine_in A.state A.saved_state self.new)) }
         ensures same { OnErr result (machine_in A.state A.saved_state self.new ≡ machine_in A.state A.saved_state self.old) }
-        ensures room { OnErr result (MayGrow A.thread (place_in self.old) t (machine_in A.state A.saved_state self.old)) }
+        ensures capacity { OnErr result (MayGrow A.thread (place_in self.old) t (machine_in A.state A.saved_state self.old)) }
         ensures place { place_in self.new ≡ place_in self.old }
     {
         match self.standing(t) {
@@ -150,7 +150,7 @@ impl<A: Actor> Engine<A, A::Saved> {
         ensures chosen { IfOk result (λ kind. Chosen A.thread (place_in self.old) (FnReturnsAt F.Fn policy.now.answer) R.allows t
             (machine_in A.state A.saved_state self.old) kind (machine_in A.state A.saved_state self.new)) }
         ensures same { OnErr result (machine_in A.state A.saved_state self.new ≡ machine_in A.state A.saved_state self.old) }
-        ensures room { OnErr result (MayGrow A.thread (place_in self.old) t (machine_in A.state A.saved_state self.old)) }
+        ensures capacity { OnErr result (MayGrow A.thread (place_in self.old) t (machine_in A.state A.saved_state self.old)) }
         ensures place { place_in self.new ≡ place_in self.old }
     {
         match event {
@@ -175,7 +175,7 @@ impl<A: Actor> Engine<A, A::Saved> {
         requires alone { is_access event ≡ false }
         ensures turned { IfOk result (λ kind. Turns A.state A.saved_state A.thread t self.old kind self.new) }
         ensures same { OnErr result (machine_in A.state A.saved_state self.new ≡ machine_in A.state A.saved_state self.old) }
-        ensures room { OnErr result (MayGrow A.thread (place_in self.old) t (machine_in A.state A.saved_state self.old)) }
+        ensures capacity { OnErr result (MayGrow A.thread (place_in self.old) t (machine_in A.state A.saved_state self.old)) }
         ensures place { place_in self.new ≡ place_in self.old }
     {
         match event {

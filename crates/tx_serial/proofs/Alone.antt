@@ -13,15 +13,15 @@ use Rattle.tx_events.specs.declared.TurnKind.TheVariants.{Ran, Idle, Undone, Rel
 use Rattle.choosers.specs.declared.Clash.{Clash}
 use Rattle.choosers.specs.declared.Choice.{Choice}
 use Rattle.tx_events.specs.Thread.{Thread}
-use Rattle.tx_events.specs.Memory.{update, Place, can_access, word_of, word_bound}
+use Rattle.tx_events.specs.Memory.{update, MemoryLayout, can_access, word_of, word_bound}
 use Rattle.tx_events.specs.World.{Lock, target, lock_free, holder_free, lock_out}
 use Rattle.tx_serial.specs.Machine.{Machine, Local, Tx, NoTx, OpenTx, GivingUp, Closing, Save, blocker, busy, lock_owner, least, is_noted, keeps_off, birth_of, live_in, eldest}
 use Rattle.tx_serial.specs.Turn.{Turned, load_in, store_in, load_out, store_out, joins, begins, sync_in, sync_idle, commits, cancels_by, cancels, raises, in_does, out_does, lets_go, gives_back, turn_in, turn_of, turn_at, turn}
 use Rattle.tx_serial.specs.Bound.{is_waiting, is_spawn}
 use Rattle.tx_serial.proofs.Weight.{Lone}
-use Rattle.tx_events.proofs.Runs.{update_elsewhere}
+use Rattle.tx_events.proofs.BlockRuns.{update_elsewhere}
 
-module _ {S : Type 0} (a : Thread S) (p : Place) (m : Machine S) (l : Local S) (h : Lone m) where
+module _ {S : Type 0} (a : Thread S) (p : MemoryLayout) (m : Machine S) (l : Local S) (h : Lone m) where
   abbrev Goes : Turned S → Type 0
   Goes r = Lone r.machine × (is_waiting r.kind ≡ false)
 

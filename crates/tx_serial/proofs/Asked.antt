@@ -8,13 +8,13 @@ use Rattle.tx_events.specs.declared.Trap.TheVariants.{BadAddress}
 use Rattle.tx_events.specs.declared.Event.{Event}
 use Rattle.tx_events.specs.declared.Event.TheVariants.{Silent, Load, Store, Out, Inp, Spawn, Join, BeginAtomic, EndAtomic, Raise, BeginSync, EndSync, Done, Stop}
 use Rattle.tx_events.specs.Thread.{Thread}
-use Rattle.tx_events.specs.Memory.{Place, can_access, word_of}
+use Rattle.tx_events.specs.Memory.{MemoryLayout, can_access, word_of}
 use Rattle.tx_serial.specs.Machine.{Machine, Local, Tx, NoTx, OpenTx, GivingUp, Closing, Save, blocker, clash_of}
 use Rattle.tx_serial.specs.Turn.{Turned, stays, halts, load_in, store_in, clashes, in_does, turn_in, turn_of, turn_at, turn}
 use Rattle.tx_serial.specs.Kinds.{Accesses, GoesOn, Asked}
 use Rattle.tx_events.specs.declared.TurnKind.TheVariants.{Idle}
 
-module _ {S : Type 0} (a : Thread S) (p : Place) (answer other : Clash → Choice) (t : ℕ) (m : Machine S) (same : (c : Clash) → Asked a p t m c → answer c ≡ other c) where
+module _ {S : Type 0} (a : Thread S) (p : MemoryLayout) (answer other : Clash → Choice) (t : ℕ) (m : Machine S) (same : (c : Clash) → Asked a p t m c → answer c ≡ other c) where
   either : (b : Bool) (x y z : Turned S) → (b ≡ true → x ≡ y) → cond b x z ≡ cond b y z
   either true x y z f = f refl
   either false x y z f = refl

@@ -2,15 +2,15 @@
 use Rattle.std.proofs.Common.{ℕ, ◌≡◌, ◌==◌, ◌<◌, ◌≤◌, ◌+◌, ◌⊎◌, inl, inr, true, false, refl, ap, sym, ◌∙◌, subst, [], Option, Some, None, arith}
 use Rattle.std.proofs.lemmas.Bool.{eqb-true, eqb-false, false≢true}
 use Rattle.tx_events.specs.Thread.{Thread, atomics}
-use Rattle.tx_events.specs.Memory.{update, Place}
+use Rattle.tx_events.specs.Memory.{update, MemoryLayout}
 use Rattle.tx_serial.specs.Machine.{Machine, Local, birth, birth_of, has_tx, tx_in}
 use Rattle.tx_serial.specs.Turn.{bare}
 use Rattle.tx_serial.specs.Sound.{SoundLocal, SoundThread, Sound}
-use Rattle.tx_events.proofs.Runs.{update_elsewhere}
+use Rattle.tx_events.proofs.BlockRuns.{update_elsewhere}
 use Rattle.tx_serial.proofs.Frames.{at_update}
 use Rattle.tx_serial.proofs.Here.{not_true}
 
-module _ {S : Type 0} (R : S → Type 0) (a : Thread S) (p : Place) where
+module _ {S : Type 0} (R : S → Type 0) (a : Thread S) (p : MemoryLayout) where
   module _ (m m' : Machine S) (t : ℕ) (l l' : Local S) (h : Sound R a p m) (is : m.threads t ≡ Some l) (threads : m'.threads ≡ update m.threads t (Some l')) (births : m.births ≤ m'.births)
       (kin : has_tx l'.tx ≡ true → ((has_tx l.tx ≡ true) × (birth l'.tx ≡ birth l.tx)) ⊎ ((birth l'.tx ≡ m.births) × (m.births < m'.births))) where
     own_birth : has_tx l'.tx ≡ true → birth l'.tx < m'.births

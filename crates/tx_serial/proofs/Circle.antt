@@ -11,7 +11,7 @@ use Rattle.tx_events.specs.declared.Event.{Event}
 use Rattle.tx_events.specs.declared.Event.TheVariants.{Silent, Load, Store, Out, Inp, Spawn, Join, BeginAtomic, EndAtomic, Raise, BeginSync, EndSync, Done, Stop}
 use Rattle.tx_events.specs.declared.TurnKind.TheVariants.{Waited, Rolled, Idle}
 use Rattle.tx_events.specs.Thread.{Thread, Lawful}
-use Rattle.tx_events.specs.Memory.{Place}
+use Rattle.tx_events.specs.Memory.{MemoryLayout}
 use Rattle.tx_serial.specs.Machine.{Machine, Local, Tx, NoTx, OpenTx, GivingUp, Closing, Save, held_by, wrote_by, has_tx, tx_in, birth, birth_of, keeps_off, blocker, clash_of}
 use Rattle.tx_serial.specs.Turn.{stays, turn, turn_at, turn_of, turn_in}
 use Rattle.tx_serial.specs.Sound.{SoundTx, SoundThread, Sound}
@@ -29,7 +29,7 @@ keeps_word : {S : Type 0} (t : ℕ) (store : Bool) (x : ℕ) (threads : ℕ → 
 keeps_word t store x threads u h = elim (u == t) as (λ b. (not b && cond store (held_by (threads u) x) (wrote_by (threads u) x)) ≡ true → cond store (held_by (threads u) x) (wrote_by (threads u) x) ≡ true) [ true ↦ λ i. absurd (false≢true i) | false ↦ λ i. i ] h
 
 -- an event accesses in one way
-same_store : (p : Place) (e : Event) (s r : Bool) (x y : ℕ) → Accesses p e s x → Accesses p e r y → s ≡ r
+same_store : (p : MemoryLayout) (e : Event) (s r : Bool) (x y : ℕ) → Accesses p e s x → Accesses p e r y → s ≡ r
 same_store p (Load addr size vol) s r x y f g = f.1 ∙ sym g.1
 same_store p (Store addr size value vol) s r x y f g = f.1 ∙ sym g.1
 same_store p Silent s r x y f g = absurd f
@@ -45,7 +45,7 @@ same_store p EndSync s r x y f g = absurd f
 same_store p Done s r x y f g = absurd f
 same_store p (Stop e) s r x y f g = absurd f
 
-same_word : (p : Place) (e : Event) (s r : Bool) (x y : ℕ) → Accesses p e s x → Accesses p e r y → x ≡ y
+same_word : (p : MemoryLayout) (e : Event) (s r : Bool) (x y : ℕ) → Accesses p e s x → Accesses p e r y → x ≡ y
 same_word p (Load addr size vol) s r x y f g = f.2 ∙ sym g.2
 same_word p (Store addr size value vol) s r x y f g = f.2 ∙ sym g.2
 same_word p Silent s r x y f g = absurd f
@@ -61,7 +61,7 @@ same_word p EndSync s r x y f g = absurd f
 same_word p Done s r x y f g = absurd f
 same_word p (Stop e) s r x y f g = absurd f
 
-module _ {S : Type 0} (R : S → Type 0) (a : Thread S) (p : Place) (m : Machine S) (h : Sound R a p m) where
+module _ {S : Type 0} (R : S → Type 0) (a : Thread S) (p : MemoryLayout) (m : Machine S) (h : Sound R a p m) where
   -- who holds a word has a transaction
   tx_of : (q : Local S) (x : ℕ) (z : Tx S) → SoundTx R a p q z → q.held x ≡ true → has_tx z ≡ true
   tx_of q x NoTx g j = absurd (true≢false (sym j ∙ g.1 x))

@@ -11,9 +11,9 @@ use Rattle.tx_events.specs.declared.Event.TheVariants.{Silent, Load, Store, Out,
 use Rattle.tx_events.specs.declared.Reply.{Reply}
 use Rattle.tx_events.specs.declared.Reply.TheVariants.{Nothing, Loaded}
 use Rattle.tx_events.specs.Thread.{Thread, Lawful}
-use Rattle.tx_events.specs.Memory.{update, Place, can_access, load, word_bound}
-use Rattle.tx_events.specs.Alone.{is_over, outcome, Inner, inner_load, inner_store, inner_by, leave, raise, newest, begin, Took, Goes, Leaves, Halts, Never, Inside, at_start, goes_on}
-use Rattle.tx_events.specs.World.{Alive, alive, World, Step, Replays, Does, Joins, Lands, target, goes, ends, Silents, none, one_more, first_world, only_first}
+use Rattle.tx_events.specs.Memory.{update, MemoryLayout, can_access, load, word_bound}
+use Rattle.tx_events.specs.Alone.{is_over, outcome, Inner, inner_load, inner_store, inner_by, leave, raise, newest, begin, BlockStep, Goes, Leaves, Halts, Never, Inside, at_start, goes_on}
+use Rattle.tx_events.specs.World.{Alive, alive, World, Step, Replays, EventStep, Joins, BlockEffect, target, goes, ends, SilentSteps, none, one_more, first_world, only_first}
 use Rattle.tx_serial.specs.Machine.{Machine, Local, Tx, NoTx, OpenTx, GivingUp, Closing}
 use Rattle.tx_serial.specs.Turn.{Slot, bare, first_thread, turns, first_machine}
 use Rattle.tx_serial.specs.Shows.{ShowsTx, ShowsLocal, ShowsThread}
@@ -22,14 +22,14 @@ use Rattle.tx_events.specs.Thread.{is_silent}
 use Rattle.tx_events.specs.Same.{Reaches, at_once, silently, answered}
 use Rattle.tx_serial.specs.Bound.{Tally, no_tally, turns_for, is_spawn, tallied, tally_at, AtMost, zeros}
 use Rattle.tx_serial.proofs.Weight.{is_giving}
-use Rattle.tx_events.proofs.Runs.{OnGoes, on_either, update_elsewhere}
-use Rattle.tx_events.proofs.Reaching.{silents_reach, past_silent}
+use Rattle.tx_events.proofs.BlockRuns.{OnGoes, on_either, update_elsewhere}
+use Rattle.tx_events.proofs.ReachingLemmas.{silents_reach, past_silent}
 use Rattle.tx_serial.proofs.Kept.{turns_kept, start_shown}
 use Rattle.tx_serial.proofs.Tidy.{start_sound}
 use Rattle.tx_serial.proofs.Pays.{count_none}
 use Rattle.tx_serial.proofs.Ends.{Paid, Calm, all_turns, counted_laws}
 use Rattle.tx_serial.proofs.Here.{not_true}
-use Rattle.tx_events.proofs.Unique.{From, at, then, inside_from, inner_or, same_before, loud, same_step}
+use Rattle.tx_events.proofs.OneReplay.{From, at, then, inside_from, inner_or, same_before, loud, same_step}
 
 spawn_loud : (e : Event) → is_spawn e ≡ true → is_silent e ≡ false
 spawn_loud (Spawn g x) h = refl
@@ -47,7 +47,7 @@ spawn_loud EndSync h = refl
 spawn_loud Done h = refl
 spawn_loud (Stop e) h = refl
 
-module _ {S : Type 0} (a : Thread S) (p : Place) where
+module _ {S : Type 0} (a : Thread S) (p : MemoryLayout) where
   abbrev C : Thread (S × Tally)
   C = tallied a
 
@@ -92,7 +92,7 @@ module _ {S : Type 0} (a : Thread S) (p : Place) where
   from_le {i} (then {k} e f) = let le = from_le f in let one = subst (OnGoes (Above i)) e (by_above i (C.next i.state)) in omega (arith, le, one)
 
   -- a part of a run is a beginning of it
-  rest_silents : {s q u : S × Tally} → Silents C s q → Reaches C s [] u → is_silent (C.next u) ≡ false → Reaches C q [] u
+  rest_silents : {s q u : S × Tally} → SilentSteps C s q → Reaches C s [] u → is_silent (C.next u) ≡ false → Reaches C q [] u
   rest_silents none g i = g
   rest_silents (one_more f e) g i = past_silent C e (rest_silents f g i) i
 
@@ -110,12 +110,12 @@ module _ {S : Type 0} (a : Thread S) (p : Place) where
 
   module _ (w : World (S × Tally)) where
     -- before the step's last event
-    top_before : (t : ℕ) (r : S × Tally) (e : Event) (v : World (S × Tally)) (d : Does C p t w r e v) → suc (turns_for r.1) ≤ turns_for (tally_at a p t w r e v d)
+    top_before : (t : ℕ) (r : S × Tally) (e : Event) (v : World (S × Tally)) (d : EventStep C p t w r e v) → suc (turns_for r.1) ≤ turns_for (tally_at a p t w r e v d)
     top_before t r (BeginAtomic kind) v d = let le = from_le (inside_from C p d.1.run at) in omega (arith, le)
     top_before t r e v d = omega arith
 
     -- and within the block
-    top_within : (t : ℕ) (r : S × Tally) (e : Event) (v : World (S × Tally)) (d : Does C p t w r e v) → is_begin e ≡ true → (j : Inner (S × Tally)) → Inside C p (begin (C.after r Nothing) w.memory) j → suc (turns_for j.state.1) ≤ turns_for (tally_at a p t w r e v d)
+    top_within : (t : ℕ) (r : S × Tally) (e : Event) (v : World (S × Tally)) (d : EventStep C p t w r e v) → is_begin e ≡ true → (j : Inner (S × Tally)) → Inside C p (begin (C.after r Nothing) w.memory) j → suc (turns_for j.state.1) ≤ turns_for (tally_at a p t w r e v d)
     top_within t r (BeginAtomic kind) v d i j f = let le = from_le (rest_inside f (inside_from C p d.1.run at) d.1.over) in omega (arith, le)
     top_within t r e v d i j f = absurd (false≢true i)
 
@@ -138,13 +138,13 @@ module _ {S : Type 0} (a : Thread S) (p : Place) where
       single_join s None v h = single_to (ends w (Trapped BadJoin)) v h one
       single_join s (Some q) v h = single_to (goes 0 w s) v h.1 (moved (alive s))
 
-      single_lands : (y : Took (S × Tally)) (v : World (S × Tally)) → Lands 0 w y v → Single v
+      single_lands : (y : BlockStep (S × Tally)) (v : World (S × Tally)) → BlockEffect 0 w y v → Single v
       single_lands (Goes i) v h = absurd h
       single_lands Never v h = absurd h
       single_lands (Leaves s m) v h = single_to _ v h (moved (alive s))
       single_lands (Halts e) v h = single_to _ v h one
 
-      single_after : (r : S × Tally) (e : Event) (v : World (S × Tally)) → Does C p 0 w r e v → is_spawn e ≡ false → Single v
+      single_after : (r : S × Tally) (e : Event) (v : World (S × Tally)) → EventStep C p 0 w r e v → is_spawn e ≡ false → Single v
       single_after r Silent v d i = absurd d
       single_after r EndAtomic v d i = absurd d
       single_after r (Raise kind can) v d i = absurd d
@@ -183,7 +183,7 @@ module _ {S : Type 0} (a : Thread S) (p : Place) where
           let t0 = only_zero w r.one t h.0 h.1 in
           let u0 = only_zero w r.one u g.0 g.1 in
           let same = same_step C p u w h.0 g.0 (subst (λ q. Step C p q w h.0) (t0 ∙ sym u0) h.1) g.1 in
-          let one' = single_after w r.one g.1.before (C.next g.1.before) g.0 (subst (λ q. Does C p q w g.1.before (C.next g.1.before) g.0) u0 g.1.does) k.0 in
+          let one' = single_after w r.one g.1.before (C.next g.1.before) g.0 (subst (λ q. EventStep C p q w g.1.before (C.next g.1.before) g.0) u0 g.1.does) k.0 in
           more g.0 (subst (λ q. Replays C p q done z) same h.2) (record { order = order; replays = g.2; at_most = k.3; one = one' })
 
   -- where the replay has come to its end, it is that of the whole run
@@ -216,7 +216,7 @@ module _ {S : Type 0} (a : Thread S) (p : Place) where
           heard : is_silent (C.next g.1.before) ≡ false
           heard = loud C p u w g.0 g.1.before (C.next g.1.before) g.1.does
 
-          out_of : Silents C g.1.from l.state → suc (turns_for l.state.1) ≤ steps + 2 * accesses
+          out_of : SilentSteps C g.1.from l.state → suc (turns_for l.state.1) ≤ steps + 2 * accesses
           out_of z =
               let le = reach_le (rest_silents z (silents_reach C g.1.silents) heard) in
               let top = top_before w u g.1.before (C.next g.1.before) g.0 g.1.does in
@@ -242,10 +242,10 @@ module _ {S : Type 0} (a : Thread S) (p : Place) where
               begins kind i = ap is_begin i
 
           -- a spawn that is next is the whole run's next step
-          not_spawn : Silents C g.1.from l.state → is_spawn (a.next l.state.0) ≡ false
+          not_spawn : SilentSteps C g.1.from l.state → is_spawn (a.next l.state.0) ≡ false
           not_spawn z = not_true (is_spawn (a.next l.state.0)) (λ spawns. true≢false (sym spawns ∙ (ap (λ q. is_spawn (C.next q)) (same_before C p g.1.from l.state g.1.before z g.1.silents (spawn_loud (a.next l.state.0) spawns) heard) ∙ k.0)))
 
-module _ {S : Type 0} (R : S → Type 0) (a : Thread S) (laws : Lawful S R a) (p : Place) (small : p.limit ≤ 64) (memory : ℕ → ℕ) (input : List ℕ) (main : S) (reached : R main) (free : a.blocks main ≡ []) where
+module _ {S : Type 0} (R : S → Type 0) (a : Thread S) (laws : Lawful S R a) (p : MemoryLayout) (small : p.limit ≤ 64) (memory : ℕ → ℕ) (input : List ℕ) (main : S) (reached : R main) (free : a.blocks main ≡ []) where
   abbrev world0 : World (S × Tally)
   world0 = first_world memory input (main, no_tally)
 

@@ -7,7 +7,7 @@ use Rattle.tx_events.specs.declared.TurnKind.TheVariants.{Ran, Idle, Undone, Rel
 use Rattle.choosers.specs.declared.Clash.{Clash}
 use Rattle.choosers.specs.declared.Choice.{Choice}
 use Rattle.tx_events.specs.Thread.{Thread, Lawful}
-use Rattle.tx_events.specs.Memory.{Place, word_bound}
+use Rattle.tx_events.specs.Memory.{MemoryLayout, word_bound}
 use Rattle.tx_serial.specs.Machine.{Machine, Local, Tx, NoTx, OpenTx, GivingUp, Closing}
 use Rattle.tx_serial.specs.Turn.{Slot, stays, turn_in, turn_of, turn_at, turn, turns}
 use Rattle.tx_serial.specs.Sound.{Sound}
@@ -22,7 +22,7 @@ use Rattle.tx_serial.proofs.Pays.{turn_pays}
 use Rattle.tx_serial.proofs.Alone.{lone_turn}
 use Rattle.tx_serial.proofs.Moves.{ByKind, turn_moves}
 
-module _ {S : Type 0} (R : S → Type 0) (a : Thread S) (laws : Lawful S R a) (p : Place) (small : p.limit ≤ 64) where
+module _ {S : Type 0} (R : S → Type 0) (a : Thread S) (laws : Lawful S R a) (p : MemoryLayout) (small : p.limit ≤ 64) where
   abbrev pub RC : S × Tally → Type 0
   RC s = R s.0
 

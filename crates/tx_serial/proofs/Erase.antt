@@ -13,7 +13,7 @@ use Rattle.choosers.specs.declared.Clash.{Clash}
 use Rattle.choosers.specs.declared.Choice.{Choice}
 use Rattle.choosers.specs.declared.Choice.TheVariants.{Wait, Yield}
 use Rattle.tx_events.specs.Thread.{Thread}
-use Rattle.tx_events.specs.Memory.{update, Place, can_access, word_of, word_bound, load}
+use Rattle.tx_events.specs.Memory.{update, MemoryLayout, can_access, word_of, word_bound, load}
 use Rattle.tx_events.specs.World.{target, byte_of}
 use Rattle.tx_serial.specs.Machine.{greatest, count, waits_at, lock_owner, clash_of, Machine, Local, Tx, NoTx, OpenTx, GivingUp, Closing, Save, no_save, held_by, wrote_by, live_in, is_live, birth, birth_of, keeps_off, hand, note, forget, blocker, busy, least, eldest, is_noted, wait_more}
 use Rattle.tx_serial.specs.Turn.{Slot, Turned, bare, clashes, gives_up, closes, without, waited, load_in, store_in, load_out, store_out, joins, begins, sync_in, sync_idle, outermost, commits, cancels_by, cancels, raises, in_does, out_does, lets_go, given_back, gives_back, turn_in, turn_of, turn_at, turn, turns, first_machine, first_thread}
@@ -86,7 +86,7 @@ module _ {S X : Type 0} where
   update_erased : (f : ℕ → Option (Local (S × X))) (t : ℕ) (l : Local (S × X)) → (λ u. erase_opt (update f t (Some l) u)) ≡ update (λ u. erase_opt (f u)) t (Some (erase_local l))
   update_erased f t l = fun_ext (λ u. elim (u == t) as (λ b. erase_opt (cond b (Some l) (f u)) ≡ cond b (Some (erase_local l)) (erase_opt (f u))) [ true ↦ refl | false ↦ refl ])
 
-module _ {S X : Type 0} (x0 : X) (h : X → Event → Reply → X) (a : Thread S) (p : Place) (t : ℕ) (m : Machine (S × X)) (l : Local (S × X)) where
+module _ {S X : Type 0} (x0 : X) (h : X → Event → Reply → X) (a : Thread S) (p : MemoryLayout) (t : ℕ) (m : Machine (S × X)) (l : Local (S × X)) where
   abbrev C : Thread (S × X)
   C = with_more x0 h a
 
@@ -244,7 +244,7 @@ module _ {S X : Type 0} (x0 : X) (h : X → Event → Reply → X) (a : Thread S
   tx_erased answer (GivingUp b k ss) i = back_erased b k ss (least l.held (word_bound p))
   tx_erased answer (Closing b) i = go_erased b (least l.held (word_bound p))
 
-module _ {S X : Type 0} (x0 : X) (h : X → Event → Reply → X) (a : Thread S) (p : Place) where
+module _ {S X : Type 0} (x0 : X) (h : X → Event → Reply → X) (a : Thread S) (p : MemoryLayout) where
   of_erased : (answer : Clash → Choice) (t : ℕ) (m : Machine (S × X)) (o : Option (Local (S × X))) → erase (turn_of (with_more x0 h a) p answer t m o).machine ≡ (turn_of a p answer t (erase m) (erase_opt o)).machine
   of_erased answer t m None = refl
   of_erased answer t m (Some l) = either x0 h a p t m l l.ended _ _ _ _ refl (tx_erased x0 h a p t m l answer l.tx refl)

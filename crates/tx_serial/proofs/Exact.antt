@@ -13,12 +13,12 @@ use Rattle.tx_events.specs.declared.Reply.TheVariants.{Nothing}
 use Rattle.tx_events.specs.declared.TurnKind.{TurnKind}
 use Rattle.tx_events.specs.declared.TurnKind.TheVariants.{Ran, Waited, BlockWait, JoinWait, Rolled, Undone, Released, Idle}
 use Rattle.tx_events.specs.Thread.{Thread}
-use Rattle.tx_events.specs.Memory.{Place, can_access, word_of, word_bound}
+use Rattle.tx_events.specs.Memory.{MemoryLayout, can_access, word_of, word_bound}
 use Rattle.tx_serial.specs.Machine.{Machine, Local, Tx, NoTx, OpenTx, GivingUp, Closing, Save, least, blocker, clash_of}
 use Rattle.tx_serial.specs.Turn.{ran, told, steps, number_of, Turned, stays, halts, load_in, store_in, load_out, store_out, begins, sync_in, sync_idle, joins, clashes, cancels, cancels_by, in_does, out_does, lets_go, gives_back, turn_in, turn_of, turn_at, turn}
 use Rattle.tx_serial.specs.Kinds.{Accesses, Shut, Unended, NewestNotes, KindOut, KindIn, KindGiving, KindClosing, KindBy, GoesOn, is_ran}
 
-module _ {S : Type 0} (a : Thread S) (p : Place) (answer : Clash → Choice) (t : ℕ) (m : Machine S) (l : Local S) where
+module _ {S : Type 0} (a : Thread S) (p : MemoryLayout) (answer : Clash → Choice) (t : ℕ) (m : Machine S) (l : Local S) where
   given : (b : Bool) (x y : Turned S) (k : TurnKind) → b ≡ true → x.kind ≡ k → (cond b x y).kind ≡ k
   given b x y k e h = ap (λ c. (cond c x y).kind) e ∙ h
 
@@ -154,7 +154,7 @@ module _ {S : Type 0} (a : Thread S) (p : Place) (answer : Clash → Choice) (t 
   kind_exact k g h r = ap (λ z. z.kind) (turn_is g) ∙ tx_exact l.tx k h r
 
 -- a thread that does not go on is idle, and nothing changes
-module _ {S : Type 0} (a : Thread S) (p : Place) (answer : Clash → Choice) (t : ℕ) (m : Machine S) where
+module _ {S : Type 0} (a : Thread S) (p : MemoryLayout) (answer : Clash → Choice) (t : ℕ) (m : Machine S) where
   pub idle_exact : ((l : Local S) → GoesOn t m l → ⊥) → turn a p answer t m ≡ stays Idle m
   idle_exact h = by_end m.end refl
     where

@@ -2,19 +2,19 @@
 use Rattle.std.proofs.Common.{ℕ, ◌≡◌, ◌==◌, ◌⊎◌, inl, inr, Bool, true, false, cond, refl, ap, sym, ◌∙◌, subst, List, [], ◌∷◌, ◌++◌, Option, Some, None}
 use Rattle.std.proofs.lemmas.Bool.{eqb-true, eqb-false, ne_eqb}
 use Rattle.tx_events.specs.Thread.{Thread}
-use Rattle.tx_events.specs.Memory.{update, Place}
+use Rattle.tx_events.specs.Memory.{update, MemoryLayout}
 use Rattle.tx_events.specs.Alone.{newest}
 use Rattle.tx_events.specs.World.{Alive, World, Lock, Step, Replays}
 use Rattle.tx_serial.specs.Machine.{Local, Tx, NoTx, OpenTx, GivingUp, Closing, kept_or, oldest, held_by, wrote_by, live_in}
 use Rattle.tx_serial.specs.Shows.{cancelling, LevelsAt, ShowsTx, ShowsLocal, ShowsThread}
 use Rattle.tx_serial.proofs.Agrees.{undoes, Going}
-use Rattle.tx_events.proofs.Runs.{update_same, update_elsewhere, newest_both, local}
+use Rattle.tx_events.proofs.BlockRuns.{update_same, update_elsewhere, newest_both, local}
 use Rattle.tx_serial.proofs.Levels.{even_both, levels_both}
 
 pub apart_sym : (t u : ℕ) → (u == t) ≡ false → (t == u) ≡ false
 apart_sym t u h = ne_eqb t u (λ e. eqb-false u t h (sym e))
 
-module _ {S : Type 0} (a : Thread S) (p : Place) where
+module _ {S : Type 0} (a : Thread S) (p : MemoryLayout) where
   framed_tx : (m n o q : ℕ → ℕ) (start : S) (l : Local S) (memory : (x : ℕ) → l.held x ≡ true → n x ≡ m x) (outside : (x : ℕ) → l.held x ≡ true → q x ≡ o x)
       (tx : Tx S) → ShowsTx a p m o start l tx → ShowsTx a p n q start l tx
   framed_tx m n o q start l memory outside NoTx f = f

@@ -13,17 +13,17 @@ use Rattle.tx_events.specs.declared.TurnKind.TheVariants.{JoinWait}
 use Rattle.tx_events.specs.declared.Event.TheVariants.{Silent, Load, Store, Out, Inp, Spawn, Join, BeginAtomic, EndAtomic, Raise, BeginSync, EndSync, Done, Stop}
 use Rattle.tx_events.specs.declared.Reply.TheVariants.{Nothing, Id}
 use Rattle.tx_events.specs.Thread.{Thread}
-use Rattle.tx_events.specs.Memory.{update, Place, can_access, word_of, word_bound}
+use Rattle.tx_events.specs.Memory.{update, MemoryLayout, can_access, word_of, word_bound}
 use Rattle.tx_events.specs.World.{target}
 use Rattle.tx_serial.specs.Machine.{Machine, Local, Tx, NoTx, OpenTx, GivingUp, Closing, Save, is_noted, least, blocker, lock_owner, busy, clash_of}
 use Rattle.tx_serial.specs.Turn.{Turned, ran, told, steps, stays, halts, spawns, number_of, clashes, load_in, store_in, load_out, store_out, joins, begins, sync_in, sync_idle, closes, outermost, commits, cancels_by, cancels, raises, in_does, out_does, lets_go, gives_back, turn_in, turn}
 use Rattle.tx_serial.specs.Kinds.{is_ran, GoesOn}
 use Rattle.tx_serial.specs.Run.{is_open}
 use Rattle.tx_serial.specs.Order.{is_told, open_in, adds, order_after}
-use Rattle.tx_events.proofs.Runs.{update_same}
+use Rattle.tx_events.proofs.BlockRuns.{update_same}
 use Rattle.tx_serial.proofs.Exact.{turn_is}
 
-module _ {S : Type 0} (a : Thread S) (p : Place) (t : ℕ) (m : Machine S) (l : Local S) (goes : m.end ≡ None) where
+module _ {S : Type 0} (a : Thread S) (p : MemoryLayout) (t : ℕ) (m : Machine S) (l : Local S) (goes : m.end ≡ None) where
   -- outside a transaction, where the event is told or not
   abbrev Outer : Bool → Turned S → Type 0
   Outer b r = r.machine.order ≡ order_after (is_ran r.kind && b) t m.order
@@ -156,6 +156,6 @@ module _ {S : Type 0} (a : Thread S) (p : Place) (t : ℕ) (m : Machine S) (l : 
   tx_grows answer (GivingUp b kk ss) = back_same b kk ss (least l.held (word_bound p))
   tx_grows answer (Closing b) = go_same b (least l.held (word_bound p))
 
-module _ {S : Type 0} (a : Thread S) (p : Place) (answer : Clash → Choice) (t : ℕ) (m : Machine S) (l : Local S) (goes : GoesOn t m l) where
+module _ {S : Type 0} (a : Thread S) (p : MemoryLayout) (answer : Clash → Choice) (t : ℕ) (m : Machine S) (l : Local S) (goes : GoesOn t m l) where
   pub order_grows : (turn a p answer t m).machine.order ≡ order_after (adds a t l l.tx (turn a p answer t m)) t m.order
   order_grows = subst (λ r. r.machine.order ≡ order_after (adds a t l l.tx r) t m.order) (sym (turn_is a p answer t m l goes)) (tx_grows a p t m l goes.going answer l.tx)

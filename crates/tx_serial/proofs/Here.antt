@@ -8,14 +8,14 @@ use Rattle.tx_events.specs.declared.BlockKind.TheVariants.{NoExcept, Commit, Can
 use Rattle.tx_events.specs.declared.Event.{Event}
 use Rattle.tx_events.specs.declared.Event.TheVariants.{Silent, Load, Store, Out, Inp, Spawn, Join, BeginAtomic, EndAtomic, Raise, BeginSync, EndSync, Done, Stop}
 use Rattle.tx_events.specs.Thread.{Thread}
-use Rattle.tx_events.specs.Memory.{update, Place, can_access, word_bound}
-use Rattle.tx_events.specs.Alone.{Took, Goes, Leaves, Halts, Never, is_over, Inner, Inside, at_start, goes_on, inner_by, leave, raise, newest, begin}
-use Rattle.tx_events.specs.World.{Alive, alive, World, lock_free, holder_free, Step, Replays, Does, Lands, Silents, ends}
+use Rattle.tx_events.specs.Memory.{update, MemoryLayout, can_access, word_bound}
+use Rattle.tx_events.specs.Alone.{BlockStep, Goes, Leaves, Halts, Never, is_over, Inner, Inside, at_start, goes_on, inner_by, leave, raise, newest, begin}
+use Rattle.tx_events.specs.World.{Alive, alive, World, lock_free, holder_free, Step, Replays, EventStep, BlockEffect, SilentSteps, ends}
 use Rattle.tx_serial.specs.Machine.{Machine, Local, OpenTx, Save, no_save, held_by, wrote_by, is_live, live_in, keeps_off, blocker, busy, birth_of, least, eldest}
 use Rattle.tx_serial.specs.Turn.{Turned, halts}
 use Rattle.tx_serial.specs.Shows.{cancelling, LevelsAt, Began, InBlock, ShowsLocal, ShowsThread}
 use Rattle.tx_serial.proofs.Agrees.{undoes, Going, Agreed}
-use Rattle.tx_events.proofs.Runs.{OnGoes, on_either, AllAt, unstored}
+use Rattle.tx_events.proofs.BlockRuns.{OnGoes, on_either, AllAt, unstored}
 use Rattle.tx_serial.proofs.Levels.{levels_new, last_at}
 use Rattle.tx_serial.proofs.Search.{eldest_none}
 use Rattle.tx_serial.proofs.Frames.{apart_sym, one_step_more, at_update}
@@ -29,13 +29,13 @@ pub not_true : (b : Bool) → (b ≡ true → ⊥) → b ≡ false
 not_true true f = absurd (f refl)
 not_true false f = refl
 
-lands_over : {S : Type 0} (t : ℕ) (w v : World S) (y : Took S) → Lands t w y v → is_over y ≡ true
+lands_over : {S : Type 0} (t : ℕ) (w v : World S) (y : BlockStep S) → BlockEffect t w y v → is_over y ≡ true
 lands_over t w v (Goes i) h = absurd h
 lands_over t w v (Leaves s m) h = refl
 lands_over t w v (Halts e) h = refl
 lands_over t w v Never h = absurd h
 
-module _ {S : Type 0} (a : Thread S) (p : Place) where
+module _ {S : Type 0} (a : Thread S) (p : MemoryLayout) where
   -- the oldest copy is the memory from which the block began
   abbrev Based : (ℕ → ℕ) → ℕ → Inner S → Type 0
   Based m x i = (d : ℕ) → last_at i.copies x d ≡ m x
@@ -155,24 +155,24 @@ module _ {S : Type 0} (a : Thread S) (p : Place) where
     pub may_land : is_live l.tx ≡ true → lock_free t w.lock ≡ true
     may_land i = ap (λ q. lock_free t q) k.g.lock_is ∙ free_holder m.lock.holder refl i
 
-    pub out_step : (v : World S) (e : Event) → w.end ≡ None → Silents a k.s.state l.state → a.next l.state ≡ e → Does a p t w l.state e v → Step a p t w v
-    out_step v e going f is d = record { going = going; from = k.s.state; before = l.state; is = at_alive; silents = f; does = subst (λ z. Does a p t w l.state z v) (sym is) d }
+    pub out_step : (v : World S) (e : Event) → w.end ≡ None → SilentSteps a k.s.state l.state → a.next l.state ≡ e → EventStep a p t w l.state e v → Step a p t w v
+    out_step v e going f is d = record { going = going; from = k.s.state; before = l.state; is = at_alive; silents = f; does = subst (λ z. EventStep a p t w l.state z v) (sym is) d }
 
-    pub in_step : (v : World S) (e : Event) (b : ℕ) (kk : S) (ss : List Save) → w.end ≡ None → l.tx ≡ OpenTx b kk ss → (f : InBlock a p m.memory w.memory k.s.state l kk ss) → a.next l.state ≡ e → Lands t w (inner_by a p f.inner e) v → Step a p t w v
+    pub in_step : (v : World S) (e : Event) (b : ℕ) (kk : S) (ss : List Save) → w.end ≡ None → l.tx ≡ OpenTx b kk ss → (f : InBlock a p m.memory w.memory k.s.state l kk ss) → a.next l.state ≡ e → BlockEffect t w (inner_by a p f.inner e) v → Step a p t w v
     in_step v e b kk ss going tx f is d = let here = ap a.next f.state ∙ is in record {
       going = going;
       from = k.s.state;
       before = f.began.before;
       is = at_alive;
       silents = f.began.silents;
-      does = subst (λ z. Does a p t w f.began.before z v) (sym f.began.begins) (
+      does = subst (λ z. EventStep a p t w f.began.before z v) (sym f.began.begins) (
         may_land (ap is_live tx),
         record {
           last = f.inner;
           run = subst (λ z. Inside a p (begin z w.memory) f.inner) f.began.kept_is f.run;
           over = subst (λ z. is_over (inner_by a p f.inner z) ≡ true) (sym here) (lands_over t w v (inner_by a p f.inner e) d);
         },
-        subst (λ z. Lands t w (inner_by a p f.inner z) v) (sym here) d,
+        subst (λ z. BlockEffect t w (inner_by a p f.inner z) v) (sym here) d,
       );
     }
 

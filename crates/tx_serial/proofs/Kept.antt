@@ -5,7 +5,7 @@ use Rattle.tx_events.specs.declared.End.{End}
 use Rattle.choosers.specs.declared.Clash.{Clash}
 use Rattle.choosers.specs.declared.Choice.{Choice}
 use Rattle.tx_events.specs.Thread.{Thread}
-use Rattle.tx_events.specs.Memory.{Place, word_bound}
+use Rattle.tx_events.specs.Memory.{MemoryLayout, word_bound}
 use Rattle.tx_events.specs.World.{World, Alive, first_world, only_first, none}
 use Rattle.tx_serial.specs.Machine.{Machine, Local, Tx, NoTx, OpenTx, GivingUp, Closing, held_by, wrote_by, live_in, least}
 use Rattle.tx_serial.specs.Turn.{Slot, turn_in, turn_of, turn_at, turn, turns, first_machine, first_thread}
@@ -15,7 +15,7 @@ use Rattle.tx_serial.proofs.Here.{Known, either}
 use Rattle.tx_serial.proofs.Outside.{out_kept_all}
 use Rattle.tx_serial.proofs.Within.{in_kept_all, gives_back_kept, lets_go_kept}
 
-module _ {S : Type 0} (a : Thread S) (p : Place) (start : World S) where
+module _ {S : Type 0} (a : Thread S) (p : MemoryLayout) (start : World S) where
   by_tx : (answer : Clash → Choice) (t : ℕ) (m : Machine S) (l : Local S) (k : Known a p start t m l) (tx : Tx S) → l.tx ≡ tx → ShowsTx a p m.memory k.w.memory k.here.s.state l tx → Agreed a p start (turn_in a p answer t m l tx).machine
   by_tx answer t m l k NoTx e f = out_kept_all a p start t m l k e f (a.next l.state) refl
   by_tx answer t m l k (OpenTx b kk ss) e f = in_kept_all a p start t m l k b kk ss e f answer (a.next l.state) refl
@@ -73,11 +73,11 @@ first_live : {S : Type 0} (main : S) (u : ℕ) → live_in (first_thread main u)
 first_live main zero = refl
 first_live main (suc u) = refl
 
-first_shown : {S : Type 0} (a : Thread S) (p : Place) (memory : ℕ → ℕ) (main : S) (u : ℕ) → ShowsThread a p memory memory (first_thread main u) (only_first main u)
+first_shown : {S : Type 0} (a : Thread S) (p : MemoryLayout) (memory : ℕ → ℕ) (main : S) (u : ℕ) → ShowsThread a p memory memory (first_thread main u) (only_first main u)
 first_shown a p memory main zero = record { ended = refl; holds = λ x h. absurd (false≢true h); bounded = λ x h. absurd (false≢true h); tx = (none, λ x. refl) }
 first_shown a p memory main (suc u) = tt
 
-pub start_shown : {S : Type 0} (a : Thread S) (p : Place) (memory : ℕ → ℕ) (input : List ℕ) (main : S) → Agreed a p (first_world memory input main) (first_machine memory input main)
+pub start_shown : {S : Type 0} (a : Thread S) (p : MemoryLayout) (memory : ℕ → ℕ) (input : List ℕ) (main : S) → Agreed a p (first_world memory input main) (first_machine memory input main)
 start_shown a p memory input main = (
   first_world memory input main,
   refl,

@@ -2,7 +2,7 @@
 use Rattle.std.proofs.Common.{ℕ, ◌≡◌, ◌==◌, true, false, cond, refl, ap, sym, ◌∙◌, subst, List, [], ◌∷◌, Option, Some, None}
 use Rattle.tx_serial.specs.Machine.{Save, kept_or, or_else, oldest, forget, forget_all, hand, note}
 use Rattle.tx_serial.specs.Shows.{Even, LevelsAt, NoneAt}
-use Rattle.tx_events.proofs.Runs.{update_same, update_elsewhere, AllAt, Both}
+use Rattle.tx_events.proofs.BlockRuns.{update_same, update_elsewhere, AllAt, Both}
 
 kept_twice : (o n : Option ℕ) (v : ℕ) → kept_or o (kept_or n v) ≡ kept_or (or_else o n) v
 kept_twice None n v = refl

@@ -17,15 +17,15 @@ use Rattle.choosers.specs.declared.Clash.{Clash}
 use Rattle.choosers.specs.declared.Choice.{Choice}
 use Rattle.choosers.specs.declared.Choice.TheVariants.{Wait, Yield}
 use Rattle.tx_events.specs.Thread.{Thread}
-use Rattle.tx_events.specs.Memory.{update, Place, can_access, word_of, word_bound, load}
+use Rattle.tx_events.specs.Memory.{update, MemoryLayout, can_access, word_of, word_bound, load}
 use Rattle.tx_events.specs.World.{target, byte_of}
 use Rattle.tx_serial.specs.Machine.{Machine, Local, Tx, NoTx, OpenTx, GivingUp, Closing, Save, no_save, lock_owner, clash_of, hand, note, forget, blocker, busy, least, is_noted}
 use Rattle.tx_serial.specs.Turn.{Turned, number_of, bare, clashes, gives_up, closes, without, halts, load_in, store_in, load_out, store_out, joins, begins, sync_in, sync_idle, outermost, commits, cancels_by, cancels, raises, in_does, out_does, lets_go, turn_in, turn_of, turn_at, turn}
 use Rattle.tx_serial.specs.Bound.{is_waiting}
 use Rattle.tx_serial.proofs.Weight.{is_giving}
-use Rattle.tx_events.proofs.Runs.{update_same}
+use Rattle.tx_events.proofs.BlockRuns.{update_same}
 
-module _ {S : Type 0} (a : Thread S) (p : Place) (t : ℕ) (m : Machine S) (l : Local S) (is : m.threads t ≡ Some l) (calm : is_giving l.tx ≡ false) where
+module _ {S : Type 0} (a : Thread S) (p : MemoryLayout) (t : ℕ) (m : Machine S) (l : Local S) (is : m.threads t ≡ Some l) (calm : is_giving l.tx ≡ false) where
   abbrev pub ByKind : TurnKind → S → Type 0
   ByKind Ran s = (r : Reply) × (s ≡ a.after l.state r)
   ByKind (Rolled x u) s = Unit {0}

@@ -10,18 +10,18 @@ use Rattle.tx_events.specs.declared.Event.{Event}
 use Rattle.tx_events.specs.declared.Event.TheVariants.{Silent, Load, Store, Out, Inp, Spawn, Join, BeginAtomic, EndAtomic, Raise, BeginSync, EndSync, Done, Stop}
 use Rattle.tx_events.specs.declared.Reply.TheVariants.{Nothing, Loaded, Byte, Id}
 use Rattle.tx_events.specs.Thread.{Thread}
-use Rattle.tx_events.specs.Memory.{update, Place, can_access, word_of, read_at, merge}
-use Rattle.tx_events.specs.World.{Alive, alive, World, Lock, lock_free, lock_in, lock_out, holder_free, Does, Joins, Silents, none, one_more, goes, ends, target, byte_of, input_after}
+use Rattle.tx_events.specs.Memory.{update, MemoryLayout, can_access, word_of, read_at, merge}
+use Rattle.tx_events.specs.World.{Alive, alive, World, Lock, lock_free, lock_in, lock_out, holder_free, EventStep, Joins, SilentSteps, none, one_more, goes, ends, target, byte_of, input_after}
 use Rattle.tx_serial.specs.Machine.{Machine, Local, NoTx, OpenTx, no_save, lock_owner, held_by, wrote_by, is_live, live_in, blocker, busy, no_waits}
 use Rattle.tx_serial.specs.Turn.{halts, steps, told, ran, waited, bare, load_out, store_out, joins, begins, sync_in, sync_idle, out_does}
 use Rattle.tx_serial.specs.Shows.{ShowsTx, ShowsLocal, ShowsThread}
 use Rattle.tx_serial.proofs.Agrees.{undoes, Going, Agreed}
-use Rattle.tx_events.proofs.Runs.{update_same, update_elsewhere}
+use Rattle.tx_events.proofs.BlockRuns.{update_same, update_elsewhere}
 use Rattle.tx_serial.proofs.Frames.{at_update, changed}
 use Rattle.tx_serial.proofs.Here.{not_true, Here, Known, everyone, unwritten, own_mine, own_theirs, unheld, still_alone, unheld_by, not_kept_off, not_busy, out_step, fresh_block, quiet, said, halted, either}
 
-module _ {S : Type 0} (a : Thread S) (p : Place) where
-  module _ (m : Machine S) (w : World S) (t : ℕ) (l : Local S) (k : Here a p m w t l) (tx : l.tx ≡ NoTx) (f : Silents a k.s.state l.state × ((x : ℕ) → l.held x ≡ false)) where
+module _ {S : Type 0} (a : Thread S) (p : MemoryLayout) where
+  module _ (m : Machine S) (w : World S) (t : ℕ) (l : Local S) (k : Here a p m w t l) (tx : l.tx ≡ NoTx) (f : SilentSteps a k.s.state l.state × ((x : ℕ) → l.held x ≡ false)) where
     -- the thread stands where the world's thread stands
     out_local : (memory outside : ℕ → ℕ) (s' : S) (e : Bool) → ShowsLocal a p memory outside (record l { state = s'; ended = e }) (record { state = s'; ended = e })
     out_local memory outside s' e = record {
@@ -78,10 +78,10 @@ module _ {S : Type 0} (a : Thread S) (p : Place) where
       not_there : (u y : ℕ) → (u == t) ≡ false → held_by (m.threads u) y ≡ true → (y == x) ≡ false
       not_there u y d h = not_true (y == x) (λ e. true≢false (sym h ∙ (ap (held_by (m.threads u)) (eqb-true y x e) ∙ free u d)))
 
-  module _ (start : World S) (t : ℕ) (m : Machine S) (l : Local S) (k : Known a p start t m l) (tx : l.tx ≡ NoTx) (f : Silents a k.here.s.state l.state × ((x : ℕ) → l.held x ≡ false)) where
+  module _ (start : World S) (t : ℕ) (m : Machine S) (l : Local S) (k : Known a p start t m l) (tx : l.tx ≡ NoTx) (f : SilentSteps a k.here.s.state l.state × ((x : ℕ) → l.held x ≡ false)) where
     -- both go on by an event that leaves memory
     tells : (e : Event) (s' : S) (b : Bool) (lock' : Lock) (out input : List ℕ) → a.next l.state ≡ e
-        → Does a p t k.w l.state e (record k.w { lock = lock'; out = out; input = input; threads = update k.w.threads t (Some (record { state = s'; ended = b })) })
+        → EventStep a p t k.w l.state e (record k.w { lock = lock'; out = out; input = input; threads = update k.w.threads t (Some (record { state = s'; ended = b })) })
         → ((o u : ℕ) → lock'.holder ≡ Some o → (u == o) ≡ false → live_in (update m.threads t (Some (record l { state = s'; ended = b })) u) ≡ false)
         → Agreed a p start (record (told t (steps t m (record l { state = s'; ended = b }))) { lock = lock'; out = out; input = input })
     tells e s' b lock' out input is does alone =
@@ -92,7 +92,7 @@ module _ {S : Type 0} (a : Thread S) (p : Place) where
 
     -- and that leaves the lock, the output and the input
     tells_only : (e : Event) (s' : S) (b : Bool) → a.next l.state ≡ e
-        → Does a p t k.w l.state e (record k.w { threads = update k.w.threads t (Some (record { state = s'; ended = b })) })
+        → EventStep a p t k.w l.state e (record k.w { threads = update k.w.threads t (Some (record { state = s'; ended = b })) })
         → Agreed a p start (told t (steps t m (record l { state = s'; ended = b })))
     tells_only e s' b is does =
         let v : World S = record k.w { threads = update k.w.threads t (Some (record { state = s'; ended = b })) } in
@@ -100,7 +100,7 @@ module _ {S : Type 0} (a : Thread S) (p : Place) where
         (out_step a p m k.w t l k.here v e k.going f.0 is does)
         (λ q. plain m k.w t l k.here tx f v m.lock s' b refl k.here.g.lock_is refl refl (same_lock m k.w t l k.here tx f s' b))
 
-    stops : (e : Event) (end : End) → a.next l.state ≡ e → Does a p t k.w l.state e (ends k.w end) → Agreed a p start (halts t m end).machine
+    stops : (e : Event) (end : End) → a.next l.state ≡ e → EventStep a p t k.w l.state e (ends k.w end) → Agreed a p start (halts t m end).machine
     stops e end is does = halted a p start t m l k end (out_step a p m k.w t l k.here (ends k.w end) e k.going f.0 is does)
 
     -- nothing but the waits changes

@@ -14,14 +14,14 @@ use Rattle.choosers.specs.declared.Clash.{Clash}
 use Rattle.choosers.specs.declared.Choice.{Choice}
 use Rattle.choosers.specs.declared.Choice.TheVariants.{Wait, Yield}
 use Rattle.tx_events.specs.Thread.{Thread}
-use Rattle.tx_events.specs.Memory.{update, Place, can_access, word_of, word_bound, load}
+use Rattle.tx_events.specs.Memory.{update, MemoryLayout, can_access, word_of, word_bound, load}
 use Rattle.tx_events.specs.World.{target, byte_of}
 use Rattle.tx_serial.specs.Machine.{Machine, Local, Tx, NoTx, OpenTx, GivingUp, Closing, Save, no_save, lock_owner, clash_of, kept_or, or_else, hand, note, forget, is_noted, least, eldest, blocker, busy}
 use Rattle.tx_serial.specs.Turn.{Turned, number_of, steps, ran, bare, gives_up, clashes, load_in, store_in, load_out, store_out, joins, begins, sync_in, sync_idle, closes, outermost, commits, cancels_by, cancels, raises, in_does, out_does, without, lets_go, given_back, gives_back, turn_in, turn_of, turn_at, turn}
 use Rattle.tx_serial.specs.Machine.{count}
 use Rattle.tx_serial.specs.Machine.{count}
 use Rattle.tx_serial.proofs.Weight.{notes, notes_in, weight, spent, earned, earned_by}
-use Rattle.tx_events.proofs.Runs.{update_same}
+use Rattle.tx_events.proofs.BlockRuns.{update_same}
 use Rattle.tx_serial.proofs.Search.{eldest_none, eldest_some, eldest_le, eldest_below}
 
 pub count_le : (f g : ℕ → Bool) (n : ℕ) → ((x : ℕ) → f x ≡ true → g x ≡ true) → count f n ≤ count g n
@@ -110,7 +110,7 @@ notes_forget n s ss x h e =
 notes_fresh : (n : ℕ) → notes n (no_save ∷ []) ≡ 0
 notes_fresh n = let z = count_none (is_noted no_save) n (λ x. refl) in omega (arith, z)
 
-module _ {S : Type 0} (a : Thread S) (p : Place) (t : ℕ) (m : Machine S) (l : Local S) (is : m.threads t ≡ Some l) where
+module _ {S : Type 0} (a : Thread S) (p : MemoryLayout) (t : ℕ) (m : Machine S) (l : Local S) (is : m.threads t ≡ Some l) where
   -- what the turn puts back and lets go is paid by what the thread holds and notes
   abbrev Pays : Event → Turned S → Type 0
   Pays e r = weight (word_bound p) (r.machine.threads t) + spent r.kind ≤ weight (word_bound p) (Some l) + earned_by r.kind e

@@ -8,7 +8,7 @@ use Rattle.tx_events.specs.declared.End.TheVariants.{StepsOut}
 use Rattle.tx_events.specs.declared.TurnKind.{TurnKind}
 use Rattle.tx_events.specs.declared.TurnKind.TheVariants.{Ran, Waited, BlockWait, JoinWait, Rolled, Undone, Released, Idle}
 use Rattle.tx_events.specs.Thread.{Thread}
-use Rattle.tx_events.specs.Memory.{Place}
+use Rattle.tx_events.specs.Memory.{MemoryLayout}
 use Rattle.tx_serial.specs.Machine.{Machine}
 use Rattle.tx_serial.specs.Turn.{Slot, turns, turn}
 use Rattle.tx_events.specs.World.{World, Replays}
@@ -26,7 +26,7 @@ count_one (Rolled x u) c = omega arith
 count_one Idle c = omega arith
 count_one (JoinWait n) c = omega arith
 
-module _ {S : Type 0} (a : Thread S) (p : Place) where
+module _ {S : Type 0} (a : Thread S) (p : MemoryLayout) where
   -- the machine of a run is that of its turns
   pub machine_of : (slots : List Slot) (r : Progress S) → (advances a p slots r).machine ≡ turns a p slots r.machine
   machine_of [] r = refl

@@ -12,7 +12,7 @@ use Rattle.tx_events.specs.declared.Event.{Event}
 use Rattle.tx_events.specs.declared.Event.TheVariants.{Silent, Load, Store, Out, Inp, Spawn, Join, BeginAtomic, EndAtomic, Raise, BeginSync, EndSync, Done, Stop}
 use Rattle.tx_events.specs.declared.Reply.TheVariants.{Nothing, Id}
 use Rattle.tx_events.specs.Thread.{Thread, Lawful}
-use Rattle.tx_events.specs.Memory.{update, Place, can_access, word_of, word_bound}
+use Rattle.tx_events.specs.Memory.{update, MemoryLayout, can_access, word_of, word_bound}
 use Rattle.tx_events.specs.World.{target}
 use Rattle.tx_serial.specs.Machine.{Machine, Local, Tx, NoTx, OpenTx, GivingUp, Closing, Save, Waits, no_waits, wait_more, birth_of, is_noted, least, blocker, lock_owner, busy, clash_of}
 use Rattle.tx_serial.specs.Turn.{Slot, Turned, bare, waited, clashes, load_in, store_in, load_out, store_out, joins, begins, sync_in, sync_idle, commits, cancels_by, cancels, raises, in_does, out_does, lets_go, gives_back, turn_in, turn_of, turn_at, turn, turns, first_machine}
@@ -22,7 +22,7 @@ use Rattle.tx_serial.specs.Laws.{RestsAt, Rests}
 use Rattle.tx_serial.proofs.Frames.{at_update}
 use Rattle.tx_serial.proofs.Tidy.{turn_sound}
 
-module _ {S : Type 0} (a : Thread S) (p : Place) (t : ℕ) (m : Machine S) (l : Local S) (is : m.threads t ≡ Some l) (fresh : m.threads m.started ≡ None) (h : Rests a m) where
+module _ {S : Type 0} (a : Thread S) (p : MemoryLayout) (t : ℕ) (m : Machine S) (l : Local S) (is : m.threads t ≡ Some l) (fresh : m.threads m.started ≡ None) (h : Rests a m) where
   abbrev Resting : (ℕ → Option (Local S)) → (ℕ → Waits) → Type 0
   Resting threads waits = (u : ℕ) → RestsAt a (threads u) (waits u)
 
@@ -157,7 +157,7 @@ module _ {S : Type 0} (a : Thread S) (p : Place) (t : ℕ) (m : Machine S) (l : 
   tx_rests answer (GivingUp b kk ss) = back_rests b kk ss (least l.held (word_bound p))
   tx_rests answer (Closing b) = go_rests b (least l.held (word_bound p))
 
-module _ {S : Type 0} (R : S → Type 0) (a : Thread S) (laws : Lawful S R a) (p : Place) (small : p.limit ≤ 64) where
+module _ {S : Type 0} (R : S → Type 0) (a : Thread S) (laws : Lawful S R a) (p : MemoryLayout) (small : p.limit ≤ 64) where
   by_thread : (answer : Clash → Choice) (t : ℕ) (m : Machine S) → m.threads m.started ≡ None → Rests a m → (o : Option (Local S)) → m.threads t ≡ o → Rests a (turn_of a p answer t m o).machine
   by_thread answer t m fresh h None i = h
   by_thread answer t m fresh h (Some l) i = either a p t m l i fresh h l.ended _ _ h (tx_rests a p t m l i fresh h answer l.tx)

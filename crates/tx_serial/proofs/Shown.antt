@@ -1,7 +1,7 @@
 -- After every list of turns the machine stands for the world to which its order leads.
 use Rattle.std.proofs.Common.{ℕ, ◌≡◌, ◌≤◌, List, []}
 use Rattle.tx_events.specs.Thread.{Thread, Lawful}
-use Rattle.tx_events.specs.Memory.{Place}
+use Rattle.tx_events.specs.Memory.{MemoryLayout}
 use Rattle.tx_events.specs.World.{World, first_world}
 use Rattle.tx_serial.specs.Machine.{Machine}
 use Rattle.tx_serial.specs.Turn.{Slot, turns, first_machine}
@@ -12,7 +12,7 @@ use Rattle.tx_serial.proofs.PutBack.{memory_put_back}
 use Rattle.tx_serial.proofs.Kept.{turns_kept, start_shown}
 use Rattle.tx_serial.proofs.Tidy.{turns_sound, start_sound}
 
-module _ {S : Type 0} (R : S → Type 0) (a : Thread S) (p : Place) where
+module _ {S : Type 0} (R : S → Type 0) (a : Thread S) (p : MemoryLayout) where
   pub shown_of : (start : World S) (m : Machine S) → Agreed a p start m → Sound R a p m → Shown a p start m
   shown_of start m f h = record {
     world = f.0;

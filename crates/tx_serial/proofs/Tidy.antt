@@ -17,20 +17,20 @@ use Rattle.tx_events.specs.declared.Reply.TheVariants.{Nothing, Loaded, Byte, Id
 use Rattle.tx_events.specs.declared.TurnKind.{TurnKind}
 use Rattle.tx_events.specs.declared.TurnKind.TheVariants.{Ran, Waited, BlockWait, JoinWait, Idle}
 use Rattle.tx_events.specs.Thread.{Thread, Lawful, Answers, atomics, blocks_after, may_come, rest_of, in_atomic, no_atomic}
-use Rattle.tx_events.specs.Memory.{update, Place, can_access, word_of, read_at, word_bound}
+use Rattle.tx_events.specs.Memory.{update, MemoryLayout, can_access, word_of, read_at, word_bound}
 use Rattle.tx_events.specs.World.{target, byte_of}
 use Rattle.tx_serial.specs.Machine.{Machine, Local, Tx, NoTx, OpenTx, GivingUp, Closing, Save, no_save, kept_or, oldest, hand, note, forget, forget_all, is_noted, birth, has_tx, tx_in, least, blocker, lock_owner, busy, clash_of}
 use Rattle.tx_serial.specs.Turn.{Slot, Turned, number_of, steps, ran, stays, halts, waited, bare, again, gives_up, clashes, load_in, store_in, load_out, store_out, joins, begins, sync_in, sync_idle, spawns, closes, outermost, commits, cancels_by, cancels, raises, in_does, out_does, without, lets_go, given_back, gives_back, turn_in, turn_of, turn_at, turn, turns, first_machine, first_thread}
 use Rattle.tx_serial.specs.Sound.{IsKept, is_some_save, SoundTx, SoundLocal, SoundThread, Sound}
 use Rattle.tx_serial.specs.Kinds.{Accesses, Shut, NewestNotes, KindOut, KindIn, KindBy, GoesOn}
-use Rattle.tx_events.proofs.Words.{read_fits, byte_int, access_below}
-use Rattle.tx_events.proofs.Runs.{update_elsewhere, update_true}
+use Rattle.tx_events.proofs.WordLemmas.{read_fits, byte_int, access_below}
+use Rattle.tx_events.proofs.BlockRuns.{update_elsewhere, update_true}
 use Rattle.tx_serial.proofs.Search.{eldest_none}
 use Rattle.tx_serial.proofs.Blocks.{keeps_blocks, rest_atomic, kind_atomic, blocks_kept, none_atomic, none_here, empty_none}
 use Rattle.tx_serial.proofs.Births.{sound_change, sound_same, grown}
 use Rattle.tx_serial.proofs.Here.{not_true}
 
-module _ {S : Type 0} (R : S → Type 0) (a : Thread S) (laws : Lawful S R a) (p : Place) (small : p.limit ≤ 64) (t : ℕ) (m : Machine S) (l : Local S) (h : Sound R a p m) (is : m.threads t ≡ Some l) (here : SoundLocal R a p l) where
+module _ {S : Type 0} (R : S → Type 0) (a : Thread S) (laws : Lawful S R a) (p : MemoryLayout) (small : p.limit ≤ 64) (t : ℕ) (m : Machine S) (l : Local S) (h : Sound R a p m) (is : m.threads t ≡ Some l) (here : SoundLocal R a p l) where
   reached_by : (e : Event) → a.next l.state ≡ e → (r : Reply) → Answers e r → R (a.after l.state r)
   reached_by e i r f = laws.goes_on l.state r here.reached (subst (λ z. Answers z r) (sym i) f)
 
@@ -334,7 +334,7 @@ module _ {S : Type 0} (R : S → Type 0) (a : Thread S) (laws : Lawful S R a) (p
   tx_right answer (GivingUp b kk ss) e f = back_right answer b kk ss e f
   tx_right answer (Closing b) e f = go_right answer b e f
 
-module _ {S : Type 0} (R : S → Type 0) (a : Thread S) (laws : Lawful S R a) (p : Place) (small : p.limit ≤ 64) where
+module _ {S : Type 0} (R : S → Type 0) (a : Thread S) (laws : Lawful S R a) (p : MemoryLayout) (small : p.limit ≤ 64) where
   -- the kind of the turn of a thread that goes on
   pub kind_right : (answer : Clash → Choice) (t : ℕ) (m : Machine S) (l : Local S) → Sound R a p m → m.threads t ≡ Some l → Sound R a p (turn_in a p answer t m l l.tx).machine × KindBy a p answer t m l l.tx (turn_in a p answer t m l l.tx).kind
   kind_right answer t m l h is = let here = subst (SoundThread R a p) is (h.threads t) in tx_right R a laws p small t m l h is here answer l.tx refl here.tx

@@ -7,13 +7,13 @@ use Rattle.tx_events.specs.declared.Item.{Item}
 use Rattle.tx_events.specs.declared.Reply.TheVariants.{Nothing}
 use Rattle.tx_events.specs.declared.What.TheVariants.{Enter}
 use Rattle.tx_events.specs.Thread.{Thread, is_empty}
-use Rattle.tx_events.specs.Memory.{Place}
+use Rattle.tx_events.specs.Memory.{MemoryLayout}
 use Rattle.tx_events.specs.Alone.{Inner, inner_by, Inside, at_start, goes_on, is_over, Alone, outcome}
-use Rattle.tx_events.specs.World.{World, Alive, alive, Step, Replays, Does, Silents}
-use Rattle.tx_events.proofs.Unique.{From, at, then, inner_or, same_before, same_outcome, same_step, loud}
+use Rattle.tx_events.specs.World.{World, Alive, alive, Step, Replays, EventStep, SilentSteps}
+use Rattle.tx_events.proofs.OneReplay.{From, at, then, inner_or, same_before, same_outcome, same_step, loud}
 use Rattle.tx_serial.specs.Trace.{access_items, inside_items, leave_items, item_if, step_items, items_of, TraceOf, OneStepMore}
 
-module _ {S : Type 0} (a : Thread S) (p : Place) (t : ℕ) where
+module _ {S : Type 0} (a : Thread S) (p : MemoryLayout) (t : ℕ) where
   -- the accesses of a run, from its front
   abbrev from_items : {i j : Inner S} → From a p i j → List Item
   from_items at = []
@@ -40,7 +40,7 @@ module _ {S : Type 0} (a : Thread S) (p : Place) (t : ℕ) where
       sym (append-nil (inside_items t run.run)) ∙ (sym f.1 ∙ (same_from f.0 g.0 refl run.over other.over ∙ (g.1 ∙ append-nil (inside_items t other.run))))
 
   module _ (w v u : World S) where
-    same_at : (s : S) (e : Event) (d : Does a p t w s e v) (c : Does a p t w s e u) → step_items a p t w s e v d ≡ step_items a p t w s e u c
+    same_at : (s : S) (e : Event) (d : EventStep a p t w s e v) (c : EventStep a p t w s e u) → step_items a p t w s e v d ≡ step_items a p t w s e u c
     same_at s (BeginAtomic kind) d c =
         ap (λ zs. item_if (is_empty (a.blocks s)) t Enter ++ (zs ++ leave_items (is_empty (a.blocks s)) t (outcome d.1))) (same_block (a.after s Nothing) w.memory d.1 c.1)
         ∙ ap (λ z. item_if (is_empty (a.blocks s)) t Enter ++ (inside_items t c.1.run ++ leave_items (is_empty (a.blocks s)) t z)) (same_outcome a p (a.after s Nothing) w.memory d.1 c.1)
@@ -61,13 +61,13 @@ module _ {S : Type 0} (a : Thread S) (p : Place) (t : ℕ) where
     same_items : (h : Step a p t w v) (g : Step a p t w u) → step_items a p t w h.before (a.next h.before) v h.does ≡ step_items a p t w g.before (a.next g.before) u g.does
     same_items h g =
         let from : h.from ≡ g.from = one_state h.from g.from (sym h.is ∙ g.is) in
-        let before = same_before a p g.from h.before g.before (subst (λ z. Silents a z h.before) from h.silents) g.silents (loud a p t w v h.before (a.next h.before) h.does) (loud a p t w u g.before (a.next g.before) g.does) in
-        subst (λ z. (d : Does a p t w z (a.next z) v) → step_items a p t w z (a.next z) v d ≡ step_items a p t w g.before (a.next g.before) u g.does) (sym before) (λ d. same_at g.before (a.next g.before) d g.does) h.does
+        let before = same_before a p g.from h.before g.before (subst (λ z. SilentSteps a z h.before) from h.silents) g.silents (loud a p t w v h.before (a.next h.before) h.does) (loud a p t w u g.before (a.next g.before) g.does) in
+        subst (λ z. (d : EventStep a p t w z (a.next z) v) → step_items a p t w z (a.next z) v d ≡ step_items a p t w g.before (a.next g.before) u g.does) (sym before) (λ d. same_at g.before (a.next g.before) d g.does) h.does
       where
         one_state : (s r : S) → alive s ≡ alive r → s ≡ r
         one_state s r e = let i : ◌≡◌ {A = Alive S} (record { state = s; ended = false }) (record { state = r; ended = false }) = cc in ap (λ z. z.state) i
 
-module _ {S : Type 0} (a : Thread S) (p : Place) where
+module _ {S : Type 0} (a : Thread S) (p : MemoryLayout) where
   same_trace : (order : List ℕ) (w v u : World S) (h : Replays a p w order v) (g : Replays a p w order u) → items_of a p w order v h ≡ items_of a p w order u g
   same_trace [] w v u h g = refl
   same_trace (t ∷ order) w v u h g =

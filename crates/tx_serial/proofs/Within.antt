@@ -14,21 +14,21 @@ use Rattle.choosers.specs.declared.Clash.{Clash}
 use Rattle.choosers.specs.declared.Choice.{Choice}
 use Rattle.choosers.specs.declared.Choice.TheVariants.{Wait, Yield}
 use Rattle.tx_events.specs.Thread.{Thread}
-use Rattle.tx_events.specs.Memory.{update, Place, can_access, word_of, read_at, merge, word_bound}
+use Rattle.tx_events.specs.Memory.{update, MemoryLayout, can_access, word_of, read_at, merge, word_bound}
 use Rattle.tx_events.specs.Alone.{Inner, inner_load, inner_store, inner_by, leave, newest, begin, Goes, Leaves, Halts, Inside, goes_on}
-use Rattle.tx_events.specs.World.{alive, World, Lands, Silents, none, ends}
+use Rattle.tx_events.specs.World.{alive, World, BlockEffect, SilentSteps, none, ends}
 use Rattle.tx_serial.specs.Machine.{clash_of, Machine, Local, OpenTx, GivingUp, Closing, Save, no_save, kept_or, oldest, forget, forget_all, hand, note, is_noted, held_by, wrote_by, is_live, blocker, least}
 use Rattle.tx_serial.specs.Turn.{halts, steps, told, waited, again, gives_up, clashes, load_in, store_in, closes, commits, cancels_by, cancels, raises, in_does, without, lets_go, given_back, gives_back}
 use Rattle.tx_serial.specs.Shows.{cancelling, Even, LevelsAt, NoneAt, InBlock, Giving, ShowsTx, ShowsLocal}
 use Rattle.tx_serial.proofs.Agrees.{undoes, Going, Agreed}
-use Rattle.tx_events.proofs.Words.{access_below}
-use Rattle.tx_events.proofs.Runs.{update_same, update_elsewhere, update_true, not_updated, AllAt, unstored}
+use Rattle.tx_events.proofs.WordLemmas.{access_below}
+use Rattle.tx_events.proofs.BlockRuns.{update_same, update_elsewhere, update_true, not_updated, AllAt, unstored}
 use Rattle.tx_serial.proofs.Levels.{bottom, none_oldest, even_note, levels_noted, levels_note_else, none_note_else, levels_hand, none_hand, levels_forget, levels_forget_else, forget_none, even_forget, oldest_forget, oldest_forget_else, levels_pop}
 use Rattle.tx_serial.proofs.Search.{eldest_none, eldest_some}
 use Rattle.tx_serial.proofs.Frames.{at_update, changed}
 use Rattle.tx_serial.proofs.Here.{and_false, not_true, based, Known, everyone, own_mine, own_theirs, no_other, not_wrote, unheld, still_alone, unheld_by, not_kept_off, none_held, in_step, sees, near, fresh_block, quiet, said, halted, either}
 
-module _ {S : Type 0} (a : Thread S) (p : Place) (start : World S) (t : ℕ) (m : Machine S) (l : Local S) (k : Known a p start t m l) where
+module _ {S : Type 0} (a : Thread S) (p : MemoryLayout) (start : World S) (t : ℕ) (m : Machine S) (l : Local S) (k : Known a p start t m l) where
   as_is : Agreed a p start m
   as_is = quiet a p start t m l k m refl refl refl refl k.here.g
 
@@ -66,7 +66,7 @@ module _ {S : Type 0} (a : Thread S) (p : Place) (start : World S) (t : ℕ) (m 
     is_open : is_live l.tx ≡ true
     is_open = ap is_live tx
 
-    stops : (e : Event) (end : End) → a.next l.state ≡ e → Lands t k.w (inner_by a p f.inner e) (ends k.w end) → Agreed a p start (halts t m end).machine
+    stops : (e : Event) (end : End) → a.next l.state ≡ e → BlockEffect t k.w (inner_by a p f.inner e) (ends k.w end) → Agreed a p start (halts t m end).machine
     stops e end is lands = halted a p start t m l k end (in_step a p m k.w t l k.here (ends k.w end) e b kk ss k.going tx f is lands)
 
     more : (j : Inner S) (e : Event) → a.next l.state ≡ e → inner_by a p f.inner e ≡ Goes j → Inside a p (begin kk k.w.memory) j
@@ -229,9 +229,9 @@ module _ {S : Type 0} (a : Thread S) (p : Place) (start : World S) (t : ℕ) (m 
         let s'' = a.after f.inner.state Nothing in
         let l' : Local S = record l { state = s'; tx = closes b q } in
         let v : World S = record k.w { memory = o; threads = update k.w.threads t (alive s'') } in
-        let silents : Silents a s'' s' = subst (λ z. Silents a s'' z) (ap (λ z. a.after z Nothing) f.state) none in
+        let silents : SilentSteps a s'' s' = subst (λ z. SilentSteps a s'' z) (ap (λ z. a.after z Nothing) f.state) none in
         said a p start t m l k (told t (steps t m l')) v refl k.out k.input (k.going ∙ sym k.goes)
-        (in_step a p m k.w t l k.here v e b kk ss k.going tx f is (subst (λ z. Lands t k.w z v) (sym lands) refl))
+        (in_step a p m k.w t l k.here v e b kk ss k.going tx f is (subst (λ z. BlockEffect t k.w z v) (sym lands) refl))
         (λ z. changed a p m.memory m.memory m.threads m.started m.lock m.lock k.w v t l l' (record { state = s''; ended = false }) k.here.g k.here.is (record {
           started_is = refl;
           lock_is = k.here.g.lock_is;
@@ -258,7 +258,7 @@ module _ {S : Type 0} (a : Thread S) (p : Place) (start : World S) (t : ℕ) (m 
         closed None = refl
         closed (Some x) = refl
 
-        closing : (z : Option ℕ) → least l.held (word_bound p) ≡ z → (r s : S) → Silents a r s → (n : ℕ → ℕ) → ShowsTx a p m.memory n r (record l { state = s; tx = closes b z }) (closes b z)
+        closing : (z : Option ℕ) → least l.held (word_bound p) ≡ z → (r s : S) → SilentSteps a r s → (n : ℕ → ℕ) → ShowsTx a p m.memory n r (record l { state = s; tx = closes b z }) (closes b z)
         closing None i r s g n = (g, none_held a p m k.w t l k.here l.held (λ x h. h) i)
         closing (Some x) i r s g n = g
 
@@ -412,9 +412,9 @@ module _ {S : Type 0} (a : Thread S) (p : Place) (start : World S) (t : ℕ) (m 
     pub in_kept_all : (answer : Clash → Choice) (e : Event) → a.next l.state ≡ e → Agreed a p start (in_does a p answer t m l b kk ss e).machine
     in_kept_all answer Silent is = just Silent is refl refl
     in_kept_all answer (Load addr size vol) is = either a p start (can_access p addr size) _ _ (λ ok. load_any answer addr size vol is ok (blocker t false (word_of addr) m) refl)
-        (λ no. stops (Load addr size vol) (Trapped BadAddress) is (subst (λ z. Lands t k.w (cond z (Goes (inner_load a f.inner addr size)) (Halts (Trapped BadAddress))) (ends k.w (Trapped BadAddress))) (sym no) refl))
+        (λ no. stops (Load addr size vol) (Trapped BadAddress) is (subst (λ z. BlockEffect t k.w (cond z (Goes (inner_load a f.inner addr size)) (Halts (Trapped BadAddress))) (ends k.w (Trapped BadAddress))) (sym no) refl))
     in_kept_all answer (Store addr size value vol) is = either a p start (can_access p addr size) _ _ (λ ok. store_any answer addr size value vol is ok (blocker t true (word_of addr) m) refl)
-        (λ no. stops (Store addr size value vol) (Trapped BadAddress) is (subst (λ z. Lands t k.w (cond z (Goes (inner_store a f.inner addr size value)) (Halts (Trapped BadAddress))) (ends k.w (Trapped BadAddress))) (sym no) refl))
+        (λ no. stops (Store addr size value vol) (Trapped BadAddress) is (subst (λ z. BlockEffect t k.w (cond z (Goes (inner_store a f.inner addr size value)) (Halts (Trapped BadAddress))) (ends k.w (Trapped BadAddress))) (sym no) refl))
     in_kept_all answer (BeginAtomic kind) is = begin_kept kind is
     in_kept_all answer EndAtomic is = commits_kept ss f.inner.copies EndAtomic refl refl f.even is refl refl
     in_kept_all answer (Raise kind can) is = raises_kept kind can is
@@ -502,7 +502,7 @@ module _ {S : Type 0} (a : Thread S) (p : Place) (start : World S) (t : ℕ) (m 
   gives_back_kept b kk ss tx f (Some x) e = back_kept b kk ss tx f x (eldest_some l.held (λ v. v) (word_bound p) x e) (least (without l.held x) (word_bound p)) refl
 
   -- a transaction that closes: a word is let go
-  pub lets_go_kept : (b : ℕ) → l.tx ≡ Closing b → Silents a k.here.s.state l.state → (o : Option ℕ) → least l.held (word_bound p) ≡ o → Agreed a p start (lets_go p t m l b o).machine
+  pub lets_go_kept : (b : ℕ) → l.tx ≡ Closing b → SilentSteps a k.here.s.state l.state → (o : Option ℕ) → least l.held (word_bound p) ≡ o → Agreed a p start (lets_go p t m l b o).machine
   lets_go_kept b tx f None e = as_is
   lets_go_kept b tx f (Some x) e = by_rest (least (without l.held x) (word_bound p)) refl
     where

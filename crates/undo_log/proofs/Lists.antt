@@ -7,7 +7,7 @@ use Rattle.std.proofs.lemmas.Bool.{eqb-true, eq-eqb, ne_eqb, cases_eq, and_parts
 use Rattle.std.proofs.lemmas.List.Recursion.{and_at}
 use Rattle.std.proofs.lemmas.List.{get_or-set_other}
 use Rattle.std.proofs.lemmas.List.Edits.{map_over_more}
-use Rattle.tx_events.specs.Memory.{Place, can_access, update}
+use Rattle.tx_events.specs.Memory.{MemoryLayout, can_access, update}
 use Rattle.undo_log.specs.declared.notes.Note.{Note}
 use Rattle.undo_log.specs.Notes.{is_noted, put_back, others, can_put_back}
 
@@ -113,7 +113,7 @@ put_back_step notes (suc i) d n before after p h at e =
     ap (λ k. put_back (take k notes) after) same ∙ (ap (put_back (take i notes)) e ∙ (sym (put_back-push (take i notes) n before)
     ∙ ap (λ r. put_back r before) (ap (λ k. take i notes ++ k ∷ []) here ∙ sym (take_more_notes notes i d h))))
 
-pub noted_access : (p : Place) (notes : List Note) (w : ℕ) → is_noted notes w ≡ true → can_put_back p notes ≡ true → can_access p w 8 ≡ true
+pub noted_access : (p : MemoryLayout) (notes : List Note) (w : ℕ) → is_noted notes w ≡ true → can_put_back p notes ≡ true → can_access p w 8 ≡ true
 noted_access p [] w h k = absurd (false≢true h)
 noted_access p (n ∷ ns) w h k =
     let all = and_parts (can_access p n.word 8) (can_put_back p ns) k in
@@ -122,7 +122,7 @@ noted_access p (n ∷ ns) w h k =
       | inr r ↦ noted_access p ns w r all.1
     ]
 
-pub access_at : (p : Place) (notes : List Note) (i : ℕ) (d : Note) → i < length notes → can_put_back p notes ≡ true → can_access p (get_or notes i d).word 8 ≡ true
+pub access_at : (p : MemoryLayout) (notes : List Note) (i : ℕ) (d : Note) → i < length notes → can_put_back p notes ≡ true → can_access p (get_or notes i d).word 8 ≡ true
 access_at p notes i d l all = and_at (can_put_back p) (λ (n : Note). can_access p n.word 8) refl (λ x ys. refl) notes i d l all
 
 one_more : (word : ℕ) (n : Note) (xs : List Note) → length (others word xs) ≤ length (others word (n ∷ xs))

@@ -18,7 +18,7 @@ abbrev pub newest_notes : Log → List Note
 newest_notes log = drop (newest_start (marks_of log)) (notes_of log)
 
 -- there is room for one note and one mark more, and the index has all notes and room for one more
-pub record HasRoom (log : Log) : Type 0 where
+pub record HasCapacity (log : Log) : Type 0 where
   pub notes : vec_len log.notes < vec_capacity log.notes
   pub marks : vec_len log.marks < vec_capacity log.marks
   pub indexed : length (words_listed log.index) ≡ length (notes_of log)

@@ -54,7 +54,7 @@ impl Index {
     /// Makes room for one word more.
     pub(crate) fn reserve(&mut self) -> Result<(), AllocError>
         ensures words { words_listed self.new ≡ words_listed self.old }
-        ensures room { OnOk result (CanAdd self.new) }
+        ensures capacity { OnOk result (CanAdd self.new) }
     {
         self.entries.reserve(1)?;
         self.newest.reserve(1)

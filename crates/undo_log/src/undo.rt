@@ -26,7 +26,7 @@ impl Log {
     ghost use Rattle.tx_events.specs.Memory.{can_access};
     ghost use Rattle.tx_memory.specs.View.{place_of, words_of};
     ghost use Rattle.undo_log.specs.Notes.{first_note, is_noted, put_back, word_back, others, can_put_back};
-    ghost use Rattle.undo_log.specs.View.{notes_of, marks_of, newest_start, newest_notes, HasRoom};
+    ghost use Rattle.undo_log.specs.View.{notes_of, marks_of, newest_start, newest_notes, HasCapacity};
 
     /// A log without notes and marks.
     pub fn new(alloc: Global) -> Log
@@ -45,7 +45,7 @@ impl Log {
     pub fn reserve(&mut self, _word: u64) -> Result<(), AllocError>
         ensures notes { notes_of self.new ≡ notes_of self.old }
         ensures marks { marks_of self.new ≡ marks_of self.old }
-        ensures room { OnOk result (HasRoom self.new) }
+        ensures capacity { OnOk result (HasCapacity self.new) }
     {
         self.notes.reserve(1)?;
         self.marks.reserve(1)?;
@@ -55,7 +55,7 @@ impl Log {
 
     /// Sets a savepoint, and answers its number.
     pub fn mark(&mut self) -> usize
-        requires { HasRoom self.old }
+        requires { HasCapacity self.old }
         ensures number { result ≡ length (marks_of self.old) }
         ensures notes { notes_of self.new ≡ notes_of self.old }
         ensures marks { marks_of self.new ≡ marks_of self.old ++ length (notes_of self.old) ∷ [] }
@@ -67,7 +67,7 @@ impl Log {
 
     /// Notes what the word holds, where the newest mark does not note it.
     pub fn note(&mut self, word: u64, old: u64)
-        requires room { HasRoom self.old }
+        requires capacity { HasCapacity self.old }
         requires mark { 0 < length (marks_of self.old) }
         ensures notes { notes_of self.new ≡ (if is_noted (newest_notes self.old) word
             then notes_of self.old else notes_of self.old ++ record { word = word; old = old } ∷ []) }

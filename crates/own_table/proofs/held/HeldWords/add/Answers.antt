@@ -6,6 +6,6 @@ use Rattle.own_table.proofs.held.HeldWords.add.Goals as goal
 
 pub returns : goal.returns
 returns c = λ w.
-    let moved = ok_then c.push.result (c.push.ensures.succeeds c.requires.room) c.push.ensures.permutation in
+    let moved = ok_then c.push.result (c.push.ensures.succeeds c.requires.capacity) c.push.ensures.permutation in
     let total = sum_by_pushed (λ (z : Reverse ℕ). cond (z.0 == w) 1 0) _ _ _ moved in
     omega (arith, total)

@@ -19,7 +19,7 @@ returns-in-Some-clause-kept c = λ p all here. list_all-set p c.args.self.now.re
 pub invariant_of-self-in-None : goal.invariant_of-self-in-None
 invariant_of-self-in-None c =
     let none : record_of c.args.self.now.records.items c.args.holds.word ≡ None = record_of-nowhere c.args.self.now.records.items c.args.holds.word (sym c.place.ensures ∙ c.in-None.is) in
-    let pushed = pushed_items (c.args.self.now.records.items ++ c.args.holds ∷ []) c.args.self.now.records.items c.push.result (c.push.ensures.succeeds (c.requires.room (ap is_some none))) c.push.ensures.items in
+    let pushed = pushed_items (c.args.self.now.records.items ++ c.args.holds ∷ []) c.args.self.now.records.items c.push.result (c.push.ensures.succeeds (c.requires.capacity (ap is_some none))) c.push.ensures.items in
     rw pushed (record {
       sound = list_all-push is_sound c.args.self.now.records.items c.args.holds c.args.self.now.sound c.requires.sound;
       once = λ w. records_of-push c.args.self.now.records.items c.args.holds w none (c.args.self.now.once w);
@@ -28,5 +28,5 @@ invariant_of-self-in-None c =
 pub returns-in-None-clause-found : goal.returns-in-None-clause-found
 returns-in-None-clause-found c =
     let none : record_of c.args.self.now.records.items c.args.holds.word ≡ None = record_of-nowhere c.args.self.now.records.items c.args.holds.word (sym c.place.ensures ∙ c.in-None.is) in
-    let pushed = pushed_items (c.args.self.now.records.items ++ c.args.holds ∷ []) c.args.self.now.records.items c.push.result (c.push.ensures.succeeds (c.requires.room (ap is_some none))) c.push.ensures.items in
+    let pushed = pushed_items (c.args.self.now.records.items ++ c.args.holds ∷ []) c.args.self.now.records.items c.push.result (c.push.ensures.succeeds (c.requires.capacity (ap is_some none))) c.push.ensures.items in
     λ w. ap (λ rs. record_of rs w) pushed ∙ record_of-push c.args.self.now.records.items c.args.holds none w

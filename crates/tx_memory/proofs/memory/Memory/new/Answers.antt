@@ -2,7 +2,7 @@ use Rattle.std.proofs.Common.{◌≡◌, ◌+◌, ◌*◌, ◌/◌, true, cond, 
 use Rattle.std.proofs.lemmas.List.Recursion.{and_at}
 use Rattle.std.specs.List.{list_all}
 use Rattle.tx_events.specs.declared.GlobalCell.{GlobalCell}
-use Rattle.tx_events.specs.Memory.{Place, can_access, store, with_cells}
+use Rattle.tx_events.specs.Memory.{MemoryLayout, can_access, store, with_cells}
 use Rattle.tx_memory.specs.Cells.{lies_within}
 use Rattle.tx_memory.specs.Words.{memory_in}
 use Rattle.tx_memory.specs.View.{place_of, words_of}
@@ -13,7 +13,7 @@ use Rattle.tx_memory.proofs.memory.Memory.new.Goals as goal
 pub loop-cell-init : goal.loop-cell-init
 unfolding words_of
 loop-cell-init c =
-    let p : Place = record { globals = c.args.size; limit = c.args.threads } in
+    let p : MemoryLayout = record { globals = c.args.size; limit = c.args.threads } in
     (refl, ap (λ m. with_cells m c.args.globals.now) (ap (memory_in p) (c.in_ok-words.ensures.items_if_clones_equal (λ y e. e)) ∙ zero_memory p (c.args.size / 8 + c.args.threads * 8192)))
 
 pub loop-cell-preserved : goal.loop-cell-preserved

@@ -14,7 +14,7 @@ invariant_of-self g c =
 pub returns-clause-room : goal.returns-clause-room
 returns-clause-room g c =
     let self = c.args.self.now in
-    on_ok c.ready.result (ready_set g.A.Actor.has_room self.threads.items c.args.t c.ready.new.self c.requires) c.ready.ensures.room
+    on_ok c.ready.result (ready_set g.A.Actor.has_capacity self.threads.items c.args.t c.ready.new.self c.requires) c.ready.ensures.capacity
 
 pub returns-clause-same : goal.returns-clause-same
 returns-clause-same g c =

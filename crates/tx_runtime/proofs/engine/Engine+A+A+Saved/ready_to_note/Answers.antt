@@ -14,7 +14,7 @@ invariant_of-self g c =
 pub returns-clause-room : goal.returns-clause-room
 returns-clause-room g c =
     let self = c.args.self.now in
-    on_ok c.ready_to_note.result (λ h. note_ready_set g.A.Actor.has_room self.threads.items c.args.t c.ready_to_note.new.self c.requires h.0 h.1) c.ready_to_note.ensures.room
+    on_ok c.ready_to_note.result (λ h. note_ready_set g.A.Actor.has_capacity self.threads.items c.args.t c.ready_to_note.new.self c.requires h.0 h.1) c.ready_to_note.ensures.capacity
 
 pub returns-clause-same : goal.returns-clause-same
 returns-clause-same g c =

@@ -45,7 +45,7 @@ enter-requires-clause-room g c =
     let parts = open_parts g.A.Actor.saved_state s.tx (saves_of s.log) is.saves is.birth is.kept is.tx in
     let p = place_of q.memory in
     let sound = whole_sound p q.limit q.holders q.threads.items t s q.whole h c.index_mut-thread.ensures.value in
-    (c.in_ok-ready_to_note.ensures.room s (read_at q.threads.items t s h c.index_mut-thread.ensures.value)).1
+    (c.in_ok-ready_to_note.ensures.capacity s (read_at q.threads.items t s h c.index_mut-thread.ensures.value)).1
 
 pub enter-requires-clause-live : goal.enter-requires-clause-live
 enter-requires-clause-live g c =

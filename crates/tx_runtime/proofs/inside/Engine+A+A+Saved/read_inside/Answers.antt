@@ -4,7 +4,7 @@ use Rattle.own_table.specs.Records.{blocks}
 use Rattle.tx_events.specs.declared.Event.TheVariants.{Load}
 use Rattle.tx_events.specs.declared.Reply.TheVariants.{Loaded}
 use Rattle.tx_events.specs.Memory.{update, can_access, word_of}
-use Rattle.tx_events.proofs.Words.{read_fits}
+use Rattle.tx_events.proofs.WordLemmas.{read_fits}
 use Rattle.tx_memory.specs.View.{place_of, words_of}
 use Rattle.tx_serial.specs.Machine.{Local, blocker, birth_of}
 use Rattle.tx_runtime.specs.Saves.{saves_of}
@@ -49,7 +49,7 @@ go_on-requires-clause-room g c =
     let parts = open_parts g.A.Actor.saved_state s.tx (saves_of s.log) is.saves is.birth is.kept is.tx in
     let p = place_of q.memory in
     let sound = whole_sound p q.limit q.holders q.threads.items t s q.whole h c.index_mut-thread.ensures.value in
-    c.in_ok-ready.ensures.room s (read_at q.threads.items t s h c.index_mut-thread.ensures.value)
+    c.in_ok-ready.ensures.capacity s (read_at q.threads.items t s h c.index_mut-thread.ensures.value)
 
 pub go_on-requires-clause-answers : goal.go_on-requires-clause-answers
 go_on-requires-clause-answers g c =

@@ -2,7 +2,7 @@ use Rattle.std.proofs.Common.{◌<◌, ◌^◌, ◌*◌, sym, ◌∙◌, subst}
 use Rattle.tx_events.specs.declared.Event.TheVariants.{Load}
 use Rattle.tx_events.specs.declared.Reply.TheVariants.{Loaded}
 use Rattle.tx_events.specs.Memory.{word_of}
-use Rattle.tx_events.proofs.Words.{read_fits}
+use Rattle.tx_events.proofs.WordLemmas.{read_fits}
 use Rattle.tx_memory.specs.View.{words_of}
 use Rattle.tx_runtime.specs.View.{machine_in, place_in}
 use Rattle.tx_runtime.proofs.Engines.{started_thread}

@@ -66,7 +66,7 @@ step-requires-clause-room g c =
     let is = c.requires.here.at (local_of g.A.Actor.state g.A.Actor.saved_state q.holders c.args.t s) its in
     let started : length q.threads.items ≡ length r.threads.items = ap (λ z. z.started) same in
     let pushed : c.push_reserved-2.new.self.items ≡ q.threads.items ++ c.new.result ∷ [] = c.push_reserved-2.ensures.items ∙ ap (λ xs. xs ++ c.new.result ∷ []) items in
-    ready_push g.A.Actor.has_room q.threads.items c.push_reserved-2.new.self.items c.new.result c.args.t pushed h c.in_ok-ready.ensures.room
+    ready_push g.A.Actor.has_capacity q.threads.items c.push_reserved-2.new.self.items c.new.result c.args.t pushed h c.in_ok-ready.ensures.capacity
 
 pub step-requires-clause-answers : goal.step-requires-clause-answers
 step-requires-clause-answers g c = λ l at.

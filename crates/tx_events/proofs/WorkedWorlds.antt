@@ -9,9 +9,9 @@ use Rattle.tx_events.specs.Memory.{with_cells, no_bytes, can_access, is_mapped, 
 use Rattle.tx_events.specs.Alone.{at_start, goes_on}
 use Rattle.tx_events.specs.World.{World, Step, Replays, none, one_more}
 use Rattle.tx_events.specs.Script.{Cursor, script}
-use Rattle.tx_events.specs.Examples.{LeadsTo, Waits, place, start, no_change, committing, cancelling, aborting, failing, sharing, locking, talking, Hears, asking, asking_inside, cells, first_bytes}
+use Rattle.tx_events.specs.Examples.{LeadsTo, Waits, layout, start, no_change, committing, cancelling, aborting, failing, sharing, locking, talking, Hears, asking, asking_inside, cells, first_bytes}
 use Rattle.tx_events.specs.declared.Reply.TheVariants.{Nothing, Loaded, Byte, Id}
-use Rattle.tx_events.proofs.Unique.{same_replays, refused, ended_thread}
+use Rattle.tx_events.proofs.OneReplay.{same_replays, refused, ended_thread}
 
 pub talks : LeadsTo talking (7 ∷ 9 ∷ []) (0 ∷ 0 ∷ 0 ∷ 0 ∷ 0 ∷ 0 ∷ []) no_change (72 ∷ 73 ∷ 74 ∷ []) [] None
 unfolding byte_at word_of
@@ -345,8 +345,8 @@ traps_many = record {
 }
 
 -- where the thread's event is not enabled in that world
-held_up : (events : List Event) (order : List ℕ) (t : ℕ) (x : World Cursor) → Replays script place (start events []) order x → ((v : World Cursor) → Step script place t x v → ⊥) → Waits events order t
-held_up events order t x there never = λ w v here d. never v (subst (λ z. Step script place t z v) (same_replays script place order (start events []) w x here there) d)
+held_up : (events : List Event) (order : List ℕ) (t : ℕ) (x : World Cursor) → Replays script layout (start events []) order x → ((v : World Cursor) → Step script layout t x v → ⊥) → Waits events order t
+held_up events order t x there never = λ w v here d. never v (subst (λ z. Step script layout t z v) (same_replays script layout order (start events []) w x here there) d)
 
 pub waits_block : Waits sharing (0 ∷ 0 ∷ []) 1
 unfolding byte_at word_of can_access is_mapped is_aligned merge read_at
@@ -358,7 +358,7 @@ waits_block = held_up sharing (0 ∷ 0 ∷ []) 1 _ (
     record { going = refl; from = _; before = _; is = refl; silents = none; does = (refl, refl) },
     refl,
   ),
-) (λ v. refused script place 1 _ v _ refl refl (λ d. false≢true d.0))
+) (λ v. refused script layout 1 _ v _ refl refl (λ d. false≢true d.0))
 
 pub waits_lock : Waits locking (0 ∷ 0 ∷ []) 1
 unfolding byte_at word_of can_access is_mapped is_aligned merge read_at
@@ -370,7 +370,7 @@ waits_lock = held_up locking (0 ∷ 0 ∷ []) 1 _ (
     record { going = refl; from = _; before = _; is = refl; silents = none; does = (refl, refl) },
     refl,
   ),
-) (λ v. refused script place 1 _ v _ refl refl (λ d. false≢true d.0))
+) (λ v. refused script layout 1 _ v _ refl refl (λ d. false≢true d.0))
 
 pub waits_join : Waits sharing (0 ∷ 0 ∷ 0 ∷ 0 ∷ 1 ∷ []) 0
 unfolding byte_at word_of can_access is_mapped is_aligned merge read_at
@@ -394,7 +394,7 @@ waits_join = held_up sharing (0 ∷ 0 ∷ 0 ∷ 0 ∷ 1 ∷ []) 0 _ (
       ),
     ),
   ),
-) (λ v. refused script place 0 _ v _ refl refl (λ d. false≢true d.0))
+) (λ v. refused script layout 0 _ v _ refl refl (λ d. false≢true d.0))
 
 pub waits_ended : Waits sharing (0 ∷ 0 ∷ 0 ∷ 0 ∷ 1 ∷ 1 ∷ 1 ∷ 1 ∷ []) 1
 unfolding byte_at word_of can_access is_mapped is_aligned merge read_at
@@ -430,7 +430,7 @@ waits_ended = held_up sharing (0 ∷ 0 ∷ 0 ∷ 0 ∷ 1 ∷ 1 ∷ 1 ∷ 1 ∷ [
       ),
     ),
   ),
-) (λ v. ended_thread script place 1 _ v _ refl refl)
+) (λ v. ended_thread script layout 1 _ v _ refl refl)
 
 pub waits_nested : Waits locking (0 ∷ 0 ∷ 0 ∷ 0 ∷ []) 1
 unfolding byte_at word_of can_access is_mapped is_aligned merge read_at
@@ -450,7 +450,7 @@ waits_nested = held_up locking (0 ∷ 0 ∷ 0 ∷ 0 ∷ []) 1 _ (
       ),
     ),
   ),
-) (λ v. refused script place 1 _ v _ refl refl (λ d. false≢true d.0))
+) (λ v. refused script layout 1 _ v _ refl refl (λ d. false≢true d.0))
 
 pub hears_outside : Hears asking (7 ∷ []) (0 ∷ 0 ∷ 0 ∷ 0 ∷ 0 ∷ 0 ∷ 0 ∷ []) (Nothing ∷ Loaded 3 ∷ Loaded 772 ∷ Loaded 16909060 ∷ Byte (pos 7) ∷ Byte (negsuc 0) ∷ Id (pos 1) ∷ [])
 unfolding byte_at word_of can_access is_mapped is_aligned merge read_at

@@ -5,7 +5,7 @@ use Rattle.std.proofs.Math.Nat.{mod-lt, mod-eq_of_lt}
 use Rattle.std.proofs.lemmas.Bool.{false≢true, ltb-true, leb-true, lt-ltb, le-leb}
 use Rattle.std.proofs.lemmas.Nat.{pow_pos}
 use Rattle.tx_events.specs.Thread.{IsInt}
-use Rattle.tx_events.specs.Memory.{Place, read_at, word_of, word_bound, can_access, is_mapped, is_aligned, in_globals, in_stacks, globals_start, globals_end, stacks_start, stack_stride, stack_size}
+use Rattle.tx_events.specs.Memory.{MemoryLayout, read_at, word_of, word_bound, can_access, is_mapped, is_aligned, in_globals, in_stacks, globals_start, globals_end, stacks_start, stack_stride, stack_size}
 use Rattle.tx_events.specs.World.{byte_of}
 
 pub read_fits : (addr size word : ℕ) → read_at addr size word < 2 ^ (8 * size)
@@ -37,7 +37,7 @@ or_right : (b c : Bool) → c ≡ true → (b || c) ≡ true
 or_right true c h = refl
 or_right false c h = h
 
-below_mapped : (p : Place) (addr : ℕ) (b c : Bool) → in_globals p addr ≡ b → in_stacks p addr ≡ c → (b || c) ≡ true → addr < word_bound p
+below_mapped : (p : MemoryLayout) (addr : ℕ) (b c : Bool) → in_globals p addr ≡ b → in_stacks p addr ≡ c → (b || c) ≡ true → addr < word_bound p
 unfolding word_bound
 below_mapped p addr true c g s h =
     let less : addr < globals_end p = ltb-true addr (globals_end p) (and_right (nat_le globals_start addr) (nat_lt addr (globals_end p)) g) in
@@ -52,19 +52,19 @@ below_mapped p addr false true g s h =
 below_mapped p addr false false g s h = absurd (false≢true h)
 
 -- the word of an access that does not trap
-pub access_below : (p : Place) (addr size : ℕ) → can_access p addr size ≡ true → word_of addr < word_bound p
+pub access_below : (p : MemoryLayout) (addr size : ℕ) → can_access p addr size ≡ true → word_of addr < word_bound p
 unfolding can_access is_mapped word_of
 access_below p addr size h =
     let less : addr < word_bound p = below_mapped p addr (in_globals p addr) (in_stacks p addr) refl refl (and_right (is_aligned addr size) (in_globals p addr || in_stacks p addr) h) in
     omega (arith, less)
 
-globals_whole : (p : Place) (addr k : ℕ) → addr % 8 + k < 8 → in_globals p addr ≡ true → in_globals p (addr + k) ≡ true
+globals_whole : (p : MemoryLayout) (addr k : ℕ) → addr % 8 + k < 8 → in_globals p addr ≡ true → in_globals p (addr + k) ≡ true
 globals_whole p addr k h g =
     let least : 65536 ≤ addr = leb-true 65536 addr (and_left (nat_le globals_start addr) (nat_lt addr (globals_end p)) g) in
     let less : addr < globals_end p = ltb-true addr (globals_end p) (and_right (nat_le globals_start addr) (nat_lt addr (globals_end p)) g) in
     both_true (nat_le globals_start (addr + k)) (nat_lt (addr + k) (globals_end p)) (le-leb 65536 (addr + k) (omega (arith, least))) (lt-ltb (addr + k) (globals_end p) (omega (arith, less, h)))
 
-stacks_whole : (p : Place) (addr k : ℕ) → addr % 8 + k < 8 → in_stacks p addr ≡ true → in_stacks p (addr + k) ≡ true
+stacks_whole : (p : MemoryLayout) (addr k : ℕ) → addr % 8 + k < 8 → in_stacks p addr ≡ true → in_stacks p (addr + k) ≡ true
 stacks_whole p addr k h s =
     let reached = nat_le stacks_start addr in
     let started = nat_lt ((addr - stacks_start) / stack_stride) p.limit in
@@ -82,7 +82,7 @@ stacks_whole p addr k h s =
     (lt-ltb ((addr + k - 16777216) % 131072) 65536 (omega (arith, far, deep, least, h)))
 
 -- all bytes of a word are mapped, or none
-pub mapped_whole : (p : Place) (addr k : ℕ) → addr % 8 + k < 8 → is_mapped p addr ≡ true → is_mapped p (addr + k) ≡ true
+pub mapped_whole : (p : MemoryLayout) (addr k : ℕ) → addr % 8 + k < 8 → is_mapped p addr ≡ true → is_mapped p (addr + k) ≡ true
 unfolding is_mapped
 mapped_whole p addr k h m = either (in_globals p addr) (in_stacks p addr) refl refl m
   where
@@ -91,7 +91,7 @@ mapped_whole p addr k h m = either (in_globals p addr) (in_stacks p addr) refl r
     either false true g s o = or_right (in_globals p (addr + k)) (in_stacks p (addr + k)) (stacks_whole p addr k h s)
     either false false g s o = absurd (false≢true o)
 
-pub is_accessed : (p : Place) (addr size : ℕ) → can_access p addr size ≡ true → (is_aligned addr size ≡ true) × (is_mapped p addr ≡ true)
+pub is_accessed : (p : MemoryLayout) (addr size : ℕ) → can_access p addr size ≡ true → (is_aligned addr size ≡ true) × (is_mapped p addr ≡ true)
 unfolding can_access
 is_accessed p addr size h = (and_left (is_aligned addr size) (is_mapped p addr) h, and_right (is_aligned addr size) (is_mapped p addr) h)
 

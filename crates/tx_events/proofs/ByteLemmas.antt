@@ -166,13 +166,13 @@ word_fits o size value w fits small word =
     let short : w % a < a = mod-lt w (pow_pos (8 * o)) in
     let product : c ≡ 2 ^ (8 * size) * a = pow-add 2 (8 * o) (8 * size) ∙ mul_comm a (2 ^ (8 * size)) in
     let next : (value + 1) * a ≡ value * a + a = add-mul value 1 a ∙ ap (λ z. value * a + z) (one-mul a) in
-    let room : value * a + a ≤ c = subst (λ z. value * a + a ≤ z) (sym product) (subst (λ z. z ≤ 2 ^ (8 * size) * a) next (mul-le-mul_right a (omega (arith, small)))) in
+    let capacity : value * a + a ≤ c = subst (λ z. value * a + a ≤ z) (sym product) (subst (λ z. z ≤ 2 ^ (8 * size) * a) next (mul-le-mul_right a (omega (arith, small)))) in
     let total : 8 * (8 - n) + (8 * o + 8 * size) ≡ 64 = omega (arith, fits) in
     let whole : 2 ^ (8 * (8 - n)) * c ≡ 2 ^ 64 = sym (pow-add 2 (8 * (8 - n)) (8 * o + 8 * size)) ∙ ap (λ z. 2 ^ z) total in
     let few : q < 2 ^ (8 * (8 - n)) = (div-lt_iff_lt-mul (pow_pos (8 * o + 8 * size))).1 (subst (λ z. w < z) (sym whole) word) in
     let top : (q + 1) * c ≤ 2 ^ 64 = subst (λ z. (q + 1) * c ≤ z) whole (mul-le-mul_right c (omega (arith, few))) in
     let last : (q + 1) * c ≡ q * c + c = add-mul q 1 c ∙ ap (λ z. q * c + z) (one-mul c) in
-    below (q * c) (value * a) a (w % a) c (subst (λ z. z ≤ 2 ^ 64) last top) room short
+    below (q * c) (value * a) a (w % a) c (subst (λ z. z ≤ 2 ^ 64) last top) capacity short
   where
     below : (x y z r c : ℕ) → x + c ≤ 2 ^ 64 → y + z ≤ c → r < z → x + y + r < 2 ^ 64
     below x y z r c f g h = omega (arith, f, g, h)

@@ -5,7 +5,7 @@ use Rattle.tx_events.specs.declared.Event.TheVariants.{Silent}
 use Rattle.tx_events.specs.declared.Reply.{Reply}
 use Rattle.tx_events.specs.declared.Reply.TheVariants.{Nothing}
 use Rattle.tx_events.specs.Thread.{Thread, is_silent}
-use Rattle.tx_events.specs.World.{Silents, none, one_more}
+use Rattle.tx_events.specs.World.{SilentSteps, none, one_more}
 use Rattle.tx_events.specs.Same.{Reaches, at_once, silently, answered}
 
 module _ {S : Type 0} (a : Thread S) where
@@ -14,15 +14,15 @@ module _ {S : Type 0} (a : Thread S) where
   reaches_more (silently i r) e = silently i (reaches_more r e)
   reaches_more (answered i f r) e = answered i f (reaches_more r e)
 
-  pub silents_reach : {s q : S} → Silents a s q → Reaches a s [] q
+  pub silents_reach : {s q : S} → SilentSteps a s q → Reaches a s [] q
   silents_reach none = at_once
   silents_reach (one_more r e) = reaches_more (silents_reach r) e
 
-  silents_first : {s q : S} → a.next s ≡ Silent → Silents a (a.after s Nothing) q → Silents a s q
+  silents_first : {s q : S} → a.next s ≡ Silent → SilentSteps a (a.after s Nothing) q → SilentSteps a s q
   silents_first e none = one_more none e
   silents_first e (one_more r i) = one_more (silents_first e r) i
 
-  pub reach_silents : {s q : S} {rs : List Reply} → Reaches a s rs q → rs ≡ [] → Silents a s q
+  pub reach_silents : {s q : S} {rs : List Reply} → Reaches a s rs q → rs ≡ [] → SilentSteps a s q
   reach_silents at_once e = none
   reach_silents (silently i r) e = silents_first i (reach_silents r e)
   reach_silents (answered i f r) e = absurd (cc)

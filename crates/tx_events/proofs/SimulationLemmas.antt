@@ -8,7 +8,7 @@ use Rattle.tx_events.specs.declared.Reply.{Reply}
 use Rattle.tx_events.specs.declared.Reply.TheVariants.{Nothing}
 use Rattle.tx_events.specs.Thread.{Thread, Answers, is_silent}
 use Rattle.tx_events.specs.Same.{Reaches, at_once, silently, answered, steps, SameEvents, StepsWithin}
-use Rattle.tx_events.specs.Simulation.{Path, here, step, Terms, Stepped, Sim}
+use Rattle.tx_events.specs.Simulation.{Path, here, step, SimulationBound, Stepped, Sim}
 
 silent_is : (e : Event) → is_silent e ≡ true → e ≡ Silent
 silent_is Silent h = refl
@@ -108,7 +108,7 @@ moved_less most p p' n u g f e h =
     let next : (u + 1) * (most + 1) ≡ u * (most + 1) + (most + 1) = add-mul u 1 (most + 1) ∙ ap (λ z. u * (most + 1) + z) (one-mul (most + 1)) in
     omega (arith, less, next, f, h)
 
-module _ {S T : Type 0} (x : Terms S T) where
+module _ {S T : Type 0} (x : SimulationBound S T) where
   -- what the first comes to, the second does, within the bound
   there : (n p c : ℕ) {s q : S} {r : T} {replies : List Reply} (f : Reaches x.first s replies q) → is_silent (x.first.next q) ≡ false → steps x.first f < n → Sim x n p c s r
       → (k : ℕ) × Way x.second r replies (x.first.next q) k × (k ≤ x.rate * steps x.first f + c)

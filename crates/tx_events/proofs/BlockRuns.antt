@@ -10,8 +10,8 @@ use Rattle.tx_events.specs.declared.Event.{Event}
 use Rattle.tx_events.specs.declared.Event.TheVariants.{Silent, Load, Store, Out, Inp, Spawn, Join, BeginAtomic, EndAtomic, Raise, BeginSync, EndSync, Done, Stop}
 use Rattle.tx_events.specs.declared.Reply.TheVariants.{Nothing}
 use Rattle.tx_events.specs.Thread.{Thread}
-use Rattle.tx_events.specs.Memory.{update, Place, can_access, word_of, merge}
-use Rattle.tx_events.specs.Alone.{Inner, inner_load, inner_store, Took, Goes, Leaves, Halts, Never, newest, leave, raise, inner_by, Inside, at_start, goes_on, begin}
+use Rattle.tx_events.specs.Memory.{update, MemoryLayout, can_access, word_of, merge}
+use Rattle.tx_events.specs.Alone.{Inner, inner_load, inner_store, BlockStep, Goes, Leaves, Halts, Never, newest, leave, raise, inner_by, Inside, at_start, goes_on, begin}
 
 pub update_same : {A : Type 0} (f : ℕ → A) (k : ℕ) (v : A) → update f k v k ≡ v
 update_same f k v = rw (eq-eqb k k refl)
@@ -49,7 +49,7 @@ newest_all x v q (c ∷ cs) k h = k.0
 
 module _ {S : Type 0} where
   -- what holds of the state that a step goes on to
-  abbrev pub OnGoes : (Inner S → Type 0) → Took S → Type 0
+  abbrev pub OnGoes : (Inner S → Type 0) → BlockStep S → Type 0
   OnGoes P (Goes i) = P i
   OnGoes P (Leaves s m) = Unit {0}
   OnGoes P (Halts e) = Unit {0}
@@ -67,7 +67,7 @@ module _ {S : Type 0} where
     pub memory : (x : ℕ) → m x ≡ n x → j.memory x ≡ k.memory x
     pub copies : Both m n j.copies k.copies
 
-  abbrev pub BothTook : (m n : ℕ → ℕ) → Took S → Took S → Type 0
+  abbrev pub BothTook : (m n : ℕ → ℕ) → BlockStep S → BlockStep S → Type 0
   BothTook m n (Goes i) (Goes j) = Alike m n i j
   BothTook m n (Goes i) (Leaves s o) = ⊥
   BothTook m n (Goes i) (Halts e) = ⊥
@@ -89,13 +89,13 @@ module _ {S : Type 0} where
   both_either m n true i j e h = h refl
   both_either m n false i j e h = refl
 
-  goes_both : (m n : ℕ → ℕ) (j : Inner S) (y : Took S) → BothTook m n (Goes j) y → (k : Inner S) × (y ≡ Goes k) × Alike m n j k
+  goes_both : (m n : ℕ → ℕ) (j : Inner S) (y : BlockStep S) → BothTook m n (Goes j) y → (k : Inner S) × (y ≡ Goes k) × Alike m n j k
   goes_both m n j (Goes k) b = (k, refl, b)
   goes_both m n j (Leaves r q) b = absurd b
   goes_both m n j (Halts f) b = absurd b
   goes_both m n j Never b = absurd b
 
-module _ {S : Type 0} (a : Thread S) (p : Place) where
+module _ {S : Type 0} (a : Thread S) (p : MemoryLayout) where
   -- an accessed word stays one
   leave_accessed : (j : Inner S) (m : ℕ → ℕ) (cs : List (ℕ → ℕ)) (x : ℕ) → j.accessed x ≡ true → OnGoes (λ k. k.accessed x ≡ true) (leave a j m cs)
   leave_accessed j m [] x h = tt

@@ -9,16 +9,16 @@ use Rattle.tx_events.specs.declared.Trap.TheVariants.{BadAddress}
 use Rattle.tx_events.specs.declared.Event.{Event}
 use Rattle.tx_events.specs.declared.Event.TheVariants.{Silent, Load, Store, Out, Inp, Spawn, Join, BeginAtomic, EndAtomic, Raise, BeginSync, EndSync, Done, Stop}
 use Rattle.tx_events.specs.Thread.{Thread}
-use Rattle.tx_events.specs.Memory.{update, Place, can_access, word_of}
-use Rattle.tx_events.specs.Alone.{Inner, inner_load, inner_store, Took, Goes, Leaves, Halts, Never, newest, leave, raise, inner_by, Inside, at_start, goes_on, begin, is_over, Alone, outcome}
+use Rattle.tx_events.specs.Memory.{update, MemoryLayout, can_access, word_of}
+use Rattle.tx_events.specs.Alone.{Inner, inner_load, inner_store, BlockStep, Goes, Leaves, Halts, Never, newest, leave, raise, inner_by, Inside, at_start, goes_on, begin, is_over, Alone, outcome}
 use Rattle.tx_events.specs.Laws.{AgreesOn, EndsAlike, RunsAlike, StoresOnly}
-use Rattle.tx_events.proofs.Runs.{OnGoes, on_either, newest_all, not_updated, BothTook, both_by, local, Kept, unstored}
+use Rattle.tx_events.proofs.BlockRuns.{OnGoes, on_either, newest_all, not_updated, BothTook, both_by, local, Kept, unstored}
 
 -- what was stored to was accessed
 abbrev IsIn : {S : Type 0} → ℕ → Inner S → Type 0
 IsIn x j = j.accessed x ≡ false → j.stored x ≡ false
 
-module _ {S : Type 0} (a : Thread S) (p : Place) where
+module _ {S : Type 0} (a : Thread S) (p : MemoryLayout) where
   leave_in : (x : ℕ) (j : Inner S) (m : ℕ → ℕ) (cs : List (ℕ → ℕ)) → IsIn x j → OnGoes (IsIn x) (leave a j m cs)
   leave_in x j m [] f = tt
   leave_in x j m (c ∷ []) f = tt
@@ -62,7 +62,7 @@ module _ {S : Type 0} (a : Thread S) (p : Place) where
       by_access false f = absurd (true≢false (sym h ∙ f refl))
 
   -- the memory with which a block is left
-  abbrev OnLeaves : ((ℕ → ℕ) → Type 0) → Took S → Type 0
+  abbrev OnLeaves : ((ℕ → ℕ) → Type 0) → BlockStep S → Type 0
   OnLeaves P (Leaves s m) = P m
   OnLeaves P (Goes i) = Unit {0}
   OnLeaves P (Halts e) = Unit {0}
@@ -99,7 +99,7 @@ module _ {S : Type 0} (a : Thread S) (p : Place) where
   leaves_by m x j (Join id) f h = tt
   leaves_by m x j Done f h = tt
 
-  to_stores : (stored : ℕ → Bool) (m : ℕ → ℕ) (y : Took S) → ((x : ℕ) → stored x ≡ false → OnLeaves (λ q. q x ≡ m x) y) → StoresOnly stored m y
+  to_stores : (stored : ℕ → Bool) (m : ℕ → ℕ) (y : BlockStep S) → ((x : ℕ) → stored x ≡ false → OnLeaves (λ q. q x ≡ m x) y) → StoresOnly stored m y
   to_stores stored m (Leaves s q) h = h
   to_stores stored m (Goes i) h = tt
   to_stores stored m (Halts e) h = tt
@@ -108,7 +108,7 @@ module _ {S : Type 0} (a : Thread S) (p : Place) where
   pub rest_kept : (s : S) (m : ℕ → ℕ) (alone : Alone a p s m) → StoresOnly alone.last.stored m (outcome alone)
   rest_kept s m alone = to_stores alone.last.stored m (outcome alone) (λ x h. leaves_by m x alone.last (a.next alone.last.state) (unstored a p s m alone.run x) h)
 
-  both_over : (m n : ℕ → ℕ) (y z : Took S) → BothTook m n y z → is_over y ≡ true → is_over z ≡ true
+  both_over : (m n : ℕ → ℕ) (y z : BlockStep S) → BothTook m n y z → is_over y ≡ true → is_over z ≡ true
   both_over m n (Goes i) z b h = absurd (false≢true h)
   both_over m n Never z b h = absurd (false≢true h)
   both_over m n (Leaves s q) (Leaves r o) b h = refl
@@ -120,7 +120,7 @@ module _ {S : Type 0} (a : Thread S) (p : Place) where
   both_over m n (Halts e) (Leaves r o) b h = absurd b
   both_over m n (Halts e) Never b h = absurd b
 
-  ends_alike : (words stored : ℕ → Bool) (m n : ℕ → ℕ) (y z : Took S) → AgreesOn words m n → ((x : ℕ) → words x ≡ false → stored x ≡ false) → BothTook m n y z → is_over y ≡ true → StoresOnly stored n z → EndsAlike words n y z
+  ends_alike : (words stored : ℕ → Bool) (m n : ℕ → ℕ) (y z : BlockStep S) → AgreesOn words m n → ((x : ℕ) → words x ≡ false → stored x ≡ false) → BothTook m n y z → is_over y ≡ true → StoresOnly stored n z → EndsAlike words n y z
   ends_alike words stored m n (Goes i) z on off b h only = absurd (false≢true h)
   ends_alike words stored m n Never z on off b h only = absurd (false≢true h)
   ends_alike words stored m n (Leaves s q) (Leaves r o) on off b h only = (b.0, (λ x w. sym (b.1 x (sym (on x w)))), (λ x w. only x (off x w)))
@@ -132,7 +132,7 @@ module _ {S : Type 0} (a : Thread S) (p : Place) where
   ends_alike words stored m n (Halts e) (Leaves r o) on off b h only = absurd b
   ends_alike words stored m n (Halts e) Never on off b h only = absurd b
 
-  on_over : (P : Inner S → Type 0) (y : Took S) → is_over y ≡ true → OnGoes P y
+  on_over : (P : Inner S → Type 0) (y : BlockStep S) → is_over y ≡ true → OnGoes P y
   on_over P (Goes i) e = absurd (false≢true e)
   on_over P (Leaves s m) e = tt
   on_over P (Halts x) e = tt

@@ -12,20 +12,20 @@ use Rattle.tx_events.specs.declared.Event.TheVariants.{Silent, Load, Store, Out,
 use Rattle.tx_events.specs.declared.Reply.{Reply}
 use Rattle.tx_events.specs.declared.Reply.TheVariants.{Nothing, Loaded, Byte, Id}
 use Rattle.tx_events.specs.Thread.{Thread, Answers, is_silent}
-use Rattle.tx_events.specs.Memory.{update, Place, can_access, word_of, read_at, merge}
-use Rattle.tx_events.specs.Alone.{Inner, inner_load, inner_store, inner_by, leave, raise, newest, begin, Took, Goes, Leaves, Halts, Never, Inside, at_start, goes_on, is_over}
-use Rattle.tx_events.specs.World.{Alive, alive, World, Step, Replays, Does, Lands, Joins, target, goes, ends, byte_of, Silents, none, one_more, first_world, only_first}
+use Rattle.tx_events.specs.Memory.{update, MemoryLayout, can_access, word_of, read_at, merge}
+use Rattle.tx_events.specs.Alone.{Inner, inner_load, inner_store, inner_by, leave, raise, newest, begin, BlockStep, Goes, Leaves, Halts, Never, Inside, at_start, goes_on, is_over}
+use Rattle.tx_events.specs.World.{Alive, alive, World, Step, Replays, EventStep, BlockEffect, Joins, target, goes, ends, byte_of, SilentSteps, none, one_more, first_world, only_first}
 use Rattle.tx_events.specs.Same.{Reaches, at_once, silently, answered, SameEvents, SameThread, Paired, Descends, at_first, went_on, started, with_threads, SameChildren}
-use Rattle.tx_events.proofs.Runs.{OnGoes}
-use Rattle.tx_events.proofs.Words.{read_fits, byte_int}
-use Rattle.tx_events.proofs.Reaching.{reach_silents, after_silents, past_silent, after_event}
+use Rattle.tx_events.proofs.BlockRuns.{OnGoes}
+use Rattle.tx_events.proofs.WordLemmas.{read_fits, byte_int}
+use Rattle.tx_events.proofs.ReachingLemmas.{reach_silents, after_silents, past_silent, after_event}
 
 module _ {S T : Type 0} (a : Thread S) (b : Thread T) (main : S) (main' : T) where
   abbrev Same : S → T → Type 0
   Same s r = Paired a b main main' s r
 
   -- silent steps of the first change nothing
-  pub same_silents : (s : S) (r : T) {q : S} → Same s r → Silents a s q → Same q r
+  pub same_silents : (s : S) (r : T) {q : S} → Same s r → SilentSteps a s q → Same q r
   same_silents s r h none = h
   same_silents s r h (one_more {r = q} f e) =
       let g = same_silents s r h f in
@@ -38,14 +38,14 @@ module _ {S T : Type 0} (a : Thread S) (b : Thread T) (main : S) (main' : T) whe
         second = g.second;
       }
 
-  descends_on : {r q : T} → Descends b main' r → Silents b r q → Descends b main' q
+  descends_on : {r q : T} → Descends b main' r → SilentSteps b r q → Descends b main' q
   descends_on h none = h
   descends_on h (one_more f e) = went_on Nothing (descends_on h f) (subst (λ z. Answers z Nothing) (sym e) refl)
 
   -- where one comes to an event, so does the other, and they go on alike
   pub record Meets (q : S) (r : T) (e : Event) : Type 0 where
     pub at : T
-    pub silents : Silents b r at
+    pub silents : SilentSteps b r at
     pub is : b.next at ≡ e
     pub alike : (x : Reply) → Answers e x → Same (a.after q x) (b.after at x)
 
@@ -73,7 +73,7 @@ module _ {S T : Type 0} (a : Thread S) (b : Thread T) (main : S) (main' : T) whe
         };
       }
     where
-      reach_after : {s u w : T} {rs : List Reply} → Silents b s u → Reaches b u rs w → Reaches b s rs w
+      reach_after : {s u w : T} {rs : List Reply} → SilentSteps b s u → Reaches b u rs w → Reaches b s rs w
       reach_after none h = h
       reach_after (one_more g i) h = reach_after g (silently i h)
 
@@ -81,7 +81,7 @@ module _ {S T : Type 0} (a : Thread S) (b : Thread T) (main : S) (main' : T) whe
   abbrev with_state : Inner S → T → Inner T
   with_state i r = record { state = r; memory = i.memory; accessed = i.accessed; stored = i.stored; copies = i.copies }
 
-  abbrev SameTook : Took S → Took T → Type 0
+  abbrev SameTook : BlockStep S → BlockStep T → Type 0
   SameTook (Goes i) y = (r : T) × (y ≡ Goes (with_state i r)) × Same i.state r
   SameTook (Leaves s m) y = (r : T) × (y ≡ Leaves r m) × Same s r
   SameTook (Halts e) y = y ≡ Halts e
@@ -102,7 +102,7 @@ module _ {S T : Type 0} (a : Thread S) (b : Thread T) (main : S) (main' : T) whe
   same_raise i r Cancel true h = same_leave i r (newest i.copies i.memory) i.copies h
   same_raise i r Cancel false h = refl
 
-  module _ (p : Place) where
+  module _ (p : MemoryLayout) where
     same_took : (i : Inner S) (r : T) (e : Event) → is_silent e ≡ false → ((x : Reply) → Answers e x → Same (a.after i.state x) (b.after r x)) → SameTook (inner_by a p i e) (inner_by b p (with_state i r) e)
     same_took i r Silent loud h = absurd (true≢false loud)
     same_took i r (Load addr size vol) loud h = same_either (can_access p addr size) (inner_load a i addr size) (b.after r (Loaded (read_at addr size (i.memory (word_of addr))))) (Trapped BadAddress) (h (Loaded (read_at addr size (i.memory (word_of addr)))) (read_fits addr size (i.memory (word_of addr))))
@@ -119,7 +119,7 @@ module _ {S T : Type 0} (a : Thread S) (b : Thread T) (main : S) (main' : T) whe
     same_took i r (Join id) loud h = tt
     same_took i r Done loud h = tt
 
-    inside_silents : {j : Inner T} (i : Inner S) {r q : T} → Inside b p j (with_state i r) → Silents b r q → Inside b p j (with_state i q)
+    inside_silents : {j : Inner T} (i : Inner S) {r q : T} → Inside b p j (with_state i r) → SilentSteps b r q → Inside b p j (with_state i q)
     inside_silents i h none = h
     inside_silents i h (one_more {r = q} g e) = goes_on (inside_silents i h g) (ap (inner_by b p (with_state i q)) e)
 
@@ -127,7 +127,7 @@ module _ {S T : Type 0} (a : Thread S) (b : Thread T) (main : S) (main' : T) whe
     abbrev Runs : S → T → (ℕ → ℕ) → Inner S → Type 0
     Runs s r m k = (q : T) × Inside b p (begin r m) (with_state k q) × Same k.state q
 
-    took_runs : (s : S) (r : T) (m : ℕ → ℕ) (j : Inner T) → Inside b p (begin r m) j → (y : Took S) → SameTook y (inner_by b p j (b.next j.state)) → OnGoes (Runs s r m) y
+    took_runs : (s : S) (r : T) (m : ℕ → ℕ) (j : Inner T) → Inside b p (begin r m) j → (y : BlockStep S) → SameTook y (inner_by b p j (b.next j.state)) → OnGoes (Runs s r m) y
     took_runs s r m j run (Goes k) h = (h.0, goes_on run h.1, h.2)
     took_runs s r m j run (Leaves q n) h = tt
     took_runs s r m j run (Halts e) h = tt
@@ -175,7 +175,7 @@ module _ {S T : Type 0} (a : Thread S) (b : Thread T) (main : S) (main' : T) whe
 
     -- what thread t does there
     abbrev Lifts : ℕ → World S → (ℕ → Option (Alive T)) → T → Event → World S → Type 0
-    Lifts t w vs r e v = (ts : ℕ → Option (Alive T)) × Does b p t (with_threads w vs) r e (with_threads v ts) × Pairs v.threads ts
+    Lifts t w vs r e v = (ts : ℕ → Option (Alive T)) × EventStep b p t (with_threads w vs) r e (with_threads v ts) × Pairs v.threads ts
 
     either_lifts : (t : ℕ) (w : World S) (vs : ℕ → Option (Alive T)) (c : Bool) (x y : World S) (X Y : World T)
         → (c ≡ true → (ts : ℕ → Option (Alive T)) × (with_threads x ts ≡ X) × Pairs x.threads ts)
@@ -196,23 +196,23 @@ module _ {S T : Type 0} (a : Thread S) (b : Thread T) (main : S) (main' : T) whe
     same_target t (pos n) us vs h = elim ((n == 0) || (n == t)) as (λ c. SameThread a b main main' (cond c None (us n)) (cond c None (vs n))) [ true ↦ tt | false ↦ h n ]
     same_target t (negsuc n) us vs h = tt
 
-    landed : (t : ℕ) (w : World S) (vs : ℕ → Option (Alive T)) (y : Took S) (z : Took T) (v : World S) → Pairs w.threads vs → SameTook y z → Lands t w y v
-        → (ts : ℕ → Option (Alive T)) × Lands t (with_threads w vs) z (with_threads v ts) × Pairs v.threads ts
+    landed : (t : ℕ) (w : World S) (vs : ℕ → Option (Alive T)) (y : BlockStep S) (z : BlockStep T) (v : World S) → Pairs w.threads vs → SameTook y z → BlockEffect t w y v
+        → (ts : ℕ → Option (Alive T)) × BlockEffect t (with_threads w vs) z (with_threads v ts) × Pairs v.threads ts
     landed t w vs (Goes i) z v ps h is = absurd is
     landed t w vs Never z v ps h is = absurd is
-    landed t w vs (Halts e) z v ps h is = subst (λ q. (ts : ℕ → Option (Alive T)) × Lands t (with_threads w vs) q (with_threads v ts) × Pairs v.threads ts) (sym h)
+    landed t w vs (Halts e) z v ps h is = subst (λ q. (ts : ℕ → Option (Alive T)) × BlockEffect t (with_threads w vs) q (with_threads v ts) × Pairs v.threads ts) (sym h)
         (subst (λ q. (ts : ℕ → Option (Alive T)) × (with_threads q ts ≡ ends (with_threads w vs) e) × Pairs q.threads ts) (sym is) (vs, refl, ps))
-    landed t w vs (Leaves s m) z v ps h is = subst (λ q. (ts : ℕ → Option (Alive T)) × Lands t (with_threads w vs) q (with_threads v ts) × Pairs v.threads ts) (sym h.1)
+    landed t w vs (Leaves s m) z v ps h is = subst (λ q. (ts : ℕ → Option (Alive T)) × BlockEffect t (with_threads w vs) q (with_threads v ts) × Pairs v.threads ts) (sym h.1)
         (subst (λ q. (ts : ℕ → Option (Alive T)) × (with_threads q ts ≡ record (with_threads w vs) { memory = m; threads = update vs t (alive h.0) }) × Pairs q.threads ts) (sym is)
         (update vs t (alive h.0), refl, pairs_update w.threads vs t (record { state = s; ended = false }) (record { state = h.0; ended = false }) ps refl h.2))
 
-    is_landed : (t : ℕ) (w : World T) (y : Took T) (v : World T) → Lands t w y v → is_over y ≡ true
+    is_landed : (t : ℕ) (w : World T) (y : BlockStep T) (v : World T) → BlockEffect t w y v → is_over y ≡ true
     is_landed t w (Goes i) v h = absurd h
     is_landed t w Never v h = absurd h
     is_landed t w (Leaves s m) v h = refl
     is_landed t w (Halts e) v h = refl
 
-    loud_last : (e : Event) (t : ℕ) (w : World S) (i : Inner S) (v : World S) → Lands t w (inner_by a p i e) v → is_silent e ≡ false
+    loud_last : (e : Event) (t : ℕ) (w : World S) (i : Inner S) (v : World S) → BlockEffect t w (inner_by a p i e) v → is_silent e ≡ false
     loud_last Silent t w i v h = absurd h
     loud_last (Load addr size vol) t w i v h = refl
     loud_last (Store addr size value vol) t w i v h = refl
@@ -233,7 +233,7 @@ module _ {S T : Type 0} (a : Thread S) (b : Thread T) (main : S) (main' : T) whe
       one : (s : S) (r : T) (c : Bool) → Same s r → Pairs (update w.threads t (Some (record { state = s; ended = c }))) (update vs t (Some (record { state = r; ended = c })))
       one s r c h = pairs_update w.threads vs t (record { state = s; ended = c }) (record { state = r; ended = c }) ps refl h
 
-      block : (s : S) (r : T) (kind : BlockKind) (v : World S) → Same (a.after s Nothing) (b.after r Nothing) → Does a p t w s (BeginAtomic kind) v → Lifts t w vs r (BeginAtomic kind) v
+      block : (s : S) (r : T) (kind : BlockKind) (v : World S) → Same (a.after s Nothing) (b.after r Nothing) → EventStep a p t w s (BeginAtomic kind) v → Lifts t w vs r (BeginAtomic kind) v
       block s r kind v h d =
           let i = d.1.last in
           let e = a.next i.state in
@@ -247,7 +247,7 @@ module _ {S T : Type 0} (a : Thread S) (b : Thread T) (main : S) (main' : T) whe
       int_below : (n : ℕ) → n < p.limit → p.limit ≤ 64 → n < 2 ^ 31
       int_below n h few = omega (arith, h, few)
 
-      lifts : (kids : SameChildren a b main main') → p.limit ≤ 64 → (s : S) (r : T) (e : Event) (v : World S) → Same s r → a.next s ≡ e → b.next r ≡ e → ((x : Reply) → Answers e x → Same (a.after s x) (b.after r x)) → Does a p t w s e v → Lifts t w vs r e v
+      lifts : (kids : SameChildren a b main main') → p.limit ≤ 64 → (s : S) (r : T) (e : Event) (v : World S) → Same s r → a.next s ≡ e → b.next r ≡ e → ((x : Reply) → Answers e x → Same (a.after s x) (b.after r x)) → EventStep a p t w s e v → Lifts t w vs r e v
       lifts kids few s r Silent v q i j h d = absurd d
       lifts kids few s r EndAtomic v q i j h d = absurd d
       lifts kids few s r (Raise kind can) v q i j h d = absurd d
@@ -283,7 +283,7 @@ module _ {S T : Type 0} (a : Thread S) (b : Thread T) (main : S) (main' : T) whe
       lifts kids few s r Done v q i j h d = subst (λ z. Lifts t w vs r Done z) (sym d) (update vs t (Some (record { state = b.after r Nothing; ended = true })), refl, one (a.after s Nothing) (b.after r Nothing) true (h Nothing refl))
       lifts kids few s r (Stop e) v q i j h d = subst (λ z. Lifts t w vs r (Stop e) z) (sym d) (vs, refl, ps)
 
-      loud_does : (s : S) (e : Event) (v : World S) → Does a p t w s e v → is_silent e ≡ false
+      loud_does : (s : S) (e : Event) (v : World S) → EventStep a p t w s e v → is_silent e ≡ false
       loud_does s Silent v d = absurd d
       loud_does s EndAtomic v d = refl
       loud_does s (Raise kind can) v d = refl
@@ -317,9 +317,9 @@ module _ {S T : Type 0} (a : Thread S) (b : Thread T) (main : S) (main' : T) whe
           let n = meet d.before y.0 e same refl (loud_does d.before e v d.does) in
           let seen : Same d.before n.at = same_after d.before y.0 n.at same n.silents in
           let l = lifts kids few d.before n.at e v seen refl n.is n.alike d.does in
-          (l.0, record { going = d.going; from = y.0; before = n.at; is = y.1; silents = n.silents; does = subst (λ z. Does b p t (with_threads w vs) n.at z (with_threads v l.0)) (sym n.is) l.1 }, l.2)
+          (l.0, record { going = d.going; from = y.0; before = n.at; is = y.1; silents = n.silents; does = subst (λ z. EventStep b p t (with_threads w vs) n.at z (with_threads v l.0)) (sym n.is) l.1 }, l.2)
         where
-          same_after : (s : S) (r q : T) → Same s r → Silents b r q → Same s q
+          same_after : (s : S) (r q : T) → Same s r → SilentSteps b r q → Same s q
           same_after s r q h none = h
           same_after s r q h (one_more {r = z} f i) =
               let g = same_after s r z h f in
