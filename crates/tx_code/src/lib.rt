@@ -8,6 +8,7 @@
 #![tactic(auto)]
 
 pub mod body;
+pub mod examples;
 pub mod image;
 pub mod instr;
 pub mod laws;
