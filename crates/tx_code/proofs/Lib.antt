@@ -1,2 +1,6 @@
 mod Lockstep
 mod Renamed
+mod Indexes
+mod Kept
+mod Acts
+mod LawfulThreads

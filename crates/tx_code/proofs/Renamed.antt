@@ -11,13 +11,13 @@ use Rattle.tx_code.specs.Objects.{BodyView, ObjectView}
 use Rattle.tx_code.specs.Images.{ImageFuncView, ImageView}
 use Rattle.tx_code.specs.Renaming.{Numbering, itself, renamed, renamed_row, renamed_body}
 use Rattle.tx_events.specs.declared.Trap.TheVariants.{UnsafeCall}
-use Rattle.tx_code.specs.Meaning.{Names, Home, Frame, State, Runs, Unwinds, Ended, Lost, Exception, Act, lost, traps, one, moved, at, if_some, act, enter_act, entered_act, checked_act, call_act, call_indirect_act, in_transaction, row_act, leave_act, unwind_act, find, cut, code_of, rows_of, fetch, rows_in, step_act, thread}
+use Rattle.tx_code.specs.Meaning.{Names, Home, Frame, State, Runs, Unwinds, Exception, Act, Lost, traps, one, moved, at, if_some, act, enter_act, entered_act, checked_act, call_act, call_indirect_act, in_transaction, row_act, leave_act, unwind_act, find, cut, code_of, rows_of, fetch, rows_in, step_act, event_of, state_after, thread}
 use Rattle.tx_code.specs.Program.{names_of, body_in}
 use Rattle.tx_code.specs.Linked.{FuncDef, ImageOf, image_func, kept_funcs, own_body, own_names, numbering_at}
 use Rattle.tx_code.proofs.Lockstep.{lock_same, lock_within}
 
 -- a name that stands for itself changes nothing
-same_instr : (i : Instr) → renamed itself i ≡ i
+pub same_instr : (i : Instr) → renamed itself i ≡ i
 same_instr (Push v) = refl
 same_instr Dup = refl
 same_instr Pop = refl
@@ -65,7 +65,7 @@ same_if : (b : Bool) (n : ℕ) → (if b then n else n) ≡ n
 same_if true n = refl
 same_if false n = refl
 
-same_row : (r : Row) → renamed_row itself r ≡ r
+pub same_row : (r : Row) → renamed_row itself r ≡ r
 same_row r = ap (λ ty. record { from = r.from; to = r.to; target = r.target; what = r.what; ty = ty; depth = r.depth }) (same_if (nat_eq r.what 1) r.ty)
 
 module _ (x : Numbering) where
@@ -119,7 +119,7 @@ module _ (os : List ObjectView) (i : ImageView) (image : ImageOf os i) where
   there n (Some b) a c = refl
 
   entered_same : (func : ℕ) (safe : Bool) (args : List ℕ) (f : Frame) (rest : List Frame) → entered_act y func safe args f rest ≡ entered_act x func safe args f rest
-  entered_same func safe args f rest = ap (λ o. if_some o lost (λ b. enter_act x func safe args f rest)) (body_same func safe) ∙ there (x.numbering func) (x.body func safe) lost (enter_act x func safe args f rest)
+  entered_same func safe args f rest = ap (λ o. if_some o Lost (λ b. enter_act x func safe args f rest)) (body_same func safe) ∙ there (x.numbering func) (x.body func safe) Lost (enter_act x func safe args f rest)
 
   checked_same : (func : ℕ) (inside : Bool) (a c : Act) → a ≡ c → checked_act y func inside a ≡ checked_act x func inside c
   checked_same func false a c e = e
@@ -207,16 +207,14 @@ module _ (os : List ObjectView) (i : ImageView) (image : ImageOf os i) where
   unwind_same (Some r) e f rest = row_same r.what r.target (cut r.depth f.words) e f rest
 
   step_same : (s : State) → step_act y s ≡ step_act x s
-  step_same (Runs f rest) = ap (λ o. if_some o lost (λ i. act y i f rest)) (fetch_same f.home f.index) ∙ some_same (fetch x f.home f.index) lost _ _ (λ i. act_same i f rest)
+  step_same (Runs f rest) = ap (λ o. if_some o Lost (λ i. act y i f rest)) (fetch_same f.home f.index) ∙ some_same (fetch x f.home f.index) Lost _ _ (λ i. act_same i f rest)
   step_same (Unwinds e f rest) = ap (λ rs. unwind_act y (find rs f.index e.ty) e f rest) (rows_in_same f.home) ∙ unwind_same (find (rows_in x f.home) f.index e.ty) e f rest
-  step_same (Ended e) = refl
-  step_same Lost = refl
 
   next_same : (s t : State) → s ≡ t → (thread y).next t ≡ (thread x).next s
-  next_same s t e = subst (λ z. (step_act y z).event ≡ (step_act x s).event) e (ap (λ (a : Act). a.event) (step_same s))
+  next_same s t e = subst (λ z. event_of (step_act y z) ≡ event_of (step_act x s)) e (ap event_of (step_same s))
 
   after_same : (s t : State) (r : Reply) → s ≡ t → (thread x).after s r ≡ (thread y).after t r
-  after_same s t r e = subst (λ z. (step_act x s).on r ≡ (step_act y z).on r) e (sym (ap (λ (a : Act). a.on r) (step_same s)))
+  after_same s t r e = subst (λ z. state_after s (step_act x s) r ≡ state_after z (step_act y z) r) e (sym (ap (λ (a : Act). state_after s a r) (step_same s)))
 
   pub own_same : (s : State) → SameEvents (thread x) (thread y) s s
   own_same s = lock_same (thread x) (thread y) (λ s t. s ≡ t) next_same after_same s s refl

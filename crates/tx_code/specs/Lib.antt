@@ -8,4 +8,5 @@ pub mod Meaning
 pub mod Program
 pub mod Shapes
 pub mod Sound
+pub mod InShape
 pub mod Linked

@@ -123,50 +123,42 @@ pub record Frame : Type 0 where
   pub index : ℕ
   pub words : List ℕ
 
--- what a thread does: it runs in its innermost frame, an exception is in flight in that frame, it has come to its end, or it met what sound code does not meet
+-- what a thread does: it runs in its innermost frame, or an exception is in flight in that frame
 pub data State : Type 0 where
   Runs : (top : Frame) → (rest : List Frame) → State
   Unwinds : (exception : Exception) → (top : Frame) → (rest : List Frame) → State
-  Ended : (event : Event) → State
-  Lost : State
 
--- the next event, and the state after each reply
-pub record Act : Type 0 where
-  pub event : Event
-  pub on : Reply → State
+-- a step: an event and the state after each reply, or the thread's end, at which it stays, or what sound code does not come to
+pub data Act : Type 0 where
+  Does : (event : Event) → (on : Reply → State) → Act
+  Ends : (event : Event) → Act
+  Lost : Act
 
 abbrev pub goes : State → Act
-goes s = record { event = Silent; on = λ r. s }
+goes s = Does Silent (λ r. s)
 
 abbrev pub asks : Event → State → Act
-asks e s = record { event = e; on = λ r. s }
-
-abbrev pub ends : Event → Act
-ends e = record { event = e; on = λ r. Ended e }
+asks e s = Does e (λ r. s)
 
 abbrev pub traps : Trap → Act
-traps t = ends (Stop (Trapped t))
-
--- what does not come in sound code
-abbrev pub lost : Act
-lost = record { event = Stop Aborted; on = λ r. Lost }
+traps t = Ends (Stop (Trapped t))
 
 -- ---- operands
 
 abbrev pub one : List ℕ → (ℕ → List ℕ → Act) → Act
-one [] f = lost
+one [] f = Lost
 one (w ∷ ws) f = f w ws
 
 -- the lower one first
 abbrev pub two : List ℕ → (ℕ → ℕ → List ℕ → Act) → Act
-two [] f = lost
-two (b ∷ []) f = lost
+two [] f = Lost
+two (b ∷ []) f = Lost
 two (b ∷ a ∷ ws) f = f a b ws
 
 -- n words are moved one by one, so that the first argument, which lies lowest, comes to the top
 abbrev pub moved : ℕ → List ℕ → List ℕ → (List ℕ → List ℕ → Act) → Act
 moved zero ws args f = f args ws
-moved (suc n) [] args f = lost
+moved (suc n) [] args f = Lost
 moved (suc n) (w ∷ ws) args f = moved n ws (w ∷ args) f
 
 abbrev pub if_some : {A : Type 0} → Option A → Act → (A → Act) → Act
@@ -174,7 +166,7 @@ if_some None a f = a
 if_some (Some x) a f = f x
 
 abbrev pub with_kind : ℕ → (IntKind → Act) → Act
-with_kind n f = if_some (slice_get kinds n) lost f
+with_kind n f = if_some (slice_get kinds n) Lost f
 
 -- ---- frames
 
@@ -240,7 +232,7 @@ answered (Byte v) = v
 answered (Id v) = v
 
 abbrev pub load_act : ℕ → (volatile : Bool) → Frame → List Frame → Act
-load_act n volatile f rest = with_kind n (λ k. one f.words (λ a ws. record { event = LoadOf a (size_of k) volatile; on = λ r. Runs (on_with f (word_of (convert_of k (pos (loaded r))) ∷ ws)) rest }))
+load_act n volatile f rest = with_kind n (λ k. one f.words (λ a ws. Does (LoadOf a (size_of k) volatile) (λ r. Runs (on_with f (word_of (convert_of k (pos (loaded r))) ∷ ws)) rest)))
 
 abbrev pub store_act : ℕ → (volatile : Bool) → Frame → List Frame → Act
 store_act n volatile f rest = with_kind n (λ k. two f.words (λ a v ws. asks (StoreOf a (size_of k) (bits_of k (value_of_word k v)) volatile) (Runs (on_with f ws) rest)))
@@ -250,7 +242,7 @@ result_act (Ok v) f = f v
 result_act (Err t) f = traps (trap_of t)
 
 abbrev pub bin_act : ℕ → ℕ → Frame → List Frame → Act
-bin_act op n f rest = if_some (slice_get operators op) lost (λ o. with_kind n (λ k. two f.words (λ a b ws.
+bin_act op n f rest = if_some (slice_get operators op) Lost (λ o. with_kind n (λ k. two f.words (λ a b ws.
     result_act (apply_of o k (value_of_word k a) (value_of_word (right_kind o k) b)) (λ v. goes (Runs (on_with f (word_of v ∷ ws)) rest)))))
 
 abbrev pub neg_act : ℕ → Frame → List Frame → Act
@@ -273,7 +265,7 @@ enter_act x func safe args f rest = if fits x (next_home x f.home func safe) the
 
 -- a call into a body that is there
 abbrev pub entered_act : Names → ℕ → Bool → List ℕ → Frame → List Frame → Act
-entered_act x func safe args f rest = if_some (x.body func safe) lost (λ b. enter_act x func safe args f rest)
+entered_act x func safe args f rest = if_some (x.body func safe) Lost (λ b. enter_act x func safe args f rest)
 
 abbrev pub call_act : Names → ℕ → Bool → ℕ → Frame → List Frame → Act
 call_act x func safe n f rest = moved n f.words [] (λ args ws. entered_act x func safe args (at f f.index ws) rest)
@@ -299,16 +291,16 @@ abbrev pub finish : ℕ → ℤ → Event
 finish thread v = if nat_eq thread 0 then Stop (Exit v) else Done
 
 abbrev pub back_act : Home → List ℕ → List Frame → Act
-back_act h ws [] = ends (finish h.thread (status_of ws))
+back_act h ws [] = Ends (finish h.thread (status_of ws))
 back_act h ws (g ∷ rest) = goes (Runs (on_with g (ws ++ g.words)) rest)
 
 abbrev pub ret_act : ℕ → Frame → List Frame → Act
 ret_act zero f rest = back_act f.home [] rest
 ret_act (suc zero) f rest = one f.words (λ w ws. back_act f.home (w ∷ []) rest)
-ret_act (suc (suc n)) f rest = lost
+ret_act (suc (suc n)) f rest = Lost
 
 abbrev pub spawn_act : Names → Frame → List Frame → Act
-spawn_act x f rest = two f.words (λ a v ws. if_some (x.spawned a) (traps BadCall) (λ func. record { event = SpawnOf func (value_of_word Long v); on = λ r. Runs (on_with f (word_of (answered r) ∷ ws)) rest }))
+spawn_act x f rest = two f.words (λ a v ws. if_some (x.spawned a) (traps BadCall) (λ func. Does (SpawnOf func (value_of_word Long v)) (λ r. Runs (on_with f (word_of (answered r) ∷ ws)) rest)))
 
 -- ---- exceptions
 
@@ -336,16 +328,16 @@ number_in e n k = convert_of k (pos (get_bytes e.bytes n (size_of k)))
 
 abbrev pub built : Held → (Exception → Act) → Act
 built (Building e) f = f e
-built Free f = lost
-built (Flying e) f = lost
+built Free f = Lost
+built (Flying e) f = Lost
 
 abbrev pub flown : Held → (Exception → Act) → Act
 flown (Flying e) f = f e
-flown Free f = lost
-flown (Building e) f = lost
+flown Free f = Lost
+flown (Building e) f = Lost
 
 abbrev pub in_handler : List Exception → Act → Act
-in_handler [] a = lost
+in_handler [] a = Lost
 in_handler (e ∷ es) a = a
 
 abbrev pub first_or : List Exception → Option Exception → Option Exception
@@ -364,7 +356,7 @@ abbrev pub put_act : ℕ → ℕ → Frame → List Frame → Act
 put_act n k f rest = with_kind k (λ j. built f.nest.held (λ e. one f.words (λ v ws. goes (Runs (nested f (holding f.nest (Building (with_number e n j (value_of_word j v)))) (f.index + 1) ws) rest))))
 
 abbrev pub get_act : ℕ → ℕ → Frame → List Frame → Act
-get_act n k f rest = with_kind k (λ j. if_some (current (f ∷ rest)) lost (λ e. goes (Runs (on_with f (word_of (number_in e n j) ∷ f.words)) rest)))
+get_act n k f rest = with_kind k (λ j. if_some (current (f ∷ rest)) Lost (λ e. goes (Runs (on_with f (word_of (number_in e n j) ∷ f.words)) rest)))
 
 -- ---- the instructions
 
@@ -395,19 +387,19 @@ act x (CallIndirect ty n) f rest = call_indirect_act x ty false n f rest
 act x (TCallIndirect ty n) f rest = call_indirect_act x ty true n f rest
 act x (Slot c n) f rest = slot_act x c n f rest
 act x (Ret n) f rest = ret_act n f rest
-act x (Begin n) f rest = if_some (slice_get block_kinds n) lost (λ kind. asks (BeginAtomic kind) (Runs (on_in f (opening f.nest (Atomic kind))) rest))
+act x (Begin n) f rest = if_some (slice_get block_kinds n) Lost (λ kind. asks (BeginAtomic kind) (Runs (on_in f (opening f.nest (Atomic kind))) rest))
 act x End f rest = asks EndAtomic (Runs (on_in f (closing f.nest)) rest)
 act x BeginSync f rest = asks BeginSyncOf (Runs (on_in f (opening f.nest Sync)) rest)
 act x EndSync f rest = asks EndSyncOf (Runs (on_in f (closing f.nest)) rest)
 act x Out f rest = one f.words (λ v ws. asks (OutOf (v % 256)) (Runs (on_with f (v % 256 ∷ ws)) rest))
-act x Inp f rest = record { event = InpOf; on = λ r. Runs (on_with f (word_of (answered r) ∷ f.words)) rest }
+act x Inp f rest = Does InpOf (λ r. Runs (on_with f (word_of (answered r) ∷ f.words)) rest)
 act x Spawn f rest = spawn_act x f rest
 act x Join f rest = one f.words (λ v ws. asks (JoinOf (value_of_word Int v)) (Runs (on_with f ws) rest))
-act x Abort f rest = ends (Stop Aborted)
+act x Abort f rest = Ends (Stop Aborted)
 act x (NewException ty) f rest = goes (Runs (on_in f (holding f.nest (Building (new_exception ty)))) rest)
 act x (PutException n k) f rest = put_act n k f rest
 act x Throw f rest = built f.nest.held (λ e. unwinding e f rest)
-act x Rethrow f rest = if_some (current (f ∷ rest)) (ends (Stop Terminate)) (λ e. unwinding e f rest)
+act x Rethrow f rest = if_some (current (f ∷ rest)) (Ends (Stop Terminate)) (λ e. unwinding e f rest)
 act x (GetException n k) f rest = get_act n k f rest
 act x EndHandler f rest = in_handler f.nest.caught (goes (Runs (on_in f (handled f.nest)) rest))
 act x Resume f rest = flown f.nest.held (λ e. unwinding e f rest)
@@ -442,12 +434,12 @@ row_act x (suc (suc (suc zero))) target ws e f rest = edge_act (Raise NoExcept (
 row_act x (suc (suc (suc (suc zero)))) target ws e f rest = edge_act (Raise Commit (x.cancels e.ty)) target ws e f rest
 row_act x (suc (suc (suc (suc (suc zero))))) target ws e f rest = edge_act (Raise Cancel (x.cancels e.ty)) target ws e f rest
 row_act x (suc (suc (suc (suc (suc (suc zero)))))) target ws e f rest = edge_act EndSyncOf target ws e f rest
-row_act x (suc (suc (suc (suc (suc (suc (suc n))))))) target ws e f rest = lost
+row_act x (suc (suc (suc (suc (suc (suc (suc n))))))) target ws e f rest = Lost
 
 -- no row does: the frame is left, unless the function lets no exception out
 abbrev pub leave_act : Names → Exception → Frame → List Frame → Act
-leave_act x e f [] = ends (Stop Terminate)
-leave_act x e f (g ∷ rest) = if x.no_except f.home.func then ends (Stop Terminate) else goes (Unwinds e g rest)
+leave_act x e f [] = Ends (Stop Terminate)
+leave_act x e f (g ∷ rest) = if x.no_except f.home.func then Ends (Stop Terminate) else goes (Unwinds e g rest)
 
 abbrev pub unwind_act : Names → Option Row → Exception → Frame → List Frame → Act
 unwind_act x None e f rest = leave_act x e f rest
@@ -471,10 +463,8 @@ abbrev pub rows_in : Names → Home → List Row
 rows_in x h = map (renamed_row (x.numbering h.func)) (rows_of (x.body h.func h.safe))
 
 abbrev pub step_act : Names → State → Act
-step_act x (Runs f rest) = if_some (fetch x f.home f.index) lost (λ i. act x i f rest)
+step_act x (Runs f rest) = if_some (fetch x f.home f.index) Lost (λ i. act x i f rest)
 step_act x (Unwinds e f rest) = unwind_act x (find (rows_in x f.home) f.index e.ty) e f rest
-step_act x (Ended e) = ends e
-step_act x Lost = lost
 
 -- a thread at the start of a function, with the words that it is called with
 abbrev pub starts : Names → (thread func : ℕ) → List ℕ → State
@@ -483,14 +473,22 @@ starts x thread func ws = Runs (first_frame (record { thread = thread; func = fu
 abbrev pub blocks_of : State → List Open
 blocks_of (Runs f rest) = blocks_in (f ∷ rest)
 blocks_of (Unwinds e f rest) = blocks_in (f ∷ rest)
-blocks_of (Ended e) = []
-blocks_of Lost = []
+
+abbrev pub event_of : Act → Event
+event_of (Does e on) = e
+event_of (Ends e) = e
+event_of Lost = Stop Aborted
+
+abbrev pub state_after : State → Act → Reply → State
+state_after s (Does e on) r = on r
+state_after s (Ends e) r = s
+state_after s Lost r = s
 
 -- the meaning of code
 abbrev pub thread : Names → Thread State
 thread x = record {
-  next = λ s. (step_act x s).event;
-  after = λ s r. (step_act x s).on r;
+  next = λ s. event_of (step_act x s);
+  after = λ s r. state_after s (step_act x s) r;
   child = λ s number func arg. starts x number func (word_of arg ∷ []);
   blocks = blocks_of;
 }

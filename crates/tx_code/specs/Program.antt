@@ -5,6 +5,7 @@ use Rattle.std.specs.Option.{option_map_or, option_and_then}
 use Rattle.std.specs.Str.{bytes_eq}
 use Rattle.tx_code.specs.Objects.{BodyView}
 use Rattle.tx_code.specs.Images.{ImageFuncView, ImageClassView, ImageView}
+use Rattle.tx_code.specs.Signatures.{without_safety}
 use Rattle.tx_code.specs.Renaming.{itself}
 use Rattle.tx_code.specs.Meaning.{Names, State, starts}
 
@@ -33,9 +34,9 @@ body_in f false = Some f.plain
 body_in f true = f.safe
 
 abbrev pub if_typed : ImageFuncView → List ℕ → ℕ → Option ℕ
-if_typed f ty n = if bytes_eq f.ty ty then Some n else None
+if_typed f ty n = if bytes_eq (without_safety f.ty) (without_safety ty) then Some n else None
 
--- the function of this type at an address
+-- the function of this type at an address, safety aside
 abbrev pub func_at : List ImageFuncView → (ty : List ℕ) → (address : ℕ) → Option ℕ
 func_at funcs ty a = option_and_then (λ n. option_and_then (λ (f : ImageFuncView). if_typed f ty n) (slice_get funcs n)) (number_at (2 ^ 40) a)
 

@@ -146,11 +146,11 @@ targets a i = (i + 1) ∷ []
 -- ---- the effect of a row
 
 -- the shape at its target: in a cleanup and behind an edge an exception is in flight
-abbrev pub landed : (what depth : ℕ) → Shape → Shape
-landed zero d s = shape d s.opens s.handlers Flies
-landed (suc zero) d s = shape d s.opens (suc s.handlers) Empty
-landed (suc (suc zero)) d s = shape d s.opens (suc s.handlers) Empty
-landed (suc (suc (suc n))) d s = shape d (rest_of s.opens) s.handlers Flies
+abbrev pub landed : (what depth : ℕ) → List Open → (handlers : ℕ) → Shape
+landed zero d opens n = shape d opens n Flies
+landed (suc zero) d opens n = shape d opens (suc n) Empty
+landed (suc (suc zero)) d opens n = shape d opens (suc n) Empty
+landed (suc (suc (suc w))) d opens n = shape d (rest_of opens) n Flies
 
 -- ---- which indexes come
 
@@ -169,4 +169,4 @@ pub record Effect (x : Table) (own : ℕ) (b : BodyView) (i : ℕ) (s : Shape) :
 pub data Reaches (x : Table) (own : ℕ) (b : BodyView) (entry : Shape) : ℕ → Shape → Type 0 where
   enters : Reaches x own b entry 0 entry
   falls : {i j : ℕ} {s : Shape} → Reaches x own b entry i s → (e : Effect x own b i s) → Among j (targets e.instr i) → Reaches x own b entry j e.next
-  lands : {i : ℕ} {s : Shape} → Reaches x own b entry i s → Effect x own b i s → (r : Row) → Among r b.rows → covers r i ≡ true → Reaches x own b entry r.target (landed r.what r.depth s)
+  lands : {i : ℕ} {s : Shape} → Reaches x own b entry i s → Effect x own b i s → (r : Row) → Among r b.rows → covers r i ≡ true → Reaches x own b entry r.target (landed r.what r.depth s.opens s.handlers)

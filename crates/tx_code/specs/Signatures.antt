@@ -65,9 +65,13 @@ function_ending Bare = None
 function_ending (Open depth inside) = None
 function_ending (Whole before inside) = if is_result before then Some (record { before = before; inside = inside }) else None
 
+-- a type's spelling, safety aside
+abbrev pub without_safety : List ℕ → List ℕ
+without_safety name = without_suffix (codes " transaction_safe") name
+
 -- a function type's result and parameters, and none of another name
 abbrev pub function_parts : List ℕ → Option Parts
-function_parts name = function_ending (ending (without_suffix (codes " transaction_safe") name))
+function_parts name = function_ending (ending (without_safety name))
 
 -- ---- results
 
