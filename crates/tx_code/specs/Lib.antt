@@ -10,3 +10,4 @@ pub mod Shapes
 pub mod Sound
 pub mod InShape
 pub mod Linked
+pub mod Examples

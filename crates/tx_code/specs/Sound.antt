@@ -1,5 +1,5 @@
 -- Sound code, by eleven clauses on each body of a function.
-use Rattle.std.specs.Prelude.{Bool, true, false, ◌≡◌, ℕ, zero, suc, ◌+◌, ◌-◌, ◌%◌, List, [], ◌∷◌, length, Option, Some, None, IfSome, not, ◌&&◌, ◌||◌, nat_lt, nat_le, nat_eq, is_some, if◌then◌else◌, slice_get}
+use Rattle.std.specs.Prelude.{Bool, true, false, ◌≡◌, ℕ, zero, suc, ◌+◌, ◌-◌, ◌%◌, find, unwrap_or, List, [], ◌∷◌, length, Option, Some, None, IfSome, not, ◌&&◌, ◌||◌, nat_lt, nat_le, nat_eq, is_some, if◌then◌else◌, slice_get}
 use Rattle.std.specs.List.{list_all, list_any}
 use Rattle.std.specs.Option.{option_map_or}
 use Rattle.tx_ints.specs.declared.kinds.IntKind.{IntKind}
@@ -9,7 +9,8 @@ use Rattle.tx_events.specs.declared.BlockKind.TheVariants.{NoExcept, Commit, Can
 use Rattle.tx_code.specs.declared.instr.Instr.{Instr}
 use Rattle.tx_code.specs.declared.instr.Instr.TheVariants.{Push, Dup, Pop, Swap, FrameAddr, GlobalAddr, FuncAddr, ClassAddr, Load, Store, TLoad, TStore, VLoad, VStore, Bin, Neg, Conv, Jump, JumpZero, Call, TCall, CallIndirect, TCallIndirect, Slot, Ret, Begin, End, BeginSync, EndSync, Out, Inp, Spawn, Join, Abort, NewException, PutException, Throw, Rethrow, GetException, EndHandler, Resume, Over}
 use Rattle.tx_code.specs.declared.body.Row.{Row}
-use Rattle.tx_code.specs.Objects.{BodyView, FuncView, ClassView, ObjectView}
+use Rattle.tx_code.specs.Objects.{BodyView, FuncView, ClassView, GlobalView, ObjectView}
+use Rattle.tx_code.specs.WellFormed.{is_defined, is_wanted_safe}
 use Rattle.tx_code.specs.Images.{ImageFuncView, ImageClassView, ImageView}
 use Rattle.tx_code.specs.Signatures.{takes_of, gives_of}
 use Rattle.tx_code.specs.Meaning.{kinds, operators, block_kinds, size_of, covers}
@@ -234,3 +235,35 @@ pub record SoundFunc (x : Table) (f : ImageFuncView) : Type 0 where
 -- a sound image
 abbrev pub Sound : ImageView → Type 0
 Sound i = (n : ℕ) (f : ImageFuncView) → slice_get i.funcs n ≡ Some f → SoundFunc (table_of i) f
+
+-- ---- objects
+
+abbrev pub entry_of : ObjectView → (name : ℕ) → Option FuncView
+entry_of o name = find (λ (f : FuncView). nat_eq f.symbol name) o.funcs
+
+abbrev pub spelling : ObjectView → (name : ℕ) → List ℕ
+spelling o name = unwrap_or (slice_get o.names name) []
+
+-- what an object's names stand for, by its own entries; a function that is wanted safe has a safe body
+abbrev pub object_table : ObjectView → Table
+object_table o = record {
+  is_global = λ n. list_any (λ (g : GlobalView). nat_eq g.symbol n) o.globals;
+  is_func = λ n. is_some (entry_of o n);
+  is_class = λ n. list_any (λ (c : ClassView). nat_eq c.name n) o.classes;
+  is_slot = λ n slot. list_any (λ (c : ClassView). nat_eq c.name n && nat_lt slot (length c.slots)) o.classes;
+  is_type = λ n. nat_lt n (length o.names);
+  has_safe = λ n. option_map_or is_wanted_safe (entry_of o n) false;
+  takes = λ n. option_map_or (λ (f : FuncView). takes_of (spelling o f.ty)) (entry_of o n) 0;
+  gives = λ n. option_map_or (λ (f : FuncView). gives_of (spelling o f.ty)) (entry_of o n) 0;
+  type_takes = λ n. takes_of (spelling o n);
+  type_gives = λ n. gives_of (spelling o n);
+}
+
+pub record SoundEntry (o : ObjectView) (f : FuncView) : Type 0 where
+  pub frame : (not (is_defined f) || frame_right f.frame) ≡ true
+  pub plain : IfSome f.plain (SoundBody (object_table o) (signature (spelling o f.ty)) false)
+  pub safe : IfSome f.safe (SoundBody (object_table o) (signature (spelling o f.ty)) true)
+
+-- a sound object
+abbrev pub SoundObject : ObjectView → Type 0
+SoundObject o = (f : FuncView) → Among f o.funcs → SoundEntry o f

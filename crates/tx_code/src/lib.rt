@@ -14,6 +14,7 @@ pub mod instr;
 pub mod laws;
 pub mod linked;
 pub mod object;
+pub mod runs;
 pub mod standing;
 
 pub use body::{Body, LineRow, Row};
