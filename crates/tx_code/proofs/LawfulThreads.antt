@@ -24,10 +24,10 @@ use Rattle.tx_code.specs.Program.{body_in, names_of, first_state}
 use Rattle.tx_code.specs.Shapes.{Empty, Shape, shape, Table, landed, Among, Reaches, enters}
 use Rattle.tx_code.specs.Sound.{signature, table_of, edge_right, has_edge, Sound}
 use Rattle.tx_code.specs.InShape.{shape_of, Spot, ReachesAt, Ready, Lands, Unwindable, Below, InShape, IsLost}
-use Rattle.tx_code.proofs.Indexes.{or_false, instr_at}
-use Rattle.tx_code.proofs.Renamed.{same_instr, same_row}
-use Rattle.tx_code.proofs.Kept.{kind_front, sync_front, rest_kind, rest_sync, none_open, cut_length, find_some, find_none, Startable, Sane, quiet, event, there_sane, if_sane, spot_sound, no_start}
-use Rattle.tx_code.proofs.Acts.{act_sane}
+use Rattle.tx_code.proofs.ReachedIndexes.{or_false, instr_at}
+use Rattle.tx_code.proofs.OwnBodies.{same_instr, same_row}
+use Rattle.tx_code.proofs.SaneSteps.{kind_front, sync_front, rest_kind, rest_sync, none_open, cut_length, find_some, find_none, Startable, Sane, quiet, event, there_sane, if_sane, spot_sound, no_start}
+use Rattle.tx_code.proofs.SaneInstructions.{act_sane}
 
 rows_itself : (rs : List Row) → map (renamed_row itself) rs ≡ rs
 rows_itself [] = refl
@@ -120,10 +120,13 @@ module _ (i : ImageView) (sound : Sound i) where
 
   -- a thread at the start of a function that takes these words
   start_in : (number func : ℕ) (ws : List ℕ) (g : ImageFuncView) → slice_get i.funcs func ≡ Some g → takes_of g.ty ≡ length ws → InShape i (starts x number func ws)
-  start_in number func ws g is e = (record {
-    spot = record { func = g; is = is; body = g.plain; has = refl };
-    reached = subst (λ n. Reaches t (gives_of g.ty) g.plain (shape (takes_of g.ty) [] 0 Empty) 0 (shape n [] 0 Empty)) e enters;
-  }, tt)
+  start_in number func ws g is e = (
+    record {
+      spot = record { func = g; is = is; body = g.plain; has = refl };
+      reached = subst (λ n. Reaches t (gives_of g.ty) g.plain (shape (takes_of g.ty) [] 0 Empty) 0 (shape n [] 0 Empty)) e enters;
+    },
+    tt,
+  )
 
   pub lawful : Lawful State (InShape i) (thread x)
   lawful = record {

@@ -1,6 +1,7 @@
+pub mod LineLemmas
 mod Lockstep
-mod Renamed
-mod Indexes
-mod Kept
-mod Acts
+mod OwnBodies
+mod ReachedIndexes
+mod SaneSteps
+mod SaneInstructions
 mod LawfulThreads

@@ -9,5 +9,6 @@ pub mod Program
 pub mod Shapes
 pub mod Sound
 pub mod InShape
+pub mod Lines
 pub mod Linked
 pub mod Examples

@@ -1,4 +1,4 @@
-use Rattle.tx_code.proofs.Renamed.{own_same, own_within}
+use Rattle.tx_code.proofs.OwnBodies.{own_same, own_within}
 use Rattle.tx_code.proofs.laws.bodies_keep_their_events.Goals as goal
 
 pub returns-clause-same : goal.returns-clause-same

@@ -28,7 +28,7 @@ use Rattle.tx_code.specs.Program.{body_in, names_of}
 use Rattle.tx_code.specs.Shapes.{Hand, Empty, Builds, Flies, Shape, shape, Table, less, more, moves, outgoing, targets, landed, Among, here, there, Effect, Reaches, enters, falls, lands}
 use Rattle.tx_code.specs.Sound.{entry, signature, table_of, edge_right, has_edge, is_edge, is_inside, left_at, kept, SoundBody, SoundFunc, Sound, is_known, row_is_known, names_right, passes, exception_right, inside_right, outside_right, closes_right}
 use Rattle.tx_code.specs.InShape.{hand_of, shape_of, Spot, ReachesAt, Ready, Lands, Unwindable, Suspended, Below, InShape}
-use Rattle.tx_code.proofs.Indexes.{and_left, and_right, or_false, get_at, all_at, all_among, instr_at}
+use Rattle.tx_code.proofs.ReachedIndexes.{and_left, and_right, or_false, get_at, all_at, all_among, instr_at}
 
 -- ---- blocks of lists of frames
 

@@ -28,8 +28,9 @@ use Rattle.tx_code.specs.Program.{body_in, names_of, if_typed, func_at, number_a
 use Rattle.tx_code.specs.Shapes.{Empty, Builds, Shape, shape, Table, less, more, moves, grown, with_depth, opened, closed, fewer, is_free, at_rest, returned, outgoing, targets, Among, here, there, Reaches, enters, falls}
 use Rattle.tx_code.specs.Sound.{signature, table_of, is_inside, left_at, Sound, is_kind, is_promoted, lies_in_exception, is_building, is_flying, inside_right, outside_right}
 use Rattle.tx_code.specs.InShape.{hand_of, shape_of, Spot, ReachesAt, Ready, Suspended, Below}
-use Rattle.tx_code.proofs.Indexes.{and_left, and_right, get_at}
-use Rattle.tx_code.proofs.Kept.{atomic_front, sync_front, rest_atomic, rest_sync, none_open, less_one_more, there_less, kept_is, Startable, Sane, quiet, event, trapped, some_sane, there_sane, result_sane, if_sane, no_start, spot_sound, gives_is, outside_all, inside_all, effect, on_to, unwinds, known, named, passed, excepts, closes, finds, well_inside, one_sane, two_sane, operands, moved_sane}
+use Rattle.tx_code.proofs.ReachedIndexes.{and_left, and_right, get_at}
+use Rattle.tx_code.proofs.SaneSteps.{atomic_front, sync_front, rest_atomic, rest_sync, none_open, less_one_more, there_less, kept_is, Startable, Sane, quiet, event, trapped, some_sane, there_sane, result_sane, if_sane, no_start, spot_sound, gives_is, outside_all, inside_all, effect, on_to, unwinds, known, named, passed, excepts, closes, finds, well_inside, one_sane, two_sane, operands, moved_sane}
+
 -- ---- sizes and values of accesses
 
 size_fits : (k : IntKind) → is_size (size_of k) ≡ true
@@ -112,6 +113,7 @@ gives_small ty n h = by_parts (function_parts ty) h where
   by_bool : (b : Bool) → (if b then 0 else 1) ≡ suc (suc n) → ⊥
   by_bool true h = omega arith
   by_bool false h = omega arith
+
   by_parts : (o : Option Parts) → option_map_or words_returned o 0 ≡ suc (suc n) → ⊥
   by_parts None h = omega arith
   by_parts (Some p) h = by_bool (returns_void p || returns_class p) h
@@ -205,8 +207,8 @@ module _ (i : ImageView) (sound : Sound i) where
     entered_sane a is m func safe args ws g b present has e l d mode =
         there_sane i sound bs (x.body func safe) Lost _ b (ap (λ o. option_and_then (λ (g : ImageFuncView). body_in g safe) o) present ∙ has)
         (if_sane i sound bs (fits x (next_home x f.home func safe)) _ _
-          (quiet i sound bs _ (first_ready func safe args _ g b present has e, (suspended a is m (t.gives func) ws l d, mode, below_it)) refl)
-          (trapped i sound bs StackOverflow))
+        (quiet i sound bs _ (first_ready func safe args _ g b present has e, (suspended a is m (t.gives func) ws l d, mode, below_it)) refl)
+        (trapped i sound bs StackOverflow))
 
     call_sane : (a : Instr) → At a → Among (f.index + 1) (targets a f.index) → (func n : ℕ) (safe : Bool) → ((s : Shape) → outgoing t own a s ≡ moves n (t.gives func) s) → ((d m : ℕ) → less n d ≡ Some m → left_at a d ≡ m) → t.is_func func ≡ true → nat_eq n (t.takes func) ≡ true → ((g : ImageFuncView) → slice_get i.funcs func ≡ Some g → (b : BodyView) × (body_in g safe ≡ Some b)) → (is_inside f.home.safe f.nest.opens ≡ true → safe ≡ true) → Right bs (call_act x func safe n f rest)
     call_sane a is m func n safe e l named passed has mode =
@@ -225,13 +227,13 @@ module _ (i : ImageView) (sound : Sound i) where
     indirect_sane a is m ty n safe e l passed mode checks =
         let d = operands i sound f rest ready below_it a is (suc n) (t.type_gives ty) e in
         moved_sane i sound f rest ready below_it a is n f.words [] (suc d.0) _ (less_one_more n (length f.words) d.0 d.1) (λ args ws la lw. under ws d.0 _ lw (λ w below lb.
-            some_sane i sound bs (x.called ty w) (traps BadCall) _ (trapped i sound bs BadCall) (λ func c.
-                let k = called_is i.funcs i.types ty w func c in
-                let takes : n ≡ takes_of k.0.ty = eqb-true n (t.type_takes ty) passed ∙ k.2 in
-                let gives : t.type_gives ty ≡ t.gives func = k.3 ∙ sym (ap (λ o. option_map_or (λ (g : ImageFuncView). gives_of g.ty) o 0) k.1) in
-                checks func _ (λ g is_g b has. entered_sane a is m func safe args below g b is_g has (la ∙ plus_zero n ∙ takes ∙ ap (λ (g : ImageFuncView). takes_of g.ty) (same_Some k.0 g (sym k.1 ∙ is_g)))
-                    (e (shape_of f) ∙ ap (λ z. with_depth (shape_of f) (grown (t.type_gives ty) z)) d.1 ∙ ap (λ z. Some (shape (more z d.0) f.nest.opens (length f.nest.caught) (hand_of f.nest.held))) gives ∙ ap (λ z. Some (shape (more (t.gives func) z) f.nest.opens (length f.nest.caught) (hand_of f.nest.held))) (sym lb))
-                    (l (length f.words) d.0 d.1 ∙ sym lb) mode) k.0 k.1)))
+        some_sane i sound bs (x.called ty w) (traps BadCall) _ (trapped i sound bs BadCall) (λ func c.
+        let k = called_is i.funcs i.types ty w func c in
+        let takes : n ≡ takes_of k.0.ty = eqb-true n (t.type_takes ty) passed ∙ k.2 in
+        let gives : t.type_gives ty ≡ t.gives func = k.3 ∙ sym (ap (λ o. option_map_or (λ (g : ImageFuncView). gives_of g.ty) o 0) k.1) in
+        checks func _ (λ g is_g b has. entered_sane a is m func safe args below g b is_g has (la ∙ plus_zero n ∙ takes ∙ ap (λ (g : ImageFuncView). takes_of g.ty) (same_Some k.0 g (sym k.1 ∙ is_g)))
+        (e (shape_of f) ∙ ap (λ z. with_depth (shape_of f) (grown (t.type_gives ty) z)) d.1 ∙ ap (λ z. Some (shape (more z d.0) f.nest.opens (length f.nest.caught) (hand_of f.nest.held))) gives ∙ ap (λ z. Some (shape (more (t.gives func) z) f.nest.opens (length f.nest.caught) (hand_of f.nest.held))) (sym lb))
+        (l (length f.words) d.0 d.1 ∙ sym lb) mode) k.0 k.1)))
 
     plain_checks : (func : ℕ) (ok : Act) → ((g : ImageFuncView) → slice_get i.funcs func ≡ Some g → (b : BodyView) → body_in g false ≡ Some b → Right bs ok) → (g : ImageFuncView) → slice_get i.funcs func ≡ Some g → Right bs (checked_act x func (in_transaction f rest) ok)
     plain_checks func ok h g is = by_mode (in_transaction f rest) where
@@ -260,10 +262,13 @@ module _ (i : ImageView) (sound : Sound i) where
 
     back_sane : (ws : List ℕ) (gs : List Frame) → Below i (t.gives f.home.func) f.home.safe gs → t.gives f.home.func ≡ length ws → is_empty f.nest.opens ≡ true → Right (blocks_in (f ∷ gs)) (back_act f.home ws gs)
     back_sane ws [] b e h = finish_sane (f.nest.opens ++ []) f.home.thread (status_of ws) (empty_both f.nest.opens h)
-    back_sane ws (g ∷ gs) b e h = quiet i sound (blocks_in (f ∷ g ∷ gs)) _ (record {
-      spot = b.0.spot;
-      reached = subst (λ n. ReachesAt i g.home b.0.spot (g.index + 1) (shape n g.nest.opens (length g.nest.caught) (hand_of g.nest.held))) (ap (λ n. more n (length g.words)) e ∙ sym (longer ws g.words)) b.0.back;
-    }, b.2) (none_open f.nest.opens (blocks_in (g ∷ gs)) h)
+    back_sane ws (g ∷ gs) b e h = quiet i sound (blocks_in (f ∷ g ∷ gs)) _ (
+      record {
+        spot = b.0.spot;
+        reached = subst (λ n. ReachesAt i g.home b.0.spot (g.index + 1) (shape n g.nest.opens (length g.nest.caught) (hand_of g.nest.held))) (ap (λ n. more n (length g.words)) e ∙ sym (longer ws g.words)) b.0.back;
+      },
+      b.2,
+    ) (none_open f.nest.opens (blocks_in (g ∷ gs)) h)
 
     -- what a return finds
     pub record Returns (n : ℕ) : Type 0 where
