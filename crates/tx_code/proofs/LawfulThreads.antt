@@ -1,30 +1,26 @@
 -- A thread of a sound image is lawful and never lost.
-use Rattle.std.proofs.Common.{Bool, true, false, ◌≡◌, ◌<◌, ◌≤◌, ℕ, zero, suc, ◌+◌, ℤ, List, [], ◌∷◌, ◌++◌, map, length, Option, Some, None, refl, sym, ap, ◌∙◌, subst, arith}
-use Rattle.std.specs.Prelude.{slice_get, nat_lt, nat_le, ◌&&◌, ◌||◌, is_some, if◌then◌else◌}
+use Rattle.std.proofs.Common.{Bool, true, false, ◌≡◌, ◌<◌, ℕ, zero, suc, ℤ, List, [], ◌∷◌, map, length, Option, Some, None, refl, sym, ap, ◌∙◌, subst, arith}
+use Rattle.std.specs.Prelude.{slice_get, nat_lt, nat_le, ◌||◌}
 use Rattle.std.specs.Option.{option_map, option_map_or, option_and_then}
 use Rattle.std.specs.Str.{bytes_eq}
 use Rattle.std.specs.Cmp.Lexicographic.{same_text}
 use Rattle.std.proofs.lemmas.Bool.{true≢false, ltb-true}
 use Rattle.tx_events.specs.declared.BlockKind.{BlockKind}
 use Rattle.tx_events.specs.declared.BlockKind.TheVariants.{NoExcept, Commit, Cancel}
-use Rattle.tx_events.specs.declared.End.TheVariants.{Terminate}
-use Rattle.tx_events.specs.declared.Event.{Event}
-use Rattle.tx_events.specs.declared.Event.TheVariants.{Raise, EndSync as EndSyncOf, Spawn as SpawnOf, Stop}
+use Rattle.tx_events.specs.declared.Event.TheVariants.{Raise, EndSync as EndSyncOf, Spawn as SpawnOf}
 use Rattle.tx_events.specs.declared.Reply.{Reply}
-use Rattle.tx_events.specs.Thread.{Open, Answers, Lawful, rest_of, in_kind, is_empty, may_come, blocks_after}
+use Rattle.tx_events.specs.Thread.{Open, Answers, Lawful, in_kind, is_empty, may_come, blocks_after}
 use Rattle.tx_events.specs.Same.{Descends, at_first, went_on, started}
-use Rattle.tx_code.specs.declared.instr.Instr.{Instr}
 use Rattle.tx_code.specs.declared.body.Row.{Row}
-use Rattle.tx_code.specs.Objects.{BodyView}
-use Rattle.tx_code.specs.Images.{ImageFuncView, ImageView, IsImage, is_main, main_type}
+use Rattle.tx_code.specs.Images.{ImageFuncView, ImageView, IsImage, main_type}
 use Rattle.tx_code.specs.Signatures.{takes_of, gives_of}
 use Rattle.tx_code.specs.Renaming.{itself, renamed, renamed_row}
 use Rattle.tx_code.specs.Meaning.{Names, Flying, Exception, Home, Nest, Frame, State, Runs, Unwinds, Act, Does, Ends, Lost, at, nested, holding, closing, catching, blocks_in, blocks_of, first_frame, covers, find, cut, act, row_act, leave_act, unwind_act, code_of, rows_of, fetch, rows_in, step_act, starts, event_of, state_after, thread}
 use Rattle.tx_code.specs.Program.{body_in, names_of, first_state}
-use Rattle.tx_code.specs.Shapes.{Empty, Shape, shape, Table, landed, Among, Reaches, enters}
+use Rattle.tx_code.specs.Shapes.{Empty, Shape, shape, Table, landed, Reaches, enters}
 use Rattle.tx_code.specs.Sound.{signature, table_of, edge_right, has_edge, Sound}
 use Rattle.tx_code.specs.InShape.{shape_of, Spot, ReachesAt, Ready, Lands, Unwindable, Below, InShape, IsLost}
-use Rattle.tx_code.proofs.ReachedIndexes.{or_false, instr_at}
+use Rattle.tx_code.proofs.ReachedIndexes.{instr_at}
 use Rattle.tx_code.proofs.OwnBodies.{same_instr, same_row}
 use Rattle.tx_code.proofs.SaneSteps.{kind_front, sync_front, rest_kind, rest_sync, none_open, cut_length, find_some, find_none, Startable, Sane, quiet, event, there_sane, if_sane, spot_sound, no_start}
 use Rattle.tx_code.proofs.SaneInstructions.{act_sane}

@@ -1,5 +1,5 @@
 -- Two threads that take the same steps, one for one.
-use Rattle.std.proofs.Common.{Bool, true, false, ◌≡◌, ℕ, zero, suc, inr, refl, sym, ◌∙◌, subst, arith}
+use Rattle.std.proofs.Common.{Bool, true, false, ◌≡◌, ℕ, zero, suc, inr, refl, sym, ◌∙◌, arith}
 use Rattle.tx_events.specs.declared.Event.{Event}
 use Rattle.tx_events.specs.declared.Event.TheVariants.{Silent, Load, Store, Out, Inp, Spawn, Join, BeginAtomic, EndAtomic, Raise, BeginSync, EndSync, Done, Stop}
 use Rattle.tx_events.specs.declared.Reply.{Reply}

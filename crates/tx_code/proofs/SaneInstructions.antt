@@ -1,5 +1,5 @@
 -- Each instruction of a sound image keeps a thread's state in shape.
-use Rattle.std.proofs.Common.{Bool, true, false, ◌≡◌, ◌<◌, ◌≤◌, ℕ, zero, suc, ◌+◌, ◌-◌, ◌*◌, ◌%◌, ◌^◌, ℤ, pos, negsuc, List, [], ◌∷◌, ◌++◌, length, Option, Some, None, refl, sym, ap, ◌∙◌, subst, arith}
+use Rattle.std.proofs.Common.{Bool, true, false, ◌≡◌, ◌<◌, ℕ, zero, suc, ◌+◌, ◌*◌, ◌^◌, ℤ, pos, negsuc, List, [], ◌∷◌, ◌++◌, length, Option, Some, None, refl, sym, ap, ◌∙◌, subst, arith}
 use Rattle.std.specs.Prelude.{slice_get, nat_lt, nat_le, nat_eq, not, ◌&&◌, ◌||◌, is_some, if◌then◌else◌, unsigned_abs}
 use Rattle.std.specs.Int.{int_rem_euclid}
 use Rattle.std.specs.Option.{option_map_or, option_and_then}
@@ -26,8 +26,8 @@ use Rattle.tx_code.specs.Signatures.{Parts, ending, function_ending, function_pa
 use Rattle.tx_code.specs.Meaning.{Names, Held, Free, Building, Flying, Exception, Frame, Act, Ends, Lost, goes, traps, one, if_some, with_kind, kinds, operators, block_kinds, size_of, bits_of, right_kind, at, on_with, holding, opening, closing, handled, rest_caught, first_frame, blocks_in, in_transaction, load_act, store_act, next_home, fits, entered_act, call_act, checked_act, call_indirect_act, finish, status_of, back_act, ret_act, new_exception, built, flown, in_handler, first_or, current, unwinding, act, Runs}
 use Rattle.tx_code.specs.Program.{body_in, names_of, if_typed, func_at, number_at, spawn_type}
 use Rattle.tx_code.specs.Shapes.{Empty, Builds, Shape, shape, Table, less, more, moves, grown, with_depth, opened, closed, fewer, is_free, at_rest, returned, outgoing, targets, Among, here, there, Reaches, enters, falls}
-use Rattle.tx_code.specs.Sound.{signature, table_of, is_inside, left_at, Sound, is_kind, is_promoted, lies_in_exception, is_building, is_flying, inside_right, outside_right}
-use Rattle.tx_code.specs.InShape.{hand_of, shape_of, Spot, ReachesAt, Ready, Suspended, Below}
+use Rattle.tx_code.specs.Sound.{table_of, is_inside, left_at, Sound, is_kind, is_promoted, lies_in_exception, is_building, is_flying, inside_right, outside_right}
+use Rattle.tx_code.specs.InShape.{hand_of, shape_of, ReachesAt, Ready, Suspended, Below}
 use Rattle.tx_code.proofs.ReachedIndexes.{and_left, and_right, get_at}
 use Rattle.tx_code.proofs.SaneSteps.{atomic_front, sync_front, rest_atomic, rest_sync, none_open, less_one_more, there_less, kept_is, Startable, Sane, quiet, event, trapped, some_sane, there_sane, result_sane, if_sane, no_start, spot_sound, gives_is, outside_all, inside_all, effect, on_to, unwinds, known, named, passed, excepts, closes, finds, well_inside, one_sane, two_sane, operands, moved_sane}
 

@@ -1,24 +1,16 @@
 -- Each step of a thread of a sound image keeps its state in shape.
-use Rattle.std.proofs.Common.{Bool, true, false, ◌≡◌, ◌<◌, ◌≤◌, ◌⊎◌, ℕ, zero, suc, ◌+◌, ◌-◌, ◌*◌, ◌^◌, ℤ, pos, List, [], ◌∷◌, ◌++◌, length, drop, Option, Some, None, Result, Ok, Err, refl, sym, ap, ◌∙◌, subst, arith, length-drop}
+use Rattle.std.proofs.Common.{Bool, true, false, ◌≡◌, ◌≤◌, ℕ, zero, suc, ◌+◌, ◌-◌, ℤ, List, [], ◌∷◌, ◌++◌, length, Option, Some, None, Result, Ok, Err, refl, sym, ap, ◌∙◌, subst, arith, length-drop}
 use Rattle.std.specs.Prelude.{slice_get, nat_lt, nat_le, nat_eq, not, ◌&&◌, ◌||◌, IfSome, is_some, if◌then◌else◌}
-use Rattle.std.specs.List.{list_all, list_any}
-use Rattle.std.specs.Option.{option_map, option_map_or, option_and_then}
-use Rattle.std.specs.Str.{bytes_eq}
-use Rattle.std.proofs.lemmas.Bool.{true≢false, ltb-true, leb-true, eqb-true}
-use Rattle.std.proofs.lemmas.Option.{same_Some, slice_get_within}
-use Rattle.std.specs.Cmp.Lexicographic.{same_text}
-use Rattle.tx_ints.specs.declared.kinds.IntKind.{IntKind}
+use Rattle.std.specs.Option.{option_map_or}
+use Rattle.std.proofs.lemmas.Bool.{true≢false, leb-true, eqb-true}
+use Rattle.std.proofs.lemmas.Option.{same_Some}
 use Rattle.tx_ints.specs.declared.kinds.ArithTrap.{ArithTrap}
 use Rattle.tx_events.specs.declared.BlockKind.{BlockKind}
-use Rattle.tx_events.specs.declared.BlockKind.TheVariants.{NoExcept, Commit, Cancel}
-use Rattle.tx_events.specs.declared.Trap.TheVariants.{StackOverflow, UnsafeCall, BadCall, BadVirtual}
-use Rattle.tx_events.specs.declared.End.TheVariants.{Exit, Abort as Aborted, Terminate, Trapped}
 use Rattle.tx_events.specs.declared.Event.{Event}
 use Rattle.tx_events.specs.declared.Event.TheVariants.{Silent, Load as LoadOf, Store as StoreOf, Out as OutOf, Inp as InpOf, Spawn as SpawnOf, Join as JoinOf, BeginAtomic, EndAtomic, Raise, BeginSync as BeginSyncOf, EndSync as EndSyncOf, Done, Stop}
 use Rattle.tx_events.specs.declared.Reply.{Reply}
-use Rattle.tx_events.specs.Thread.{Open, Atomic, Sync, Answers, rest_of, no_atomic, in_atomic, in_kind, in_sync, is_empty, is_size, may_come, blocks_after}
+use Rattle.tx_events.specs.Thread.{Open, Atomic, Sync, Answers, rest_of, no_atomic, in_atomic, in_kind, in_sync, is_empty, may_come, blocks_after}
 use Rattle.tx_code.specs.declared.instr.Instr.{Instr}
-use Rattle.tx_code.specs.declared.instr.Instr.TheVariants.{Push, Dup, Pop, Swap, FrameAddr, GlobalAddr, FuncAddr, ClassAddr, Load, Store, TLoad, TStore, VLoad, VStore, Bin, Neg, Conv, Jump, JumpZero, Call, TCall, CallIndirect, TCallIndirect, Slot, Ret, Begin, End, BeginSync, EndSync, Out, Inp, Spawn, Join, Abort, NewException, PutException, Throw, Rethrow, GetException, EndHandler, Resume, Over}
 use Rattle.tx_code.specs.declared.body.Row.{Row}
 use Rattle.tx_code.specs.Objects.{BodyView}
 use Rattle.tx_code.specs.Images.{ImageFuncView, ImageView}
@@ -26,9 +18,9 @@ use Rattle.tx_code.specs.Signatures.{takes_of, gives_of}
 use Rattle.tx_code.specs.Meaning.{Names, Held, Free, Building, Flying, Exception, Home, Nest, Frame, State, Runs, Unwinds, Act, Does, Ends, Lost, goes, asks, traps, one, two, moved, if_some, with_kind, kinds, size_of, at, nested, on_with, on_in, holding, opening, closing, catching, handled, rest_caught, bare, first_frame, blocks_in, in_transaction, covers, takes, find, cut, first_or, current, blocks_of}
 use Rattle.tx_code.specs.Program.{body_in, names_of}
 use Rattle.tx_code.specs.Shapes.{Hand, Empty, Builds, Flies, Shape, shape, Table, less, more, moves, outgoing, targets, landed, Among, here, there, Effect, Reaches, enters, falls, lands}
-use Rattle.tx_code.specs.Sound.{entry, signature, table_of, edge_right, has_edge, is_edge, is_inside, left_at, kept, SoundBody, SoundFunc, Sound, is_known, row_is_known, names_right, passes, exception_right, inside_right, outside_right, closes_right}
-use Rattle.tx_code.specs.InShape.{hand_of, shape_of, Spot, ReachesAt, Ready, Lands, Unwindable, Suspended, Below, InShape}
-use Rattle.tx_code.proofs.ReachedIndexes.{and_left, and_right, or_false, get_at, all_at, all_among, instr_at}
+use Rattle.tx_code.specs.Sound.{signature, table_of, has_edge, is_edge, is_inside, left_at, kept, SoundBody, SoundFunc, Sound, is_known, row_is_known, names_right, passes, exception_right, inside_right, closes_right}
+use Rattle.tx_code.specs.InShape.{hand_of, shape_of, Spot, Ready, Unwindable, Below, InShape}
+use Rattle.tx_code.proofs.ReachedIndexes.{and_left, all_at, all_among}
 
 -- ---- blocks of lists of frames
 

@@ -1,8 +1,8 @@
 -- Bodies and images written out by hand, and what their threads do.
-use Rattle.std.specs.Prelude.{Bool, true, false, ℕ, zero, suc, ◌+◌, List, [], ◌∷◌, ◌++◌, Option, Some, None, codes, ℤ}
+use Rattle.std.specs.Prelude.{Bool, false, ℕ, zero, suc, List, [], ◌∷◌, ◌++◌, Option, None, codes, ℤ}
 use Rattle.tx_events.specs.declared.End.TheVariants.{Abort as Aborted}
 use Rattle.tx_events.specs.declared.Event.{Event}
-use Rattle.tx_events.specs.declared.Event.TheVariants.{Silent, Load as LoadOf, Store as StoreOf, Out as OutOf, Inp as InpOf, Spawn as SpawnOf, Join as JoinOf, BeginAtomic, EndAtomic, Raise, BeginSync as BeginSyncOf, EndSync as EndSyncOf, Done, Stop}
+use Rattle.tx_events.specs.declared.Event.TheVariants.{Silent, Store as StoreOf, Stop}
 use Rattle.tx_events.specs.declared.Reply.{Reply}
 use Rattle.tx_events.specs.declared.Reply.TheVariants.{Nothing}
 use Rattle.tx_code.specs.declared.instr.Instr.{Instr}

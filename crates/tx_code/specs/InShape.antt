@@ -1,12 +1,12 @@
 -- The states that a thread of a sound image comes to: each frame stands at an index that its body reaches with the frame's
 -- shape, and each frame below at a call, behind which its body goes on.
-use Rattle.std.specs.Prelude.{Bool, true, false, ◌≡◌, ℕ, suc, ◌+◌, List, [], ◌∷◌, length, Option, Some, None, nat_lt, nat_le, ◌||◌, slice_get}
+use Rattle.std.specs.Prelude.{Bool, true, ◌≡◌, ℕ, ◌+◌, List, [], ◌∷◌, length, Some, nat_lt, nat_le, ◌||◌, slice_get}
 use Rattle.tx_events.specs.Thread.{is_empty}
 use Rattle.tx_code.specs.declared.body.Row.{Row}
 use Rattle.tx_code.specs.Objects.{BodyView}
 use Rattle.tx_code.specs.Images.{ImageFuncView, ImageView}
 use Rattle.tx_code.specs.Signatures.{gives_of}
-use Rattle.tx_code.specs.Meaning.{Held, Free, Building, Flying, Home, Frame, State, Runs, Unwinds, Act, Lost, covers, step_act}
+use Rattle.tx_code.specs.Meaning.{Held, Free, Building, Flying, Home, Frame, State, Runs, Unwinds, Lost, covers, step_act}
 use Rattle.tx_code.specs.Program.{body_in, names_of}
 use Rattle.tx_code.specs.Shapes.{Hand, Empty, Builds, Flies, Shape, shape, Among, Reaches, landed, more}
 use Rattle.tx_code.specs.Sound.{entry, signature, table_of, edge_right, has_edge, is_inside}

@@ -1,12 +1,11 @@
 -- The image that objects are linked to: which definitions are kept, and how they are numbered and placed.
-use Rattle.std.specs.Prelude.{Bool, true, false, ◌≡◌, ℕ, zero, suc, ◌+◌, ◌-◌, ◌*◌, ◌/◌, ◌%◌, ◌^◌, List, [], ◌∷◌, ◌++◌, map, filter, length, Option, Some, None, unwrap_or, not, ◌&&◌, ◌||◌, nat_eq, if◌then◌else◌, slice_get, codes}
+use Rattle.std.specs.Prelude.{Bool, true, false, ◌≡◌, ℕ, zero, suc, ◌+◌, ◌-◌, ◌*◌, ◌/◌, ◌%◌, ◌^◌, List, [], ◌∷◌, ◌++◌, map, filter, Option, Some, None, unwrap_or, not, ◌&&◌, nat_eq, if◌then◌else◌, slice_get, codes}
 use Rattle.std.specs.List.{list_any, flat_map, starts_with, position}
 use Rattle.std.specs.Option.{option_map, option_map_or, option_and_then}
 use Rattle.std.specs.Str.{bytes_eq}
 use Rattle.tx_events.specs.declared.GlobalCell.{GlobalCell}
 use Rattle.tx_code.specs.declared.instr.Instr.{Instr}
 use Rattle.tx_code.specs.declared.instr.Instr.TheVariants.{CallIndirect, TCallIndirect, NewException}
-use Rattle.tx_code.specs.declared.body.Row.{Row}
 use Rattle.tx_code.specs.declared.object.ObjCell.{ObjCell}
 use Rattle.tx_code.specs.Objects.{BodyView, ClassView, GlobalView, FuncView, ObjectView}
 use Rattle.tx_code.specs.WellFormed.{ascends, bytes_lt, is_defined, is_no_except, named_by_row}

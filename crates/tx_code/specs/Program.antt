@@ -1,5 +1,5 @@
 -- What the numbers of an image stand for.
-use Rattle.std.specs.Prelude.{Bool, true, false, ℕ, zero, suc, ◌+◌, ◌-◌, ◌*◌, ◌/◌, ◌%◌, ◌^◌, List, [], ◌∷◌, length, Option, Some, None, ◌&&◌, ◌||◌, nat_le, nat_eq, if◌then◌else◌, slice_get, codes}
+use Rattle.std.specs.Prelude.{Bool, true, false, ℕ, zero, suc, ◌+◌, ◌-◌, ◌*◌, ◌/◌, ◌%◌, ◌^◌, List, [], length, Option, Some, None, ◌&&◌, ◌||◌, nat_le, nat_eq, if◌then◌else◌, slice_get, codes}
 use Rattle.std.specs.List.{starts_with}
 use Rattle.std.specs.Option.{option_map_or, option_and_then}
 use Rattle.std.specs.Str.{bytes_eq}

@@ -1,5 +1,5 @@
 -- Names by other numbers.
-use Rattle.std.specs.Prelude.{Bool, true, false, ℕ, List, map, Option, nat_eq, if◌then◌else◌}
+use Rattle.std.specs.Prelude.{ℕ, map, nat_eq, if◌then◌else◌}
 use Rattle.tx_code.specs.declared.instr.Instr.{Instr}
 use Rattle.tx_code.specs.declared.instr.Instr.TheVariants.{GlobalAddr, FuncAddr, ClassAddr, Call, TCall, CallIndirect, TCallIndirect, Slot, NewException}
 use Rattle.tx_code.specs.declared.body.Row.{Row}

@@ -1,5 +1,5 @@
 -- Shapes: what stands ready at an index of a body, and what an instruction or a row makes of it.
-use Rattle.std.specs.Prelude.{Bool, true, false, ◌≡◌, ℕ, zero, suc, ◌+◌, List, [], ◌∷◌, Option, Some, None, not, ◌&&◌, ◌||◌, nat_lt, nat_eq, if◌then◌else◌, slice_get}
+use Rattle.std.specs.Prelude.{Bool, true, false, ◌≡◌, ℕ, zero, suc, ◌+◌, List, [], ◌∷◌, Option, Some, None, ◌&&◌, nat_eq, slice_get}
 use Rattle.tx_events.specs.declared.BlockKind.{BlockKind}
 use Rattle.tx_events.specs.Thread.{Open, Atomic, Sync, in_atomic, in_sync, rest_of, is_empty}
 use Rattle.tx_code.specs.declared.instr.Instr.{Instr}

@@ -1,20 +1,18 @@
 -- Sound code, by eleven clauses on each body of a function.
-use Rattle.std.specs.Prelude.{Bool, true, false, ◌≡◌, ℕ, zero, suc, ◌+◌, ◌-◌, ◌%◌, find, unwrap_or, List, [], ◌∷◌, length, Option, Some, None, IfSome, not, ◌&&◌, ◌||◌, nat_lt, nat_le, nat_eq, is_some, if◌then◌else◌, slice_get}
+use Rattle.std.specs.Prelude.{Bool, true, false, ◌≡◌, ℕ, zero, suc, ◌+◌, ◌-◌, ◌%◌, find, unwrap_or, List, [], length, Option, Some, IfSome, not, ◌&&◌, ◌||◌, nat_lt, nat_le, nat_eq, is_some, slice_get}
 use Rattle.std.specs.List.{list_all, list_any}
 use Rattle.std.specs.Option.{option_map_or}
-use Rattle.tx_ints.specs.declared.kinds.IntKind.{IntKind}
-use Rattle.tx_ints.specs.Integers.{rank}
-use Rattle.tx_events.specs.Thread.{Open, Atomic, Sync, in_atomic, in_kind, in_sync, no_atomic, is_empty}
+use Rattle.tx_events.specs.Thread.{Open, in_atomic, in_kind, in_sync, no_atomic, is_empty}
 use Rattle.tx_events.specs.declared.BlockKind.TheVariants.{NoExcept, Commit, Cancel}
 use Rattle.tx_code.specs.declared.instr.Instr.{Instr}
-use Rattle.tx_code.specs.declared.instr.Instr.TheVariants.{Push, Dup, Pop, Swap, FrameAddr, GlobalAddr, FuncAddr, ClassAddr, Load, Store, TLoad, TStore, VLoad, VStore, Bin, Neg, Conv, Jump, JumpZero, Call, TCall, CallIndirect, TCallIndirect, Slot, Ret, Begin, End, BeginSync, EndSync, Out, Inp, Spawn, Join, Abort, NewException, PutException, Throw, Rethrow, GetException, EndHandler, Resume, Over}
+use Rattle.tx_code.specs.declared.instr.Instr.TheVariants.{GlobalAddr, FuncAddr, ClassAddr, Load, Store, TLoad, TStore, VLoad, VStore, Bin, Neg, Conv, Jump, JumpZero, Call, TCall, CallIndirect, TCallIndirect, Slot, Ret, Begin, End, EndSync, Out, Inp, Spawn, Join, Abort, NewException, PutException, Throw, Rethrow, GetException, EndHandler, Resume}
 use Rattle.tx_code.specs.declared.body.Row.{Row}
 use Rattle.tx_code.specs.Objects.{BodyView, FuncView, ClassView, GlobalView, ObjectView}
 use Rattle.tx_code.specs.WellFormed.{is_defined, is_wanted_safe}
 use Rattle.tx_code.specs.Images.{ImageFuncView, ImageClassView, ImageView}
 use Rattle.tx_code.specs.Signatures.{takes_of, gives_of}
-use Rattle.tx_code.specs.Meaning.{kinds, operators, block_kinds, size_of, covers}
-use Rattle.tx_code.specs.Shapes.{Hand, Empty, Builds, Flies, Shape, shape, Table, less, outgoing, Among, Effect, Reaches}
+use Rattle.tx_code.specs.Meaning.{kinds, size_of, covers}
+use Rattle.tx_code.specs.Shapes.{Hand, Empty, Builds, Flies, Shape, shape, Table, less, outgoing, Among, Reaches}
 
 -- a function as its bodies are judged: the words that it takes and hands back
 pub record Signature : Type 0 where

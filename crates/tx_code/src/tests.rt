@@ -1,10 +1,12 @@
 //! The tables and the lines of instructions, at values from outside.
 use crate::{LineRow, block_kind, int_kind, line, operator, size};
+use std::process::Abort;
+use std::test::*;
 use tx_events::BlockKind;
 use tx_ints::{BinOp, IntKind};
 
 #[test]
-fn numbers_of_tables(rt: TestRuntime) {
+fn numbers_of_tables(rt: HostRuntime) {
     assert!(rt; int_kind(9) == Some(IntKind::ULong));
     assert!(rt; int_kind(12).is_none());
     assert!(rt; operator(15) == Some(BinOp::Ne));
