@@ -1,6 +1,6 @@
 -- The image that objects are linked to: which definitions are kept, and how they are numbered and placed.
 use Rattle.std.specs.Prelude.{Bool, true, false, ◌≡◌, ℕ, zero, suc, ◌+◌, ◌-◌, ◌*◌, ◌/◌, ◌%◌, ◌^◌, List, [], ◌∷◌, ◌++◌, map, filter, Option, Some, None, unwrap_or, not, ◌&&◌, nat_eq, if◌then◌else◌, slice_get, codes}
-use Rattle.std.specs.List.{list_any, flat_map, starts_with, position}
+use Rattle.std.specs.List.{list_any, flat_map, starts_with, position_from}
 use Rattle.std.specs.Option.{option_map, option_map_or, option_and_then}
 use Rattle.std.specs.Str.{bytes_eq}
 use Rattle.tx_events.specs.declared.GlobalCell.{GlobalCell}
@@ -51,13 +51,16 @@ defines symbol d = not (is_internal d) && bytes_eq (func_symbol d) symbol
 abbrev pub repeats : (earlier : List FuncDef) → FuncDef → Bool
 repeats earlier d = not (is_internal d) && list_any (defines (func_symbol d)) earlier
 
-abbrev pub first_ones : (earlier : List FuncDef) → List FuncDef → List FuncDef
-first_ones earlier [] = []
-first_ones earlier (d ∷ ds) = if repeats earlier d then first_ones earlier ds else d ∷ first_ones (d ∷ earlier) ds
+abbrev pub kept_with : List FuncDef → FuncDef → List FuncDef
+kept_with kept d = if repeats kept d then kept else kept ++ d ∷ []
+
+abbrev pub kept_after : List FuncDef → List FuncDef → List FuncDef
+kept_after kept [] = kept
+kept_after kept (d ∷ ds) = kept_after (kept_with kept d) ds
 
 -- the functions of the image, by their numbers
 abbrev pub kept_funcs : List ObjectView → List FuncDef
-kept_funcs os = first_ones [] (func_defs 0 os)
+kept_funcs os = kept_after [] (func_defs 0 os)
 
 -- the internal definition of a name in the object at this position
 abbrev pub is_own : (at name : ℕ) → FuncDef → Bool
@@ -69,7 +72,7 @@ or_else (Some n) o = Some n
 
 -- the number of the function that a name of an object stands for
 abbrev pub func_number : List ObjectView → (at : ℕ) → ObjectView → (name : ℕ) → Option ℕ
-func_number os at o name = or_else (position (is_own at name) (kept_funcs os)) (position (defines (name_in o name)) (kept_funcs os))
+func_number os at o name = or_else (position_from (is_own at name) 0 (kept_funcs os)) (position_from (defines (name_in o name)) 0 (kept_funcs os))
 
 -- ---- globals
 
@@ -159,16 +162,19 @@ class_name d = name_in d.object d.class.name
 abbrev pub has_class_name : List ℕ → ClassDef → Bool
 has_class_name name d = bytes_eq (class_name d) name
 
-abbrev pub first_classes : (earlier : List ClassDef) → List ClassDef → List ClassDef
-first_classes earlier [] = []
-first_classes earlier (d ∷ ds) = if list_any (has_class_name (class_name d)) earlier then first_classes earlier ds else d ∷ first_classes (d ∷ earlier) ds
+abbrev pub classes_with : List ClassDef → ClassDef → List ClassDef
+classes_with kept d = if list_any (has_class_name (class_name d)) kept then kept else kept ++ d ∷ []
+
+abbrev pub classes_after : List ClassDef → List ClassDef → List ClassDef
+classes_after kept [] = kept
+classes_after kept (d ∷ ds) = classes_after (classes_with kept d) ds
 
 -- the classes of the image, by their numbers: a repeated one keeps its first number
 abbrev pub kept_classes : List ObjectView → List ClassDef
-kept_classes os = first_classes [] (class_defs 0 os)
+kept_classes os = classes_after [] (class_defs 0 os)
 
 abbrev pub class_number : List ObjectView → ObjectView → (name : ℕ) → Option ℕ
-class_number os o name = position (has_class_name (name_in o name)) (kept_classes os)
+class_number os o name = position_from (has_class_name (name_in o name)) 0 (kept_classes os)
 
 abbrev pub or_none : (ℕ → Option ℕ) → ℕ → Option ℕ
 or_none number zero = None
@@ -196,7 +202,7 @@ abbrev pub types_named : List ObjectView → List (List ℕ)
 types_named os = flat_map types_in_def (kept_funcs os)
 
 abbrev pub type_number : (types : List (List ℕ)) → ObjectView → (name : ℕ) → Option ℕ
-type_number types o name = position (bytes_eq (name_in o name)) types
+type_number types o name = position_from (bytes_eq (name_in o name)) 0 types
 
 -- what the names of an object stand for
 abbrev pub numbering : List ObjectView → (types : List (List ℕ)) → (at : ℕ) → ObjectView → Numbering
@@ -241,7 +247,7 @@ pub record ImageOf (os : List ObjectView) (i : ImageView) : Type 0 where
   pub classes : i.classes ≡ map (image_class os) (kept_classes os)
   pub globals : i.globals ≡ image_cells os 0 (global_defs 0 os)
   pub size : i.size ≡ end_of 0 (global_defs 0 os)
-  pub main : position is_main_def (kept_funcs os) ≡ Some i.main
+  pub main : position_from is_main_def 0 (kept_funcs os) ≡ Some i.main
 
 -- ---- the objects' own bodies
 
