@@ -12,6 +12,7 @@ pub mod faults;
 pub mod kinds;
 pub mod laws;
 pub mod program;
+pub mod roles;
 
 pub use arena::{TNode, TNodeId, add_binary, add_leaf, add_node, add_unary};
 pub use faults::{ElabFault, IllRule, LimitKind, OverrideRule, UnsafeReason};
