@@ -34,7 +34,7 @@ impl Memory {
     ghost use Rattle.tx_events.specs.Memory.{can_access, load, store, update, no_bytes, with_cells};
     ghost use Rattle.tx_events.specs.Thread.{is_size};
     ghost use Rattle.tx_memory.specs.Words.{slot_of};
-    ghost use Rattle.tx_memory.specs.View.{place_of, words_of};
+    ghost use Rattle.tx_memory.specs.View.{layout_of, words_of};
     ghost use Rattle.tx_memory.specs.Cells.{lies_within};
 
     /// A memory with `size` bytes of globals and `threads` stacks, in which all bytes outside of the cells are zero.
@@ -49,7 +49,7 @@ impl Memory {
         requires cells { list_all (lies_within size) globals.now ≡ true }
         requires some { 0 < threads }
         requires threads { threads ≤ 64 }
-        ensures place { IfOk result (λ m. place_of m ≡ record { globals = size; limit = threads }) }
+        ensures layout { IfOk result (λ m. layout_of m ≡ record { globals = size; limit = threads }) }
         ensures words { IfOk result (λ m. words_of m ≡ with_cells no_bytes globals.now) }
     {
         let words = vec![in alloc; 0u64; size as usize / 8 + threads as usize * 8192]?;
@@ -72,9 +72,9 @@ impl Memory {
     /// misaligned.
     pub fn load(&self, addr: u64, size: u8) -> Option<u64>
         requires { is_size size ≡ true }
-        ensures value { result ≡ (if can_access (place_of self.now) addr size
+        ensures value { result ≡ (if can_access (layout_of self.now) addr size
             then Some (load (words_of self.now) addr size) else None) }
-        ensures word { size ≡ 8 → can_access (place_of self.now) addr size ≡ true
+        ensures word { size ≡ 8 → can_access (layout_of self.now) addr size ≡ true
             → result ≡ Some (words_of self.now addr) }
     {
         let slot = self.slot(addr, size)?;
@@ -86,11 +86,11 @@ impl Memory {
     pub fn store(&mut self, addr: u64, size: u8, value: u64) -> bool
         requires size { is_size size ≡ true }
         requires value { value < 2 ^ (8 * size) }
-        ensures done { result ≡ can_access (place_of self.old) addr size }
-        ensures place { place_of self.new ≡ place_of self.old }
-        ensures words { words_of self.new ≡ (if can_access (place_of self.old) addr size
+        ensures done { result ≡ can_access (layout_of self.old) addr size }
+        ensures layout { layout_of self.new ≡ layout_of self.old }
+        ensures words { words_of self.new ≡ (if can_access (layout_of self.old) addr size
             then store (words_of self.old) addr size value else words_of self.old) }
-        ensures word { size ≡ 8 → can_access (place_of self.old) addr size ≡ true
+        ensures word { size ≡ 8 → can_access (layout_of self.old) addr size ≡ true
             → words_of self.new ≡ update (words_of self.old) addr value }
     {
         let Some(slot) = self.slot(addr, size) else {
@@ -103,7 +103,7 @@ impl Memory {
 
     /// An equal memory.
     pub fn copy(&self, alloc: Global) -> Result<Memory, AllocError>
-        ensures place { IfOk result (λ m. place_of m ≡ place_of self.now) }
+        ensures layout { IfOk result (λ m. layout_of m ≡ layout_of self.now) }
         ensures words { IfOk result (λ m. words_of m ≡ words_of self.now) }
     {
         let words = Vec::from_slice(alloc, self.words.as_slice())?;
@@ -117,8 +117,8 @@ impl Memory {
     /// Where the word of an access lies.
     fn slot(&self, addr: u64, size: u8) -> Option<usize>
         requires { is_size size ≡ true }
-        ensures { result ≡ (if can_access (place_of self.now) addr size
-            then slot_of (place_of self.now) addr else None) }
+        ensures { result ≡ (if can_access (layout_of self.now) addr size
+            then slot_of (layout_of self.now) addr else None) }
     {
         if addr % u64::from(size) == 0 {
             self.mapped_slot(addr)
@@ -129,7 +129,7 @@ impl Memory {
 
     /// Where the word that holds a byte lies.
     fn mapped_slot(&self, addr: u64) -> Option<usize>
-        ensures { result ≡ slot_of (place_of self.now) addr }
+        ensures { result ≡ slot_of (layout_of self.now) addr }
     {
         let globals = u64::from(self.globals);
         if GLOBALS_START <= addr && addr < GLOBALS_START + globals {

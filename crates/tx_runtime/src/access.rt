@@ -3,7 +3,7 @@ ghost use Rattle.std.specs.Prelude.{◌≡◌, ℕ, ◌<◌, ◌≤◌, ◌+◌,
 ghost use Rattle.own_table.specs.Bits.{has_bit};
 ghost use Rattle.tx_events.specs.Memory.{word_of};
 ghost use Rattle.tx_runtime.specs.Blocks.{Sums, BlocksBy};
-ghost use Rattle.tx_runtime.specs.View.{machine_in, place_in};
+ghost use Rattle.tx_runtime.specs.View.{machine_in, layout_in};
 ghost use Rattle.tx_runtime.specs.declared.access.Blockers.{Blockers};
 ghost use Rattle.tx_serial.specs.Machine.{birth_of};
 ghost use Rattle.tx_serial.specs.Turn.{waited};
@@ -117,7 +117,7 @@ impl<A: Actor> Engine<A, A::Saved> {
         requires least { blockers.least ≡ birth_of ((machine_in A.state A.saved_state self.old).threads blockers.eldest) }
         ensures done { record { machine = machine_in A.state A.saved_state self.new; kind = result }
             ≡ waited t (machine_in A.state A.saved_state self.old) word blockers.eldest }
-        ensures place { place_in self.new ≡ place_in self.old }
+        ensures layout { layout_in self.new ≡ layout_in self.old }
     {
         let thread = &mut self.threads[t as usize];
         thread.wait(word, blockers.least);

@@ -1,12 +1,12 @@
 //! Giving up and closing: one word a turn.
 ghost use Rattle.std.specs.Prelude.{◌≡◌, ℕ, ◌<◌, List, Some, None, length, slice_get, is_some, true, IfOk, OnErr};
 ghost use Rattle.tx_runtime.specs.Here.{IsOpen, GivesUp, Closes, Turns};
-ghost use Rattle.tx_runtime.specs.Room.{MayGrow};
+ghost use Rattle.tx_runtime.specs.Allocation.{MayAllocate};
 ghost use Rattle.tx_runtime.specs.Saves.{IsFresh};
 ghost use Rattle.own_table.specs.Table.{hold_of};
 ghost use Rattle.tx_events.specs.Memory.{word_bound};
 ghost use Rattle.tx_runtime.specs.Threads.{held_in, closed_by};
-ghost use Rattle.tx_runtime.specs.View.{machine_in, place_in};
+ghost use Rattle.tx_runtime.specs.View.{machine_in, layout_in};
 ghost use Rattle.tx_runtime.specs.declared.thread.ThreadSlot.{ThreadSlot};
 ghost use Rattle.tx_runtime.specs.declared.thread.Transaction.{Transaction};
 ghost use Rattle.tx_events.specs.declared.TurnKind.TheVariants.{Rolled};
@@ -32,7 +32,7 @@ impl<A: Actor> Engine<A, A::Saved> {
     pub(crate) fn release(&mut self, t: u8) -> TurnKind
         requires here { Closes t (machine_in A.state A.saved_state self.old) }
         ensures turned { Turns A.state A.saved_state A.thread t self.old result self.new }
-        ensures place { place_in self.new ≡ place_in self.old }
+        ensures layout { layout_in self.new ≡ layout_in self.old }
     {
         let Some(word) = self.holders.release_one(t) else {
             return TurnKind::Idle;
@@ -46,7 +46,7 @@ impl<A: Actor> Engine<A, A::Saved> {
     /// Whether the thread holds a word.
     pub(crate) fn holds_words(&self, t: u8) -> bool
         requires { t < length self.now.threads.items }
-        ensures { (b : ℕ) → ◌≡◌ {A = Tx A.State} (closed_by result b) (closes b (least (held_in self.now.holders t) (word_bound (place_in self.now)))) }
+        ensures { (b : ℕ) → ◌≡◌ {A = Tx A.State} (closed_by result b) (closes b (least (held_in self.now.holders t) (word_bound (layout_in self.now)))) }
     {
         self.holders.count(t) > 0
     }
@@ -56,8 +56,8 @@ impl<A: Actor> Engine<A, A::Saved> {
         requires here { GivesUp t (machine_in A.state A.saved_state self.old) }
         ensures turned { IfOk result (λ kind. Turns A.state A.saved_state A.thread t self.old kind self.new) }
         ensures same { OnErr result (machine_in A.state A.saved_state self.new ≡ machine_in A.state A.saved_state self.old) }
-        ensures room { OnErr result (MayGrow A.thread (place_in self.old) t (machine_in A.state A.saved_state self.old)) }
-        ensures place { place_in self.new ≡ place_in self.old }
+        ensures capacity { OnErr result (MayAllocate A.thread (layout_in self.old) t (machine_in A.state A.saved_state self.old)) }
+        ensures layout { layout_in self.new ≡ layout_in self.old }
     {
         let count = self.holders.count(t);
         if count == 0 {
@@ -74,7 +74,7 @@ impl<A: Actor> Engine<A, A::Saved> {
         requires here { GivesUp t (machine_in A.state A.saved_state self.old) }
         requires more { (x y : ℕ) × ((x ≡ y → ⊥) × (held_in self.old.holders t x ≡ true) × (held_in self.old.holders t y ≡ true)) }
         ensures turned { Turns A.state A.saved_state A.thread t self.old result self.new }
-        ensures place { place_in self.new ≡ place_in self.old }
+        ensures layout { layout_in self.new ≡ layout_in self.old }
     {
         let Some(word) = self.holders.release_one(t) else {
             return TurnKind::Idle;
@@ -90,7 +90,7 @@ impl<A: Actor> Engine<A, A::Saved> {
         requires last { (x : ℕ) × ((held_in self.old.holders t x ≡ true) × ((y : ℕ) → held_in self.old.holders t y ≡ true → y ≡ x)) }
         ensures turned { IfOk result (λ kind. Turns A.state A.saved_state A.thread t self.old kind self.new) }
         ensures same { OnErr result (machine_in A.state A.saved_state self.new ≡ machine_in A.state A.saved_state self.old) }
-        ensures place { place_in self.new ≡ place_in self.old }
+        ensures layout { layout_in self.new ≡ layout_in self.old }
     {
         let restart = self.restart(t)?;
         let Some(word) = self.holders.release_one(t) else {
@@ -107,9 +107,9 @@ impl<A: Actor> Engine<A, A::Saved> {
         requires started { t < length self.old.threads.items }
         requires open { (l : Local A.State) → (machine_in A.state A.saved_state self.old).threads t ≡ Some l → IsOpen l }
         ensures done { IfOk result (λ kind. (l : Local A.State) (b : ℕ) (k : A.State) (ss : List Save) → (machine_in A.state A.saved_state self.old).threads t ≡ Some l → l.tx ≡ OpenTx b k ss
-            → record { machine = machine_in A.state A.saved_state self.new; kind = kind } ≡ clashes (place_in self.old) Yield t (machine_in A.state A.saved_state self.old) l b k ss word holder) }
+            → record { machine = machine_in A.state A.saved_state self.new; kind = kind } ≡ clashes (layout_in self.old) Yield t (machine_in A.state A.saved_state self.old) l b k ss word holder) }
         ensures same { OnErr result (machine_in A.state A.saved_state self.new ≡ machine_in A.state A.saved_state self.old) }
-        ensures place { place_in self.new ≡ place_in self.old }
+        ensures layout { layout_in self.new ≡ layout_in self.old }
     {
         if self.holders.count(t) == 0 {
             self.roll_bare(t, word, holder)
@@ -124,8 +124,8 @@ impl<A: Actor> Engine<A, A::Saved> {
         requires open { (l : Local A.State) → (machine_in A.state A.saved_state self.old).threads t ≡ Some l → IsOpen l }
         requires held { (x : ℕ) × (held_in self.old.holders t x ≡ true) }
         ensures done { (l : Local A.State) (b : ℕ) (k : A.State) (ss : List Save) → (machine_in A.state A.saved_state self.old).threads t ≡ Some l → l.tx ≡ OpenTx b k ss
-            → record { machine = machine_in A.state A.saved_state self.new; kind = result } ≡ clashes (place_in self.old) Yield t (machine_in A.state A.saved_state self.old) l b k ss word holder }
-        ensures place { place_in self.new ≡ place_in self.old }
+            → record { machine = machine_in A.state A.saved_state self.new; kind = result } ≡ clashes (layout_in self.old) Yield t (machine_in A.state A.saved_state self.old) l b k ss word holder }
+        ensures layout { layout_in self.new ≡ layout_in self.old }
     {
         let thread = &mut self.threads[t as usize];
         thread.give_up();
@@ -138,9 +138,9 @@ impl<A: Actor> Engine<A, A::Saved> {
         requires open { (l : Local A.State) → (machine_in A.state A.saved_state self.old).threads t ≡ Some l → IsOpen l }
         requires bare { (x : ℕ) → hold_of self.old.holders t x ≡ None }
         ensures done { IfOk result (λ kind. (l : Local A.State) (b : ℕ) (k : A.State) (ss : List Save) → (machine_in A.state A.saved_state self.old).threads t ≡ Some l → l.tx ≡ OpenTx b k ss
-            → record { machine = machine_in A.state A.saved_state self.new; kind = kind } ≡ clashes (place_in self.old) Yield t (machine_in A.state A.saved_state self.old) l b k ss word holder) }
+            → record { machine = machine_in A.state A.saved_state self.new; kind = kind } ≡ clashes (layout_in self.old) Yield t (machine_in A.state A.saved_state self.old) l b k ss word holder) }
         ensures same { OnErr result (machine_in A.state A.saved_state self.new ≡ machine_in A.state A.saved_state self.old) }
-        ensures place { place_in self.new ≡ place_in self.old }
+        ensures layout { layout_in self.new ≡ layout_in self.old }
     {
         let restart = self.restart(t)?;
         let thread = &mut self.threads[t as usize];

@@ -3,7 +3,7 @@ ghost use Rattle.std.specs.Prelude.{◌≡◌, ℕ, ◌+◌, ◌*◌, ◌≤◌,
 ghost use Rattle.choosers.specs.declared.Clash.{Clash};
 ghost use Rattle.choosers.specs.declared.Choice.{Choice};
 ghost use Rattle.tx_events.specs.declared.End.{End};
-ghost use Rattle.tx_events.specs.Memory.{Place};
+ghost use Rattle.tx_events.specs.Memory.{MemoryLayout};
 ghost use Rattle.tx_events.specs.World.{World, Replays, first_world};
 ghost use Rattle.tx_serial.specs.Turn.{Slot, turn, turns, first_machine};
 ghost use Rattle.tx_serial.specs.Bound.{Tally, no_tally, tallied, AtMost, zeros, is_waiting};
@@ -16,19 +16,19 @@ use tx_events::Actor;
 /// `64 * n + 64` instructions with `n` accesses need `66 * n + 64` turns. No turn on the way is Waited, Rolled, BlockWait
 /// or JoinWait, whatever the policy would answer.
 pub fn turn_bound<A: Actor>()
-    ensures ends { (p : Place) (memory : ℕ → ℕ) (input : List ℕ) (main : A.State) (instructions accesses : ℕ) (order : List ℕ) (v : World (A.State × Tally)) (e : End) (slots : List Slot) →
+    ensures ends { (p : MemoryLayout) (memory : ℕ → ℕ) (input : List ℕ) (main : A.State) (instructions accesses : ℕ) (order : List ℕ) (v : World (A.State × Tally)) (e : End) (slots : List Slot) →
         p.limit ≤ 64 → A.is_reached main → A.thread.blocks main ≡ [] →
         (run : Replays (tallied A.thread) p (first_world memory input (main, no_tally)) order v) →
         AtMost A.thread p instructions accesses (first_world memory input (main, no_tally)) order v run → v.end ≡ Some e →
         instructions + 2 * accesses ≤ zeros slots →
         ((turns A.thread p slots (first_machine memory input main)).end ≡ Some e) × ((turns A.thread p slots (first_machine memory input main)).out ≡ v.out) }
-    ensures units { (p : Place) (memory : ℕ → ℕ) (input : List ℕ) (main : A.State) (n : ℕ) (order : List ℕ) (v : World (A.State × Tally)) (e : End) (slots : List Slot) →
+    ensures units { (p : MemoryLayout) (memory : ℕ → ℕ) (input : List ℕ) (main : A.State) (n : ℕ) (order : List ℕ) (v : World (A.State × Tally)) (e : End) (slots : List Slot) →
         p.limit ≤ 64 → A.is_reached main → A.thread.blocks main ≡ [] →
         (run : Replays (tallied A.thread) p (first_world memory input (main, no_tally)) order v) →
         AtMost A.thread p (64 * n + 64) n (first_world memory input (main, no_tally)) order v run → v.end ≡ Some e →
         66 * n + 64 ≤ zeros slots →
         ((turns A.thread p slots (first_machine memory input main)).end ≡ Some e) × ((turns A.thread p slots (first_machine memory input main)).out ≡ v.out) }
-    ensures never_waits { (p : Place) (memory : ℕ → ℕ) (input : List ℕ) (main : A.State) (instructions accesses : ℕ) (order : List ℕ) (v : World (A.State × Tally)) (e : End) (slots : List Slot) →
+    ensures never_waits { (p : MemoryLayout) (memory : ℕ → ℕ) (input : List ℕ) (main : A.State) (instructions accesses : ℕ) (order : List ℕ) (v : World (A.State × Tally)) (e : End) (slots : List Slot) →
         p.limit ≤ 64 → A.is_reached main → A.thread.blocks main ≡ [] →
         (run : Replays (tallied A.thread) p (first_world memory input (main, no_tally)) order v) →
         AtMost A.thread p instructions accesses (first_world memory input (main, no_tally)) order v run → v.end ≡ Some e →

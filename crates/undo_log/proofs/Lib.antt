@@ -1,4 +1,4 @@
 mod IndexLists
-pub mod Lists
-mod Places
+pub mod NoteLists
+mod LastPositions
 pub mod PutBack

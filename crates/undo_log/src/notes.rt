@@ -2,7 +2,7 @@
 ghost use Rattle.std.specs.Prelude.{◌≡◌, ◌==◌, ◌≤◌, ◌<◌, ◌+◌, ◌++◌, ◌↔◌, ℕ, [], true, not, length, take, drop, map, IsNone, IfSome, All};
 ghost use Rattle.std.specs.List.{list_all, list_any};
 ghost use Rattle.tx_events.specs.Memory.{can_access, update};
-ghost use Rattle.tx_memory.specs.View.{place_of, words_of};
+ghost use Rattle.tx_memory.specs.View.{layout_of, words_of};
 ghost use Rattle.undo_log.specs.Notes.{first_note, is_noted, put_back, word_back, others, can_put_back};
 
 use tx_memory::Memory;
@@ -41,8 +41,8 @@ pub(crate) fn count_others(notes: &[Note], word: u64) -> usize
 
 /// Gives each noted word what its first note has.
 pub(crate) fn put_all_back(memory: &mut Memory, notes: &[Note])
-    requires { can_put_back (place_of memory.old) notes.now ≡ true }
-    ensures place { place_of memory.new ≡ place_of memory.old }
+    requires { can_put_back (layout_of memory.old) notes.now ≡ true }
+    ensures layout { layout_of memory.new ≡ layout_of memory.old }
     ensures words { words_of memory.new ≡ put_back notes.now (words_of memory.old) }
 {
     let mut left = notes.len();
@@ -55,8 +55,8 @@ pub(crate) fn put_all_back(memory: &mut Memory, notes: &[Note])
 
 /// Gives the word what its first note has, if it is noted.
 pub(crate) fn put_word_back(memory: &mut Memory, notes: &[Note], word: u64)
-    requires { can_access (place_of memory.old) word 8 ≡ true }
-    ensures place { place_of memory.new ≡ place_of memory.old }
+    requires { can_access (layout_of memory.old) word 8 ≡ true }
+    ensures layout { layout_of memory.new ≡ layout_of memory.old }
     ensures words { words_of memory.new ≡ word_back (first_note notes.now word) word (words_of memory.old) }
 {
     if let Some(old) = first_old(notes, word) {
@@ -66,8 +66,8 @@ pub(crate) fn put_word_back(memory: &mut Memory, notes: &[Note], word: u64)
 
 /// Gives the word these bytes.
 fn put_word(memory: &mut Memory, word: u64, old: u64)
-    requires { can_access (place_of memory.old) word 8 ≡ true }
-    ensures place { place_of memory.new ≡ place_of memory.old }
+    requires { can_access (layout_of memory.old) word 8 ≡ true }
+    ensures layout { layout_of memory.new ≡ layout_of memory.old }
     ensures words { words_of memory.new ≡ update (words_of memory.old) word old }
 {
     memory.store(word, 8, old);
@@ -79,8 +79,8 @@ pub(crate) fn remove_from(notes: &mut Vec<Note>, start: usize, word: u64)
     ensures { notes.new.items ≡ take start notes.old.items ++ others word (drop start notes.old.items) }
 {
     let mut kept = start;
-    for place in start..notes.len() {
-        let note = notes[place];
+    for position in start..notes.len() {
+        let note = notes[position];
         if note.word != word {
             notes[kept] = note;
             kept += 1;

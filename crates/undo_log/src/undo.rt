@@ -24,9 +24,9 @@ pub struct Log {
 impl Log {
     ghost use Rattle.std.specs.Prelude.{◌==◌, ◌+◌, ◌++◌, ◌∷◌, [], ◌↔◌, true, take, drop, map, if◌then◌else◌, OnOk, IsNone, IfNone, IfSome, All};
     ghost use Rattle.tx_events.specs.Memory.{can_access};
-    ghost use Rattle.tx_memory.specs.View.{place_of, words_of};
+    ghost use Rattle.tx_memory.specs.View.{layout_of, words_of};
     ghost use Rattle.undo_log.specs.Notes.{first_note, is_noted, put_back, word_back, others, can_put_back};
-    ghost use Rattle.undo_log.specs.View.{notes_of, marks_of, newest_start, newest_notes, HasRoom};
+    ghost use Rattle.undo_log.specs.View.{notes_of, marks_of, newest_start, newest_notes, HasCapacity};
 
     /// A log without notes and marks.
     pub fn new(alloc: Global) -> Log
@@ -45,7 +45,7 @@ impl Log {
     pub fn reserve(&mut self, _word: u64) -> Result<(), AllocError>
         ensures notes { notes_of self.new ≡ notes_of self.old }
         ensures marks { marks_of self.new ≡ marks_of self.old }
-        ensures room { OnOk result (HasRoom self.new) }
+        ensures capacity { OnOk result (HasCapacity self.new) }
     {
         self.notes.reserve(1)?;
         self.marks.reserve(1)?;
@@ -55,7 +55,7 @@ impl Log {
 
     /// Sets a savepoint, and answers its number.
     pub fn mark(&mut self) -> usize
-        requires { HasRoom self.old }
+        requires { HasCapacity self.old }
         ensures number { result ≡ length (marks_of self.old) }
         ensures notes { notes_of self.new ≡ notes_of self.old }
         ensures marks { marks_of self.new ≡ marks_of self.old ++ length (notes_of self.old) ∷ [] }
@@ -67,7 +67,7 @@ impl Log {
 
     /// Notes what the word holds, where the newest mark does not note it.
     pub fn note(&mut self, word: u64, old: u64)
-        requires room { HasRoom self.old }
+        requires capacity { HasCapacity self.old }
         requires mark { 0 < length (marks_of self.old) }
         ensures notes { notes_of self.new ≡ (if is_noted (newest_notes self.old) word
             then notes_of self.old else notes_of self.old ++ record { word = word; old = old } ∷ []) }
@@ -93,9 +93,9 @@ impl Log {
     /// without notes, and newer marks are gone.
     pub fn back_to(&mut self, memory: &mut Memory, mark: usize)
         requires mark { mark < length (marks_of self.old) }
-        requires words { can_put_back (place_of memory.old)
+        requires words { can_put_back (layout_of memory.old)
             (drop (slice_index (marks_of self.old) mark) (notes_of self.old)) ≡ true }
-        ensures place { place_of memory.new ≡ place_of memory.old }
+        ensures layout { layout_of memory.new ≡ layout_of memory.old }
         ensures words { words_of memory.new
             ≡ put_back (drop (slice_index (marks_of self.old) mark) (notes_of self.old)) (words_of memory.old) }
         ensures notes { notes_of self.new ≡ take (slice_index (marks_of self.old) mark) (notes_of self.old) }
@@ -125,7 +125,7 @@ impl Log {
         self.notes.as_slice()
     }
 
-    /// For each mark the place at which its notes begin, the oldest mark first.
+    /// For each mark the position at which its notes begin, the oldest mark first.
     pub fn marks(&self) -> &[usize]
         ensures { result.now ≡ marks_of self.now }
     {
@@ -136,11 +136,11 @@ impl Log {
     /// that mark and answers it: `None` exactly where the newest mark notes none.
     pub fn undo_newest(&mut self, memory: &mut Memory) -> Option<u64>
         requires mark { 0 < length (marks_of self.old) }
-        requires words { can_put_back (place_of memory.old) (newest_notes self.old) ≡ true }
+        requires words { can_put_back (layout_of memory.old) (newest_notes self.old) ≡ true }
         ensures none { IsNone result ↔ (length (newest_notes self.old) ≡ 0) }
         ensures noted { IfSome result (λ w. is_noted (newest_notes self.old) w ≡ true) }
         ensures least { IfSome result (λ w. All (λ n. w ≤ n.word) (newest_notes self.old)) }
-        ensures place { place_of memory.new ≡ place_of memory.old }
+        ensures layout { layout_of memory.new ≡ layout_of memory.old }
         ensures words { IfSome result (λ w. words_of memory.new
             ≡ word_back (first_note (newest_notes self.old) w) w (words_of memory.old)) }
         ensures notes { IfSome result (λ w. notes_of self.new
@@ -159,8 +159,8 @@ impl Log {
 
     /// Gives the word what its oldest note has and drops its notes. Where the word has no note, nothing changes.
     pub fn undo_word(&mut self, memory: &mut Memory, word: u64)
-        requires { can_access (place_of memory.old) word 8 ≡ true }
-        ensures place { place_of memory.new ≡ place_of memory.old }
+        requires { can_access (layout_of memory.old) word 8 ≡ true }
+        ensures layout { layout_of memory.new ≡ layout_of memory.old }
         ensures words { words_of memory.new ≡ word_back (first_note (notes_of self.old) word) word (words_of memory.old) }
         ensures notes { notes_of self.new ≡ others word (notes_of self.old) }
         ensures marks { marks_of self.new

@@ -1,4 +1,4 @@
-use Rattle.tx_runtime.proofs.Slots.{again_local, fresh_saves}
+use Rattle.tx_runtime.proofs.SlotLemmas.{again_local, fresh_saves}
 use Rattle.tx_runtime.proofs.thread.ThreadSlot+A+A+Saved.start_again.Goals as goal
 
 pub returns-in-Some-clause-local : goal.returns-in-Some-clause-local

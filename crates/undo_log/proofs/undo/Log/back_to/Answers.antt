@@ -2,7 +2,7 @@ use Rattle.std.proofs.Common.{◌+◌, ap}
 use Rattle.undo_log.specs.Notes.{noted_words}
 use Rattle.undo_log.specs.IndexView.{words_listed}
 use Rattle.undo_log.proofs.IndexLists.{begins_same, begins_cut}
-use Rattle.undo_log.proofs.Lists.{ascending_cut}
+use Rattle.undo_log.proofs.NoteLists.{ascending_cut}
 use Rattle.undo_log.proofs.undo.Log.back_to.Goals as goal
 
 pub invariant_of-self-clause-indexed : goal.invariant_of-self-clause-indexed

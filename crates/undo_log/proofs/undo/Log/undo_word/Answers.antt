@@ -1,6 +1,6 @@
 use Rattle.std.proofs.Common.{[], refl, map, ap, ◌∙◌}
 use Rattle.undo_log.proofs.IndexLists.{begins_same}
-use Rattle.undo_log.proofs.Lists.{moved_to, marks_within, marks_ascending}
+use Rattle.undo_log.proofs.NoteLists.{moved_to, marks_within, marks_ascending}
 use Rattle.undo_log.proofs.undo.Log.undo_word.Goals as goal
 
 pub invariant_of-self-clause-within : goal.invariant_of-self-clause-within
