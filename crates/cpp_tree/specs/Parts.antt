@@ -14,12 +14,19 @@ use Rattle.cpp_tree.specs.Typing.{Head, passes, form_in, qualified, is_class, ki
 
 -- Sizes
 
--- the type has a size: the class that a value of it holds is complete, and the size does not pass 1,048,576 bytes
-abbrev pub is_measured : List Class → Typ → Bool
-is_measured classes t = each_passes (λ (n : ℕ). is_some (completion_of classes n)) (held_form (form_in t)) && nat_le (extent_of classes t).size 1048576
+-- the class that a value of the type holds, if it holds one, is complete
+abbrev pub holds_complete : List Class → Form → Bool
+holds_complete classes f = each_passes (λ (n : ℕ). is_some (completion_of classes n)) (held_form f)
+
+abbrev pub within_limit : ℕ → Option ℕ
+within_limit n = cond (nat_le n 1048576) (Some n) None
+
+-- the size of the type's objects, where it has one of at most 1,048,576 bytes
+abbrev pub size_in : List Class → Typ → Option ℕ
+size_in classes t = cond (holds_complete classes (form_in t)) (within_limit (extent_of classes t).size) None
 
 abbrev pub has_size : List Class → Typ → ℕ → Bool
-has_size classes t n = is_measured classes t && (extent_of classes t).size == n
+has_size classes t n = passes (λ (size : ℕ). size == n) (size_in classes t)
 
 -- Parts of a class: its base at offset 0, then its members; one piece for each
 
@@ -46,8 +53,12 @@ are_part_pieces classes const volatile n c i (h ∷ hs) = is_part_piece classes 
 abbrev pub count_of_parts : Class → ℕ
 count_of_parts c = length c.members + cond (is_some c.base) 1 0
 
+-- as many pieces as parts, which a node with ids of 32 bits can have
+abbrev pub are_all_parts : List Class → Bool → Bool → ℕ → List Head → Class → Bool
+are_all_parts classes const volatile n hs c = length hs == count_of_parts c && nat_lt (length hs) 4294967296 && are_part_pieces classes const volatile n c 0 hs
+
 abbrev pub are_class_pieces : List Class → Bool → Bool → ℕ → List Head → Bool
-are_class_pieces classes const volatile n hs = passes (λ (c : Class). length hs == count_of_parts c && are_part_pieces classes const volatile n c 0 hs) (slice_get classes n)
+are_class_pieces classes const volatile n hs = is_some (size_in classes (typ (class n) const volatile)) && passes (are_all_parts classes const volatile n hs) (slice_get classes n)
 
 -- Elements: a piece for each, or one for all of the rest
 
@@ -57,13 +68,13 @@ is_last (h ∷ hs) = false
 
 abbrev pub are_element_pieces : Typ → (size many : ℕ) → ℕ → List Head → Bool
 are_element_pieces e size many i [] = i == many
-are_element_pieces e size many i (h ∷ hs) = (nat_lt i many && is_last hs && is_piece_at (i * size) (typ (array e (many - i)) false false) h) || (is_piece_at (i * size) e h && are_element_pieces e size many (suc i) hs)
+are_element_pieces e size many i (h ∷ hs) = nat_lt i many && ((is_last hs && is_piece_at (i * size) (typ (array e (many - i)) false false) h) || (is_piece_at (i * size) e h && are_element_pieces e size many (suc i) hs))
 
 -- the pieces of an object of this type
 abbrev pub are_pieces : List Class → Typ → List Head → Bool
-are_pieces classes (typ (class n) c v) hs = is_measured classes (typ (class n) c v) && are_class_pieces classes c v n hs
-are_pieces classes (typ (closure n) c v) hs = is_measured classes (typ (closure n) c v) && are_class_pieces classes c v n hs
-are_pieces classes (typ (array e many) c v) hs = is_measured classes e && are_element_pieces e (extent_of classes e).size many 0 hs
+are_pieces classes (typ (class n) c v) hs = are_class_pieces classes c v n hs
+are_pieces classes (typ (closure n) c v) hs = are_class_pieces classes c v n hs
+are_pieces classes (typ (array e many) c v) hs = passes (λ (size : ℕ). are_element_pieces e size many 0 hs) (size_in classes e)
 are_pieces classes t hs = false
 
 -- so many elements that are built alike, counted through the bounds of arrays of arrays; `before` is the product of the bounds further out
@@ -87,7 +98,7 @@ is_closure (typ (closure n) c v) = true
 is_closure t = false
 
 abbrev pub are_captures : List Class → (class offset count stride : ℕ) → Typ → Bool
-are_captures classes n offset count stride t = is_closure t && is_measured classes t && is_measured classes (typ (class n) false false) && are_within offset count stride (extent_of classes (typ (class n) false false)).size (extent_of classes t).size
+are_captures classes n offset count stride t = is_closure t && passes (λ (limit : ℕ). passes (λ (size : ℕ). are_within offset count stride size limit) (size_in classes (typ (class n) false false))) (size_in classes t)
 
 -- objects of a class that are destroyed with an object of this type: itself, the elements of an array, or what a lambda captured
 abbrev pub are_destroyed : List Class → (class offset count stride : ℕ) → Typ → Bool
@@ -119,4 +130,4 @@ are_fields from limit (h ∷ hs) = begins_from from h.kind && are_fields (ends_a
 
 -- the scalars of an exception of this type, which has at most 64 bytes
 abbrev pub are_scalars : List Class → Typ → List Head → Bool
-are_scalars classes (typ f c v) hs = cond (is_object_form f) (is_measured classes (typ f c v) && nat_le (extent_of classes (typ f c v)).size 64 && are_fields 0 (extent_of classes (typ f c v)).size hs) (passes (λ (k : IntKind). is_one_field k hs) (kind_in f))
+are_scalars classes (typ f c v) hs = cond (is_object_form f) (passes (λ (size : ℕ). nat_le size 64 && are_fields 0 size hs) (size_in classes (typ f c v))) (passes (λ (k : IntKind). is_one_field k hs) (kind_in f))

@@ -1,15 +1,13 @@
 -- Where nodes stand: what each kid of a node is for, and which kinds serve.
-use Rattle.std.specs.Prelude.{ℕ, Bool, true, false, not, ◌&&◌, ◌||◌, ◌==◌, List, [], ◌∷◌, map, slice_get, Option, Some, None, cond}
+use Rattle.std.specs.Prelude.{ℕ, Bool, true, false, not, ◌||◌, ◌==◌, List, [], ◌∷◌, slice_get, Option, Some, None, cond}
 use Rattle.std.specs.Option.{option_or}
 use Rattle.cpp_types.specs.Typ.{Typ}
 use Rattle.cpp_types.specs.declared.ranks.Cat.{Cat}
 use Rattle.cpp_tree.specs.declared.kinds.TKind.{TKind}
 use Rattle.cpp_tree.specs.declared.kinds.TKind.TheVariants.{Literal, Local, Global, Function, ClassTable, Load, Convert, Retype, Binary, Conditional, Comma, Assign, Update, CopyAssign, Materialize, FullExpression, Call, VirtualCall, PointerCall, Builtin as CallBuiltin, Throw, Rethrow, Store, CopyScalar, Construct, CopyConstruct, CopyFrom, Pieces, Piece, Elements, Block, Init, Defer, Loop, Switch, Case, Default, Break, Continue, Return, Try, Handler, Atomic, Synchronized, Destroy, Field}
 use Rattle.cpp_tree.specs.declared.roles.Role.{Role}
-use Rattle.cpp_tree.specs.declared.roles.Role.TheVariants.{Value, Argument, Initialiser, CopyInit, Zero, ZeroWord, ZeroPart, Statement, BlockItem, SwitchItem, Step, Part, CopiedPart, Catch, Destruction, Scalar}
-use Rattle.cpp_tree.specs.declared.kinds.Builtin.{Builtin}
-use Rattle.cpp_tree.specs.declared.kinds.Builtin.TheVariants.{PutChar, GetChar, Spawn, Join, Abort}
-use Rattle.cpp_tree.specs.Typing.{Word, object, passed, is_class_typ, is_class_prvalue}
+use Rattle.cpp_tree.specs.declared.roles.Role.TheVariants.{Value, Word, Initialiser, CopyInit, Zero, ZeroWord, ZeroPart, Statement, BlockItem, SwitchItem, Step, Part, CopiedPart, Catch, Destruction, Scalar}
+use Rattle.cpp_tree.specs.Typing.{is_argument, is_class_prvalue}
 
 -- Kinds
 
@@ -50,10 +48,6 @@ is_expression CopyAssign = true
 is_expression (Materialize n argument) = not argument
 is_expression (CallBuiltin b) = true
 is_expression kind = goes_both_ways kind
-
-abbrev pub is_argument : TKind → Bool
-is_argument (Materialize n argument) = argument
-is_argument kind = false
 
 abbrev pub is_initialiser : TKind → Bool
 is_initialiser (Store k v) = true
@@ -126,7 +120,7 @@ is_field kind = false
 
 abbrev pub serves : Role → TKind → Bool
 serves Value kind = is_expression kind
-serves Argument kind = is_argument kind
+serves Word kind = is_argument kind || is_expression kind
 serves Initialiser kind = is_initialiser kind
 serves CopyInit kind = is_copy kind
 serves Zero kind = is_zero_kind kind
@@ -152,6 +146,7 @@ may_give kind t cat = is_throw kind || not (is_class_prvalue t cat)
 abbrev pub way_fits : Role → TKind → Typ → Cat → Bool
 way_fits Initialiser kind t cat = may_build kind t cat
 way_fits Value kind t cat = may_give kind t cat
+way_fits Word kind t cat = may_give kind t cat
 way_fits Statement kind t cat = may_give kind t cat
 way_fits BlockItem kind t cat = may_give kind t cat
 way_fits SwitchItem kind t cat = may_give kind t cat
@@ -199,66 +194,54 @@ object_role ZeroPart = Zero
 object_role Zero = Zero
 object_role role = Initialiser
 
-abbrev pub word_role : Word → Role
-word_role (object n) = Value
-word_role (passed t) = cond (is_class_typ t) Argument Value
-
--- the arguments of a function that needs no declaration
-abbrev pub builtin_roles : Builtin → List Role
-builtin_roles PutChar = Value ∷ []
-builtin_roles GetChar = []
-builtin_roles Spawn = Value ∷ Value ∷ []
-builtin_roles Join = Value ∷ []
-builtin_roles Abort = []
-
--- the kids of a node that serves in this role; `void_type` says that its type is `void`, `no_object` that the address in its first kid is one of no type, and `words` what a call passes
-abbrev pub kids_for : Role → TKind → (void_type no_object : Bool) → (words : List Word) → Kids
-kids_for role (Literal w) void_type no_object words = only []
-kids_for role (Local n) void_type no_object words = only []
-kids_for role (Global n) void_type no_object words = only []
-kids_for role (Function n) void_type no_object words = only []
-kids_for role (ClassTable n) void_type no_object words = only []
-kids_for role (Load k v) void_type no_object words = only (Value ∷ [])
-kids_for role (Convert k) void_type no_object words = only (Value ∷ [])
-kids_for role Retype void_type no_object words = only (Value ∷ [])
-kids_for role (Binary op k) void_type no_object words = only (Value ∷ Value ∷ [])
-kids_for role Conditional void_type no_object words = only (Value ∷ branch_role role void_type ∷ branch_role role void_type ∷ [])
-kids_for role Comma void_type no_object words = only (Value ∷ result_role role ∷ [])
-kids_for role (Assign k v) void_type no_object words = only (Value ∷ Value ∷ [])
-kids_for role (Update op s k v old) void_type no_object words = only (Value ∷ Value ∷ [])
-kids_for role CopyAssign void_type no_object words = only (Value ∷ Value ∷ CopyInit ∷ [])
-kids_for role (Materialize n a) void_type no_object words = and_any (Initialiser ∷ []) Destruction
-kids_for role FullExpression void_type no_object words = only (result_role role ∷ [])
-kids_for role (Call f) void_type no_object words = only (map word_role words)
-kids_for role (VirtualCall f c s p) void_type no_object words = only (map word_role words)
-kids_for role PointerCall void_type no_object words = only (Value ∷ map word_role words)
-kids_for role (CallBuiltin b) void_type no_object words = only (builtin_roles b)
-kids_for role Throw void_type no_object words = and_any (Value ∷ []) Scalar
-kids_for role Rethrow void_type no_object words = only []
-kids_for role (Store k v) void_type no_object words = only (stored_role role ∷ [])
-kids_for role (CopyScalar k v) void_type no_object words = only []
-kids_for role (Construct f) void_type no_object words = only (map word_role words)
-kids_for role (CopyConstruct f) void_type no_object words = only []
-kids_for role CopyFrom void_type no_object words = only (Value ∷ CopyInit ∷ [])
-kids_for role Pieces void_type no_object words = and_any [] (part_role role)
-kids_for role (Piece n) void_type no_object words = and_any (object_role role ∷ []) Destruction
-kids_for role (Elements n s) void_type no_object words = and_any (object_role role ∷ []) Destruction
-kids_for role (Block subobjects) void_type no_object words = and_any [] BlockItem
-kids_for role Init void_type no_object words = and_any (Value ∷ cond no_object Zero Initialiser ∷ []) Destruction
-kids_for role Defer void_type no_object words = and_any (Value ∷ []) Destruction
-kids_for role (Loop t) void_type no_object words = only (Value ∷ Statement ∷ Step ∷ [])
-kids_for role Switch void_type no_object words = and_any (Value ∷ []) SwitchItem
-kids_for role (Case w) void_type no_object words = only []
-kids_for role Default void_type no_object words = only []
-kids_for role Break void_type no_object words = only []
-kids_for role Continue void_type no_object words = only []
-kids_for role Return void_type no_object words = and_any [] Value
-kids_for role Try void_type no_object words = and_any (Statement ∷ Catch ∷ []) Catch
-kids_for role (Handler p) void_type no_object words = and_any (Statement ∷ []) Scalar
-kids_for role (Atomic k) void_type no_object words = only (Statement ∷ [])
-kids_for role Synchronized void_type no_object words = only (Statement ∷ [])
-kids_for role (Destroy f o c s) void_type no_object words = only []
-kids_for role (Field o k) void_type no_object words = only []
+-- the kids of a node that serves in this role; `void_type` says that its type is `void`, and `no_object` that the address in its first kid is one of no type
+abbrev pub kids_for : Role → TKind → (void_type no_object : Bool) → Kids
+kids_for role (Literal w) void_type no_object = only []
+kids_for role (Local n) void_type no_object = only []
+kids_for role (Global n) void_type no_object = only []
+kids_for role (Function n) void_type no_object = only []
+kids_for role (ClassTable n) void_type no_object = only []
+kids_for role (Load k v) void_type no_object = only (Value ∷ [])
+kids_for role (Convert k) void_type no_object = only (Value ∷ [])
+kids_for role Retype void_type no_object = only (Value ∷ [])
+kids_for role (Binary op k) void_type no_object = only (Value ∷ Value ∷ [])
+kids_for role Conditional void_type no_object = only (Value ∷ branch_role role void_type ∷ branch_role role void_type ∷ [])
+kids_for role Comma void_type no_object = only (Value ∷ result_role role ∷ [])
+kids_for role (Assign k v) void_type no_object = only (Value ∷ Value ∷ [])
+kids_for role (Update op s k v old) void_type no_object = only (Value ∷ Value ∷ [])
+kids_for role CopyAssign void_type no_object = only (Value ∷ Value ∷ CopyInit ∷ [])
+kids_for role (Materialize n a) void_type no_object = and_any (Initialiser ∷ []) Destruction
+kids_for role FullExpression void_type no_object = only (result_role role ∷ [])
+kids_for role (Call f) void_type no_object = and_any [] Word
+kids_for role (VirtualCall f c s p) void_type no_object = and_any (Value ∷ []) Word
+kids_for role PointerCall void_type no_object = and_any (Value ∷ []) Word
+kids_for role (CallBuiltin b) void_type no_object = and_any [] Value
+kids_for role Throw void_type no_object = and_any (Value ∷ []) Scalar
+kids_for role Rethrow void_type no_object = only []
+kids_for role (Store k v) void_type no_object = only (stored_role role ∷ [])
+kids_for role (CopyScalar k v) void_type no_object = only []
+kids_for role (Construct f) void_type no_object = and_any [] Word
+kids_for role (CopyConstruct f) void_type no_object = only []
+kids_for role CopyFrom void_type no_object = only (Value ∷ CopyInit ∷ [])
+kids_for role Pieces void_type no_object = and_any [] (part_role role)
+kids_for role (Piece n) void_type no_object = and_any (object_role role ∷ []) Destruction
+kids_for role (Elements n s) void_type no_object = and_any (object_role role ∷ []) Destruction
+kids_for role (Block subobjects) void_type no_object = and_any [] BlockItem
+kids_for role Init void_type no_object = and_any (Value ∷ cond no_object Zero Initialiser ∷ []) Destruction
+kids_for role Defer void_type no_object = and_any (Value ∷ []) Destruction
+kids_for role (Loop t) void_type no_object = only (Value ∷ Statement ∷ Step ∷ [])
+kids_for role Switch void_type no_object = and_any (Value ∷ []) SwitchItem
+kids_for role (Case w) void_type no_object = only []
+kids_for role Default void_type no_object = only []
+kids_for role Break void_type no_object = only []
+kids_for role Continue void_type no_object = only []
+kids_for role Return void_type no_object = and_any [] Value
+kids_for role Try void_type no_object = and_any (Statement ∷ Catch ∷ []) Catch
+kids_for role (Handler p) void_type no_object = and_any (Statement ∷ []) Scalar
+kids_for role (Atomic k) void_type no_object = only (Statement ∷ [])
+kids_for role Synchronized void_type no_object = only (Statement ∷ [])
+kids_for role (Destroy f o c s) void_type no_object = only []
+kids_for role (Field o k) void_type no_object = only []
 
 -- the role of a kid, by its place
 abbrev pub role_at : Kids → ℕ → Option Role

@@ -12,7 +12,6 @@ use Rattle.cpp_types.specs.Conversion.{is_object_form, is_lvalue, bases}
 use Rattle.cpp_types.specs.Equal.{name_eq, flag_eq, kind_eq, typ_eq, form_eq, signature_eq}
 use Rattle.cpp_types.specs.declared.ranks.Cat.{Cat}
 use Rattle.cpp_types.specs.declared.ranks.Cat.TheVariants.{Lvalue, Prvalue}
-use Rattle.cpp_layout.specs.Layout.{extent_of, has_virtual}
 use Rattle.cpp_tree.specs.declared.kinds.Builtin.{Builtin}
 use Rattle.cpp_tree.specs.declared.kinds.Builtin.TheVariants.{PutChar, GetChar, Spawn, Join, Abort}
 use Rattle.cpp_tree.specs.declared.kinds.TKind.{TKind}
@@ -20,8 +19,8 @@ use Rattle.cpp_tree.specs.declared.kinds.TKind.TheVariants.{Literal, Local, Glob
 use Rattle.cpp_tree.specs.declared.program.FuncKind.{FuncKind}
 use Rattle.cpp_tree.specs.declared.program.FuncKind.TheVariants.{Plain, Constructor, Destructor, ClosureCall}
 use Rattle.cpp_tree.specs.Units.{Func, Global as GlobalRecord, SlotFunc}
-use Rattle.cpp_tree.specs.Typing.{Head, passes, form_in, is_volatile_typ, unqualified, is_void, is_class_typ, is_reference, is_class, without_exception, same_shape, kind_in, is_kind, same_kind, scalar_of, is_scalar_value, word_kind, gives, is_promoted, gives_promoted, is_word_of, is_prvalue, is_statement_typ, is_bool, is_lvalue_of, is_prvalue_of, initialises, builds, is_result, Word, object, passed, is_word}
-use Rattle.cpp_tree.specs.Parts.{is_measured, are_pieces, are_elements, are_destroyed, are_scalars}
+use Rattle.cpp_tree.specs.Typing.{Head, passes, form_in, is_volatile_typ, unqualified, is_void, is_class_typ, is_reference, is_class, without_exception, same_shape, kind_in, is_kind, same_kind, scalar_of, is_scalar_value, word_kind, gives, is_promoted, gives_promoted, is_word_of, is_prvalue, is_statement_typ, is_bool, is_lvalue_of, is_prvalue_of, initialises, builds, is_result, Word, object, passed, are_words}
+use Rattle.cpp_tree.specs.Parts.{size_in, are_pieces, are_elements, are_destroyed, are_scalars}
 use Rattle.cpp_tree.specs.Roles.{is_throw}
 
 -- what a node's numbers are indexes into: the classes and slots of the program, the functions and globals of the unit, and the frame of the function
@@ -45,15 +44,12 @@ is_destructor kind = false
 abbrev pub is_special : FuncKind → Bool
 is_special kind = is_constructor kind || is_destructor kind
 
-abbrev pub result_in : Signature → Typ
-result_in (signature ps r safe) = r
-
-abbrev pub params_in : Signature → Typs
-params_in (signature ps r safe) = ps
-
 -- constructors and destructors have none
+abbrev pub result_in : FuncKind → Signature → Typ
+result_in kind (signature ps r safe) = cond (is_special kind) (typ void false false) r
+
 abbrev pub result_of : Func → Typ
-result_of f = cond (is_special f.kind) (typ void false false) (result_in f.declared.signature)
+result_of f = result_in f.kind f.declared.signature
 
 -- what a call passes: the object of a member function, and the parameters
 abbrev pub object_words : Option ℕ → List Word
@@ -64,64 +60,39 @@ abbrev pub param_words : Typs → List Word
 param_words none = []
 param_words (more t ts) = passed t ∷ param_words ts
 
+abbrev pub signature_words : Option ℕ → Signature → List Word
+signature_words class (signature ps r safe) = object_words class ++ param_words ps
+
 abbrev pub words_of : Func → List Word
-words_of f = object_words f.class ++ param_words (params_in f.declared.signature)
+words_of f = signature_words f.class f.declared.signature
 
 abbrev pub called_in : Form → Option Signature
 called_in (ptr (typ (func s) c v)) = Some s
 called_in f = None
 
-abbrev pub pointed_words : Option Signature → List Word
-pointed_words None = []
-pointed_words (Some s) = param_words (params_in s)
-
-abbrev pub words_in : Option Func → List Word
-words_in None = []
-words_in (Some f) = words_of f
-
-abbrev pub construct_words : Option Func → List Word
-construct_words None = []
-construct_words (Some f) = param_words (params_in f.declared.signature)
-
-abbrev pub first_pointed : List Head → Option Signature
-first_pointed [] = None
-first_pointed (h ∷ hs) = called_in (form_in h.typ)
-
--- what a node passes to what it calls
-abbrev pub call_words : Setting → TKind → List Head → List Word
-call_words s (Call f) hs = words_in (slice_get s.funcs f)
-call_words s (VirtualCall f c slot p) hs = words_in (slice_get s.funcs f)
-call_words s (Construct f) hs = construct_words (slice_get s.funcs f)
-call_words s PointerCall hs = pointed_words (first_pointed hs)
-call_words s kind hs = []
-
-abbrev pub are_words : List Word → ℕ → List Head → Bool
-are_words ws i [] = true
-are_words ws i (h ∷ hs) = passes (λ (w : Word). is_word w h) (slice_get ws i) && are_words ws (suc i) hs
-
-abbrev pub is_member_of : ℕ → Func → Bool
-is_member_of n f = passes (λ (k : ℕ). k == n) f.class
+abbrev pub is_member_of : ℕ → Option ℕ → Bool
+is_member_of n class = passes (λ (k : ℕ). k == n) class
 
 -- Slots
 
 -- the slot has the function itself: it is the final overrider of its own class
-abbrev pub is_slot_of : ℕ → Func → SlotFunc → Bool
-is_slot_of n f slot = slot.class == n && name_eq slot.name f.declared.name && signature_eq slot.signature f.declared.signature
+abbrev pub is_slot_of : ℕ → Function → SlotFunc → Bool
+is_slot_of n f slot = slot.class == n && name_eq slot.name f.name && form_eq (func slot.signature) (func f.signature)
 
-abbrev pub has_slot : Setting → ℕ → ℕ → Func → Bool
-has_slot s n slot f = passes (λ (ss : List SlotFunc). passes (is_slot_of n f) (slice_get ss slot)) (slice_get s.slots n)
+abbrev pub has_slot : List (List SlotFunc) → ℕ → ℕ → Function → Bool
+has_slot slots n slot f = passes (λ (list : List SlotFunc). passes (is_slot_of n f) (slice_get list slot)) (slice_get slots n)
 
 -- a class pointer lies in objects of this type
 abbrev pub has_pointer_at : List Class → ℕ → Typ → Bool
-has_pointer_at classes at t = is_measured classes t && nat_le (at + 8) (extent_of classes t).size
+has_pointer_at classes at t = passes (λ (size : ℕ). nat_le (at + 8) size) (size_in classes t)
 
-abbrev pub is_virtual_call : Setting → ℕ → ℕ → ℕ → Typ → Cat → Func → Bool
-is_virtual_call s n slot pointer t cat f = is_member_of n f && f.declared.is_virtual && has_slot s n slot f && is_result (result_of f) t cat
+abbrev pub is_virtual_call : Setting → ℕ → ℕ → Typ → Cat → Func → Bool
+is_virtual_call s n slot t cat f = is_member_of n f.class && f.declared.is_virtual && has_slot s.slots n slot f.declared && is_result (result_of f) t cat
 
 -- Rows
 
-abbrev pub at_place : Func → ℕ → Typ → Bool
-at_place f place t = passes (typ_eq t) (slice_get f.frame place)
+abbrev pub at_place : List Typ → ℕ → Typ → Bool
+at_place frame place t = passes (typ_eq t) (slice_get frame place)
 
 -- a scalar of this kind and mark
 abbrev pub is_access : IntKind → Bool → Typ → Bool
@@ -142,12 +113,12 @@ is_first_place (Local place) = place == 0
 is_first_place kind = false
 
 -- the address of a class result, as a place of no type
-abbrev pub is_result_address : Func → Typ → Head → Bool
-is_result_address f t h = is_void t && is_class_typ (result_of f) && is_first_place h.kind
+abbrev pub is_result_address : Typ → Head → Bool
+is_result_address result h = is_class_typ result && is_first_place h.kind
 
-abbrev pub is_load : Setting → IntKind → Bool → Typ → Cat → Head → Bool
-is_load s k volatile t Prvalue h = (is_scalar_value t && is_read k volatile t h) || (kind_eq k ULong && not volatile && typ_eq t (typ void false false) && is_result_address s.function t h)
-is_load s k volatile t Lvalue h = kind_eq k ULong && not volatile && is_lvalue h.cat && is_slot t h.typ
+abbrev pub is_load : Typ → IntKind → Bool → Typ → Cat → Head → Bool
+is_load result k volatile t Prvalue h = (is_scalar_value t && is_read k volatile t h) || (kind_eq k ULong && not volatile && typ_eq t (typ void false false) && is_result_address result h)
+is_load result k volatile t Lvalue h = kind_eq k ULong && not volatile && is_lvalue h.cat && is_slot t h.typ
 
 abbrev pub is_zero_literal : TKind → Bool
 is_zero_literal (Literal w) = w == 0
@@ -223,6 +194,9 @@ builtin_words Spawn = passed (typ (ptr (typ (func (signature (more (typ (int Lon
 builtin_words Join = passed (typ (int Int) false false) ∷ []
 builtin_words Abort = []
 
+abbrev pub is_constructor_of : Typ → FuncKind → Option ℕ → Bool
+is_constructor_of t kind class = is_constructor kind && passes (λ (n : ℕ). is_class n (form_in t)) class
+
 -- what is thrown: an object of class type, or a scalar (C++14 15.1)
 abbrev pub is_thrown : Typ → Head → Bool
 is_thrown t h = cond (is_class_typ t) (is_lvalue h.cat && form_eq (form_in t) (form_in h.typ)) (is_scalar_value t && is_prvalue_of t h)
@@ -232,9 +206,9 @@ abbrev pub referred : Typ → Typ
 referred (typ (ref t) c v) = t
 referred t = t
 
-abbrev pub is_handler_of : Setting → Option ℕ → Typ → List Head → Bool
-is_handler_of s None t hs = length hs == 0
-is_handler_of s (Some place) t hs = at_place s.function place (referred t) && are_scalars s.classes (referred t) hs
+abbrev pub is_handler_of : List Class → List Typ → Option ℕ → Typ → List Head → Bool
+is_handler_of classes frame None t hs = length hs == 0
+is_handler_of classes frame (Some place) t hs = at_place frame place (referred t) && are_scalars classes (referred t) hs
 
 -- the values of a switch's labels are of the kind of its value
 abbrev pub is_case_of : Option IntKind → TKind → Bool
@@ -266,11 +240,11 @@ two_kids test hs = kid 0 (λ a. kid 1 (λ b. test a b) hs) hs
 -- a node of this kind, type and category fits kids with these heads
 abbrev pub row_fits : Setting → TKind → Typ → Cat → List Head → Bool
 row_fits s (Literal w) t cat hs = is_prvalue cat && is_scalar_value t && passes (λ (k : IntKind). is_word_of k w) (kind_in (form_in t))
-row_fits s (Local place) t cat hs = is_lvalue cat && at_place s.function place t
+row_fits s (Local place) t cat hs = is_lvalue cat && at_place s.function.frame place t
 row_fits s (Global g) t cat hs = is_lvalue cat && passes (λ (found : GlobalRecord). typ_eq t found.typ) (slice_get s.globals g)
 row_fits s (FunctionAddress f) t cat hs = is_lvalue cat && passes (λ (g : Func). typ_eq t (typ (func g.declared.signature) false false)) (slice_get s.funcs f)
 row_fits s (ClassTable n) t cat hs = is_prvalue cat && typ_eq t (typ (int ULong) false false) && nat_lt n (length s.classes)
-row_fits s (Load k volatile) t cat hs = kid 0 (is_load s k volatile t cat) hs
+row_fits s (Load k volatile) t cat hs = kid 0 (is_load (result_of s.function) k volatile t cat) hs
 row_fits s (Convert k) t cat hs = is_prvalue cat && is_scalar_value t && scalar_of k t && kid 0 (λ h. is_prvalue h.cat && is_some (kind_in (form_in h.typ))) hs
 row_fits s Retype t cat hs = kid 0 (is_retyped t cat) hs
 row_fits s (Binary op k) t cat hs = two_kids (is_binary op k t cat) hs
@@ -279,18 +253,18 @@ row_fits s Comma t cat hs = kid 1 (same_value t cat) hs
 row_fits s (Assign k volatile) t cat hs = is_lvalue cat && is_access k volatile t && kid 0 (is_lvalue_of t) hs && kid 1 (is_prvalue_of (unqualified t)) hs
 row_fits s (Update op stored operation volatile old) t cat hs = two_kids (is_update op stored operation volatile old t cat) hs
 row_fits s CopyAssign t cat hs = is_lvalue cat && is_class_typ t && kid 0 (is_lvalue_of t) hs && kid 1 (λ h. is_lvalue h.cat && form_eq (form_in t) (form_in h.typ)) hs && kid 2 (builds t) hs
-row_fits s (Materialize place argument) t cat hs = is_lvalue cat && at_place s.function place t && kid 0 (builds t) hs && are_destructions s t (drop 1 hs)
+row_fits s (Materialize place argument) t cat hs = is_lvalue cat && at_place s.function.frame place t && kid 0 (builds t) hs && are_destructions s t (drop 1 hs)
 row_fits s FullExpression t cat hs = kid 0 (same_value t cat) hs
-row_fits s (Call f) t cat hs = passes (λ (g : Func). not (is_special g.kind) && is_result (result_of g) t cat) (slice_get s.funcs f) && are_words (call_words s (Call f) hs) 0 hs
-row_fits s (VirtualCall f n slot pointer) t cat hs = passes (is_virtual_call s n slot pointer t cat) (slice_get s.funcs f) && kid 0 (λ h. has_pointer_at s.classes pointer h.typ) hs && are_words (call_words s (VirtualCall f n slot pointer) hs) 0 hs
-row_fits s PointerCall t cat hs = passes (λ (g : Signature). kid 0 (λ h. is_prvalue h.cat) hs && is_result (result_in g) t cat && are_words (param_words (params_in g)) 0 (drop 1 hs)) (first_pointed hs)
-row_fits s (CallBuiltin b) t cat hs = is_prvalue cat && typ_eq t (typ (builtin_result b) false false) && are_words (builtin_words b) 0 hs
+row_fits s (Call f) t cat hs = passes (λ (g : Func). not (is_special g.kind) && is_result (result_of g) t cat && are_words (words_of g) hs) (slice_get s.funcs f)
+row_fits s (VirtualCall f n slot pointer) t cat hs = passes (λ (g : Func). is_virtual_call s n slot t cat g && are_words (words_of g) hs) (slice_get s.funcs f) && kid 0 (λ h. has_pointer_at s.classes pointer h.typ) hs
+row_fits s PointerCall t cat hs = kid 0 (λ h. is_prvalue h.cat && passes (λ (g : Signature). is_result (result_in Plain g) t cat && are_words (signature_words None g) (drop 1 hs)) (called_in (form_in h.typ))) hs
+row_fits s (CallBuiltin b) t cat hs = is_prvalue cat && typ_eq t (typ (builtin_result b) false false) && are_words (builtin_words b) hs
 row_fits s Throw t cat hs = is_prvalue cat && typ_eq t (unqualified t) && kid 0 (is_thrown t) hs && are_scalars s.classes t (drop 1 hs)
 row_fits s Rethrow t cat hs = is_statement_typ t cat
 row_fits s (Store k volatile) t cat hs = is_prvalue cat && is_access k volatile t && kid 0 (initialises t) hs
 row_fits s (CopyScalar k volatile) t cat hs = is_prvalue cat && is_access k volatile t
-row_fits s (Construct f) t cat hs = is_prvalue cat && passes (λ (g : Func). is_constructor g.kind && passes (λ (n : ℕ). is_class n (form_in t)) g.class) (slice_get s.funcs f) && are_words (call_words s (Construct f) hs) 0 hs
-row_fits s (CopyConstruct f) t cat hs = is_prvalue cat && passes (λ (g : Func). is_constructor g.kind && passes (λ (n : ℕ). is_class n (form_in t)) g.class && length (words_of g) == 2) (slice_get s.funcs f)
+row_fits s (Construct f) t cat hs = is_prvalue cat && passes (λ (g : Func). is_constructor_of t g.kind g.class && are_words (signature_words None g.declared.signature) hs) (slice_get s.funcs f)
+row_fits s (CopyConstruct f) t cat hs = is_prvalue cat && passes (λ (g : Func). is_constructor_of t g.kind g.class && length (words_of g) == 2) (slice_get s.funcs f)
 row_fits s CopyFrom t cat hs = is_prvalue cat && kid 0 (is_copied_from t) hs && kid 1 (builds t) hs
 row_fits s Pieces t cat hs = is_prvalue cat && are_pieces s.classes t hs
 row_fits s (Piece offset) t cat hs = is_prvalue cat && kid 0 (builds t) hs && are_destructions s t (drop 1 hs)
@@ -306,7 +280,7 @@ row_fits s Break t cat hs = is_statement_typ t cat
 row_fits s Continue t cat hs = is_statement_typ t cat
 row_fits s Return t cat hs = is_statement_typ t cat && is_return (result_of s.function) hs
 row_fits s Try t cat hs = is_statement_typ t cat
-row_fits s (Handler place) t cat hs = is_prvalue cat && is_handler_of s place t (drop 1 hs)
+row_fits s (Handler place) t cat hs = is_prvalue cat && is_handler_of s.classes s.function.frame place t (drop 1 hs)
 row_fits s (Atomic kind) t cat hs = is_statement_typ t cat
 row_fits s Synchronized t cat hs = is_statement_typ t cat
 row_fits s (Destroy f offset count stride) t cat hs = is_statement_typ t cat

@@ -1,5 +1,5 @@
 -- What the types and categories of nodes say of their words and objects.
-use Rattle.std.specs.Prelude.{ℕ, Bool, true, false, not, ◌&&◌, ◌||◌, ◌==◌, Option, Some, None, is_some, cond}
+use Rattle.std.specs.Prelude.{ℕ, Bool, true, false, not, ◌&&◌, ◌||◌, ◌==◌, List, [], ◌∷◌, Option, Some, None, is_some, cond}
 use Rattle.tx_ints.specs.declared.kinds.IntKind.{IntKind}
 use Rattle.tx_ints.specs.declared.kinds.IntKind.TheVariants.{Bool as BoolKind, Int, ULong}
 use Rattle.tx_ints.specs.Integers.{promote_of}
@@ -176,7 +176,17 @@ pub data Word : Type 0 where
   object : ℕ → Word
   passed : Typ → Word
 
--- the object, the argument's own object for a parameter of class type, or a value
+abbrev pub is_argument : TKind → Bool
+is_argument (Materialize place argument) = argument
+is_argument kind = false
+
+-- the object; the argument's own object for a parameter of class type; or a value
 abbrev pub is_word : Word → Head → Bool
-is_word (object n) h = is_lvalue h.cat && is_class n (form_in h.typ)
-is_word (passed (typ f c v)) h = cond (is_object_form f) (is_lvalue_of (typ f false false) h) (initialises (typ f c v) h)
+is_word (object n) h = is_lvalue h.cat && is_class n (form_in h.typ) && not (is_argument h.kind)
+is_word (passed (typ f c v)) h = cond (is_object_form f) (is_argument h.kind && is_lvalue_of (typ f false false) h) (not (is_argument h.kind) && initialises (typ f c v) h)
+
+-- one for each word
+abbrev pub are_words : List Word → List Head → Bool
+are_words [] [] = true
+are_words (w ∷ ws) (h ∷ hs) = is_word w h && are_words ws hs
+are_words ws hs = false

@@ -1,14 +1,16 @@
 -- Well-formed programs.
 use Rattle.std.specs.Prelude.{◌≡◌, ℕ, zero, suc, ◌+◌, ◌<◌, ◌≤◌, ◌==◌, nat_lt, nat_le, nat_eq, Bool, true, false, not, ◌&&◌, ◌||◌, List, [], ◌∷◌, ◌++◌, map, length, take, slice_get, drop, count_by, Option, Some, None, is_some, unwrap_or, cond}
 use Rattle.std.specs.List.{list_all}
-use Rattle.cpp_types.specs.Typ.{Typ, typ, ptr, Typs, none as none_typs, more as more_typs}
+use Rattle.cpp_types.specs.Typ.{Typ, typ, ptr}
 use Rattle.cpp_types.specs.Class.{Class, InOrder, classes_of}
 use Rattle.cpp_types.specs.Conversion.{is_object_form}
 use Rattle.cpp_types.specs.Equal.{flag_eq, typ_eq}
 use Rattle.cpp_types.specs.declared.ranks.Cat.{Cat}
 use Rattle.cpp_tree.specs.declared.kinds.TKind.{TKind}
 use Rattle.cpp_tree.specs.declared.kinds.TKind.TheVariants.{Literal, Local, Materialize, FullExpression, Store, Pieces, Piece, Elements, Block, Init, Defer, Loop, Switch, Case, Default, Break, Continue, Return, Handler}
+use Rattle.cpp_tree.specs.declared.arena.TNode.{TNode}
 use Rattle.cpp_tree.specs.declared.arena.TNodeId.{TNodeId}
+use Rattle.cpp_tree.specs.declared.roles.Position.{Position}
 use Rattle.cpp_tree.specs.declared.roles.Role.{Role}
 use Rattle.cpp_tree.specs.declared.roles.Role.TheVariants.{Value, Zero, ZeroWord, ZeroPart, Statement}
 use Rattle.cpp_tree.specs.declared.program.FuncKind.{FuncKind}
@@ -16,19 +18,13 @@ use Rattle.cpp_tree.specs.declared.program.TFunc.{TFunc}
 use Rattle.cpp_tree.specs.declared.program.UnitTree.{UnitTree}
 use Rattle.cpp_tree.specs.declared.program.Program.{Program}
 use Rattle.cpp_tree.specs.Trees.{Tree, node, Trees, none, more, kind_of, kids_of}
-use Rattle.cpp_tree.specs.Arena.{IsOrdered, IsForest, trees_of, tree_at}
+use Rattle.cpp_tree.specs.Arena.{IsOrdered, IsForest, trees_of, trees_at, tree_at}
 use Rattle.cpp_tree.specs.Units.{Func, Param, func_of, global_of, slot_of}
 use Rattle.cpp_tree.specs.Typing.{Head, head_of, passes, form_in, unqualified, is_void, is_class_typ, is_reference, is_class, is_prvalue, is_statement_typ}
 use Rattle.cpp_tree.specs.Roles.{Kids, kids_for, role_at, serves, way_fits, is_block, is_label}
-use Rattle.cpp_tree.specs.Rows.{Setting, row_fits, call_words, is_constructor, is_destructor, result_of, params_in, words_of}
+use Rattle.cpp_tree.specs.Rows.{Setting, row_fits, is_constructor, is_destructor, result_of, object_words, words_of}
 
 -- Positions: what is open round a node
-
--- a full-expression, whose temporaries are destroyed at its end; what `break` leaves; what `continue` goes on with
-pub record Position : Type 0 where
-  pub full : Bool
-  pub breaks : Bool
-  pub continues : Bool
 
 abbrev pub outermost : Position
 outermost = record { full = false; breaks = false; continues = false }
@@ -54,6 +50,10 @@ abbrev pub heads_of : Trees → List Head
 heads_of none = []
 heads_of (more t ts) = head_of t ∷ heads_of ts
 
+-- the heads of nodes with these ids
+abbrev pub kid_heads : List TNode → List TNodeId → List Head
+kid_heads nodes ids = heads_of (trees_at (trees_of nodes) ids)
+
 -- Zeros: nothing but parts, stores and the number 0
 
 abbrev pub is_zeroing : TKind → Bool
@@ -78,13 +78,10 @@ skips (node Init t cat at (more address (more init none))) = not (is_zero init)
 skips (node Init t cat at kids) = true
 skips tree = false
 
-abbrev pub has_label : Trees → Bool
-has_label none = false
-has_label (more t ts) = is_label (kind_of t) || has_label ts
-
-abbrev pub labels_fit : Trees → Bool
-labels_fit none = true
-labels_fit (more t ts) = (not (skips t) || not (has_label ts)) && labels_fit ts
+-- no label stands behind such a declaration; `skipping` says that one stands before these
+abbrev pub labels_fit : Bool → Trees → Bool
+labels_fit skipping none = true
+labels_fit skipping (more t ts) = not (skipping && is_label (kind_of t)) && labels_fit (skipping || skips t) ts
 
 abbrev pub is_switch : TKind → Bool
 is_switch Switch = true
@@ -103,8 +100,8 @@ abbrev pub no_object : List Head → Bool
 no_object [] = false
 no_object (h ∷ hs) = is_prvalue h.cat
 
-abbrev pub kids_in : Setting → Role → TKind → Typ → List Head → Kids
-kids_in s role kind t hs = kids_for role kind (is_void t) (no_object hs) (call_words s kind hs)
+abbrev pub kids_in : Role → TKind → Typ → List Head → Kids
+kids_in role kind t hs = kids_for role kind (is_void t) (no_object hs)
 
 -- zeros in an object of no type have no type; all other nodes meet their rows
 abbrev pub row_or_zero : Setting → Role → TKind → Typ → Cat → List Head → Bool
@@ -125,9 +122,9 @@ abbrev mutual
   -- a tree fits where it serves in this role
   pub fits : Setting → Position → Role → Tree → Bool
   fits s p role (node kind t cat at kids) = stands s p role kind t cat (heads_of kids)
-      && enough (kids_in s role kind t (heads_of kids)) (length (heads_of kids))
-      && (not (is_switch kind) || labels_fit kids)
-      && kids_fit s (inside kind p) (kids_in s role kind t (heads_of kids)) 0 kids
+      && enough (kids_in role kind t (heads_of kids)) (length (heads_of kids))
+      && (not (is_switch kind) || labels_fit false kids)
+      && kids_fit s (inside kind p) (kids_in role kind t (heads_of kids)) 0 kids
 
   -- the kids from a place on
   pub kids_fit : Setting → Position → Kids → ℕ → Trees → Bool
@@ -181,12 +178,8 @@ words_begin f = begin_with (result_items (result_of f)) f.frame && object_and_pa
 abbrev pub count_of_words : Func → ℕ
 count_of_words f = length (result_items (result_of f)) + length (words_of f)
 
-abbrev pub typs_count : Typs → ℕ
-typs_count none_typs = 0
-typs_count (more_typs t ts) = suc (typs_count ts)
-
 abbrev pub words_fit : Func → Bool
-words_fit f = f.words == count_of_words f && length f.params == typs_count (params_in f.declared.signature) && words_begin f
+words_fit f = f.words == count_of_words f && count_of_words f == length (result_items (result_of f)) + length (object_words f.class) + length f.params && words_begin f
 
 -- Places of the frame
 

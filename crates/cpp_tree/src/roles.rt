@@ -5,8 +5,8 @@
 pub enum Role {
     /// Its word.
     Value,
-    /// The object of a parameter of class type.
-    Argument,
+    /// The word of a call: a value, or the object of a parameter of class type.
+    Word,
     /// Building an object.
     Initialiser,
     /// Building a copy of the object at hand.
@@ -32,4 +32,15 @@ pub enum Role {
     Destruction,
     /// A scalar of an exception.
     Scalar,
+}
+
+/// What is open round a node.
+#[derive(Clone, Copy, Debug, PartialEq, Eq)]
+pub struct Position {
+    /// A full-expression, at whose end temporaries are destroyed.
+    pub full: bool,
+    /// What `break` leaves.
+    pub breaks: bool,
+    /// A loop, which `continue` goes on with.
+    pub continues: bool,
 }
