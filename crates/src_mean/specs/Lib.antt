@@ -5,3 +5,8 @@ pub mod Source
 pub mod Links
 pub mod Laws
 pub mod Cost
+pub mod Notation
+pub mod Runs
+pub mod Blocks
+pub mod Objects
+pub mod Exits

@@ -9,7 +9,7 @@ use Rattle.cpp_types.specs.Conversion.{bases}
 use Rattle.cpp_types.specs.Equal.{name_eq}
 use Rattle.cpp_types.specs.Spelling.{function_spelling}
 use Rattle.cpp_layout.specs.Layout.{extent_of, next_multiple, frame_size, function_address, table_address}
-use Rattle.cpp_layout.specs.Frames.{offsets_behind, item_extents}
+use Rattle.cpp_layout.specs.Frames.{offsets_after, item_extents}
 use Rattle.cpp_tree.specs.declared.program.Linkage.{Linkage}
 use Rattle.cpp_tree.specs.declared.program.Linkage.TheVariants.{External, Internal, Inline}
 use Rattle.cpp_tree.specs.declared.program.FuncKind.{FuncKind}
@@ -142,8 +142,8 @@ abbrev pub linked_func : (ℕ → ℕ → Bool) → List Class → Def → UnitF
 linked_func safe classes d f = record {
   unit = d.unit;
   size = frame_size (item_extents classes f.frame);
-  places = offsets_behind [] (item_extents classes f.frame);
-  words = word_places f.words (offsets_behind [] (item_extents classes f.frame)) f.frame;
+  places = offsets_after [] (item_extents classes f.frame);
+  words = word_places f.words (offsets_after [] (item_extents classes f.frame)) f.frame;
   stops = f.declared.no_except;
   safe = safe d.unit d.place;
   body = unwrap_or f.body (literal 0);

@@ -6,6 +6,7 @@
 //! "C++14" is ISO/IEC 14882:2014, and "the TS" is ISO/IEC TS 19841:2015.
 #![tactic(auto)]
 
+pub mod examples;
 pub mod frames;
 pub mod laws;
 
