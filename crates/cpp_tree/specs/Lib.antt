@@ -6,3 +6,5 @@ pub mod Parts
 pub mod Roles
 pub mod Rows
 pub mod WellFormed
+pub mod Notation
+pub mod Examples

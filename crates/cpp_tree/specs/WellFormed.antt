@@ -218,6 +218,14 @@ pub record WellFormedBody (s : Setting) (body : Tree) : Type 0 where
   pub within : list_all (is_free_place s.function) (places_of body) ≡ true
   pub once : (place : ℕ) → times place (places_of body) ≤ 1
 
+-- the same as a test, for bodies that are written by hand
+abbrev pub are_distinct : List ℕ → Bool
+are_distinct [] = true
+are_distinct (n ∷ ns) = times n ns == 0 && are_distinct ns
+
+abbrev pub body_fits : Setting → Tree → Bool
+body_fits s body = fits s outermost Statement body && is_body_of s.function.kind (kind_of body) && ends_well (result_of s.function) body && words_fit s.function && list_all (is_free_place s.function) (places_of body) && are_distinct (places_of body)
+
 abbrev pub setting_of : Program → UnitTree → TFunc → Setting
 setting_of p u f = record { classes = classes_of p.classes.items; slots = map (λ slots. map slot_of slots.items) p.slots.items; funcs = map (func_of (trees_of u.nodes.items)) u.funcs.items; globals = map global_of u.globals.items; function = func_of (trees_of u.nodes.items) f }
 

@@ -13,7 +13,8 @@ use Rattle.cpp_tree.specs.declared.kinds.TKind.TheVariants.{Literal, Local, Glob
 use Rattle.cpp_tree.specs.declared.program.FuncKind.TheVariants.{Plain}
 use Rattle.cpp_tree.specs.declared.program.CellKind.TheVariants.{Number}
 use Rattle.cpp_tree.specs.Units.{Func, TypedProgram}
-use Rattle.src_mean.specs.Notation.{plain, const, effect, prvalue, lvalue, defined, global_of, one_unit}
+use Rattle.cpp_tree.specs.Notation.{plain, const, effect, prvalue, lvalue}
+use Rattle.src_mean.specs.Notation.{defined, global_of, one_unit}
 
 --     int main() { return 0; }
 

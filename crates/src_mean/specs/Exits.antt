@@ -10,7 +10,8 @@ use Rattle.cpp_tree.specs.declared.kinds.Builtin.TheVariants.{PutChar}
 use Rattle.cpp_tree.specs.declared.kinds.TKind.TheVariants.{Literal, Local, Global, Load, Convert, Retype, Binary, Conditional, Assign, Update, Call, Builtin, Throw, Rethrow, Store, Construct, Elements, Block, Init, Switch, Case, Default, Break, Return, Try, Handler, Synchronized, Destroy, Field}
 use Rattle.cpp_tree.specs.declared.program.FuncKind.TheVariants.{Plain, Constructor, Destructor}
 use Rattle.cpp_tree.specs.Units.{Func, TypedProgram}
-use Rattle.src_mean.specs.Notation.{plain, const, effect, prvalue, lvalue, defined, class_of, global_of, one_unit}
+use Rattle.cpp_tree.specs.Notation.{plain, const, effect, prvalue, lvalue}
+use Rattle.src_mean.specs.Notation.{defined, class_of, global_of, one_unit}
 
 --     int main() { throw 1; }
 

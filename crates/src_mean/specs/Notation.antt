@@ -1,36 +1,18 @@
--- Short forms for the trees and units of worked programs.
+-- Short forms for the units of worked programs.
 use Rattle.std.specs.Prelude.{ℕ, suc, Bool, true, false, List, [], ◌∷◌, ◌++◌, map, Option, Some, None, codes}
-use Rattle.cpp_types.specs.Typ.{Typ, typ, Form, void, Signature, signature, none as none_typs}
+use Rattle.std.specs.List.{list_all}
+use Rattle.cpp_types.specs.Typ.{Typ, void, Signature, signature, none as none_typs}
 use Rattle.cpp_types.specs.Class.{Class, Member, Function}
 use Rattle.cpp_types.specs.declared.classes.Safety.TheVariants.{None as Unsaid}
-use Rattle.cpp_types.specs.declared.ranks.Cat.TheVariants.{Lvalue, Prvalue}
-use Rattle.cpp_tree.specs.declared.kinds.TKind.{TKind}
 use Rattle.cpp_tree.specs.declared.program.FuncKind.{FuncKind}
 use Rattle.cpp_tree.specs.declared.program.Linkage.TheVariants.{External}
-use Rattle.cpp_tree.specs.Trees.{Tree, node, Trees, none, more, nowhere}
-use Rattle.cpp_tree.specs.Units.{Param, Func, Cell, Global, Definition, SlotFunc, TypedProgram}
+use Rattle.cpp_tree.specs.Trees.{Tree, nowhere}
+use Rattle.cpp_tree.specs.Notation.{plain}
+use Rattle.cpp_tree.specs.Units.{Param, Func, Cell, Global, Definition, SlotFunc, Unit as TypedUnit, TypedProgram}
+use Rattle.cpp_tree.specs.Rows.{Setting}
+use Rattle.cpp_tree.specs.WellFormed.{body_fits}
 use Rattle.src_mean.specs.Linked.{Program}
 use Rattle.src_mean.specs.Links.{linked, class_name}
-
-abbrev pub plain : Form → Typ
-plain f = typ f false false
-
-abbrev pub const : Form → Typ
-const f = typ f true false
-
-abbrev pub kids : List Tree → Trees
-kids [] = none
-kids (t ∷ ts) = more t (kids ts)
-
--- a statement, or a part of one
-abbrev pub effect : TKind → List Tree → Tree
-effect kind ts = node kind (plain void) Prvalue nowhere (kids ts)
-
-abbrev pub prvalue : TKind → Typ → List Tree → Tree
-prvalue kind t ts = node kind t Prvalue nowhere (kids ts)
-
-abbrev pub lvalue : TKind → Typ → List Tree → Tree
-lvalue kind t ts = node kind t Lvalue nowhere (kids ts)
 
 abbrev pub declared : List ℕ → Signature → (virtual no_except : Bool) → Function
 declared name s virtual no_except = record { name = name; signature = s; is_const = false; is_virtual = virtual; is_override = false; is_final = false; pure_virtual = false; safety = Unsaid; considered = false; no_except = no_except; at = nowhere }
@@ -73,3 +55,11 @@ slot_symbol classes f = Some (class_name classes f.class ++ codes "::" ++ f.name
 -- the linked program of one unit, all of whose functions have safe bodies
 abbrev pub link : TypedProgram → Program
 link t = linked (λ u n. true) (slot_symbol t.classes) (codes "main()") t
+
+-- each body is well-formed
+abbrev pub fits_where_there : Setting → Option Tree → Bool
+fits_where_there s None = true
+fits_where_there s (Some body) = body_fits s body
+
+abbrev pub bodies_fit : TypedProgram → Bool
+bodies_fit t = list_all (λ (u : TypedUnit). list_all (λ (f : Func). fits_where_there (record { classes = t.classes; slots = t.slots; funcs = u.funcs; globals = u.globals; function = f }) f.body) u.funcs) t.units

@@ -11,7 +11,8 @@ use Rattle.cpp_tree.specs.declared.kinds.Builtin.TheVariants.{PutChar}
 use Rattle.cpp_tree.specs.declared.kinds.TKind.TheVariants.{Literal, Local, ClassTable, Load, Convert, Retype, Binary, Conditional, Assign, Update, Materialize, FullExpression, Call, VirtualCall, Builtin, Throw, Store, Construct, Pieces, Piece, Block, Init, Defer, Return, Try, Handler, Atomic, Destroy, Field}
 use Rattle.cpp_tree.specs.declared.program.FuncKind.TheVariants.{Plain, Constructor, Destructor, ClosureCall}
 use Rattle.cpp_tree.specs.Units.{Func, TypedProgram}
-use Rattle.src_mean.specs.Notation.{plain, const, effect, prvalue, lvalue, defined, class_of, slot_of, one_unit}
+use Rattle.cpp_tree.specs.Notation.{plain, const, effect, prvalue, lvalue}
+use Rattle.src_mean.specs.Notation.{defined, class_of, slot_of, one_unit}
 
 --     struct D { int k; D(int x) : k(x) { } ~D() { putchar('0' + k); } };
 --     int main() { D a(1); { D b(2); D c(3); } return 0; }
