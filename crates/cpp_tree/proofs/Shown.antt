@@ -1,6 +1,6 @@
 -- What a list of nodes shows, and that it stays shown when nodes are added.
 use Rattle.std.proofs.Common.{◌≡◌, ℕ, zero, suc, ◌+◌, ◌<◌, ◌≤◌, List, [], ◌∷◌, ◌++◌, length, Some, refl, sym, ◌∙◌, subst, ap, arith, append_assoc, slice_get, append-nil, length-append, get_or, take, true, nat_lt, fold}
-use Rattle.std.specs.Prelude.{Bool, false, ◌&&◌}
+use Rattle.std.specs.Prelude.{false}
 use Rattle.std.proofs.lemmas.Bool.{and_parts, ltb-true, ltb-false}
 use Rattle.std.proofs.lemmas.Option.{slice_get_within, slice_get-get_or, get_or_from_slice_get}
 use Rattle.std.proofs.lemmas.List.{get_or_append_left, get_or_push}
@@ -136,9 +136,9 @@ tree_is ts (m ∷ ns) zero j n e h below =
     let there : j < length (with_node ts m) = simp length-append (omega arith) in
     let found : get_or all j (literal 0) ≡ tree_of ts m = kept (with_node ts m) ns j there ∙ get_or_push ts (tree_of ts m) (literal 0) j (sym seam) in
     let agree : (i : ℕ) → i < j → get_or all i (literal 0) ≡ get_or ts i (literal 0) = λ i h. (
-      let low : i < length ts = omega (arith, h, seam) in
-      let there : i < length (with_node ts m) = simp length-append (omega (arith, low)) in
-      kept (with_node ts m) ns i there ∙ get_or_append_left ts (tree_of ts m ∷ []) (literal 0) i low
+    let low : i < length ts = omega (arith, h, seam) in
+    let there : i < length (with_node ts m) = simp length-append (omega (arith, low)) in
+    kept (with_node ts m) ns i there ∙ get_or_append_left ts (tree_of ts m ∷ []) (literal 0) i low
     ) in
     let kids : trees_at all n.kids.items ≡ trees_at ts n.kids.items = same_kids j ts all n.kids.items agree below in
     found ∙ ap (λ (z : TNode). tree_of ts z) is ∙ ap (λ (z : Trees). node n.kind (typ_of n.ty) n.cat n.at z) (sym kids)

@@ -1,5 +1,5 @@
 -- The trees that a list of nodes shows.
-use Rattle.std.specs.Prelude.{◌≡◌, ℕ, ◌+◌, ◌<◌, ◌≤◌, nat_lt, nat_eq, Bool, true, List, [], ◌∷◌, ◌++◌, length, slice_get, get_or, fold, sum_by, count_by, Some}
+use Rattle.std.specs.Prelude.{◌≡◌, ℕ, ◌<◌, ◌≤◌, nat_lt, nat_eq, Bool, true, List, [], ◌∷◌, ◌++◌, length, slice_get, get_or, fold, sum_by, count_by, Some}
 use Rattle.std.specs.List.{list_all}
 use Rattle.cpp_types.specs.Typ.{Typ, typ_of}
 use Rattle.cpp_types.specs.declared.classes.At.{At}

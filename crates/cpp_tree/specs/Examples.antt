@@ -2,19 +2,18 @@
 --
 --     int x; struct D { int v; D(int); ~D(); };   void g(D, int&);   int f(int p) { D d(..); int i; int j; .. }
 use Rattle.std.specs.Prelude.{ℕ, Bool, true, false, List, [], ◌∷◌, Option, Some, None, map}
-use Rattle.tx_ints.specs.declared.kinds.IntKind.TheVariants.{Bool as BoolKind, Int, Long, ULong}
+use Rattle.tx_ints.specs.declared.kinds.IntKind.TheVariants.{Bool as BoolKind, Int, ULong}
 use Rattle.tx_ints.specs.declared.kinds.BinOp.TheVariants.{Add}
-use Rattle.cpp_types.specs.Typ.{Typ, Form, int, ptr, ref, array, class, void, Typs, Signature, signature, none as none_typs, more as more_typs}
-use Rattle.cpp_types.specs.Class.{Class, Function}
+use Rattle.cpp_types.specs.Typ.{Typ, int, ref, class, void, Typs, signature, none as none_typs, more as more_typs}
+use Rattle.cpp_types.specs.Class.{Class}
 use Rattle.cpp_types.specs.declared.classes.Safety.TheVariants.{None as Unsaid}
-use Rattle.cpp_tree.specs.declared.kinds.TKind.{TKind}
-use Rattle.cpp_tree.specs.declared.kinds.TKind.TheVariants.{Literal, Local, Global, Load, Convert, Binary, Conditional, Assign, Materialize, FullExpression, Call, Throw, Store, CopyScalar, Construct, CopyFrom, Pieces, Piece, Elements, Block, Init, Defer, Loop, Switch, Case, Default, Break, Continue, Return, Try, Handler, Destroy, Field}
+use Rattle.cpp_tree.specs.declared.kinds.TKind.TheVariants.{Literal, Local, Load, Binary, Conditional, Materialize, Throw, Store, Construct, Block, Init, Loop, Switch, Return, Destroy, Field}
 use Rattle.cpp_tree.specs.declared.program.FuncKind.{FuncKind}
 use Rattle.cpp_tree.specs.declared.program.FuncKind.TheVariants.{Plain, Constructor, Destructor}
 use Rattle.cpp_tree.specs.declared.program.Linkage.TheVariants.{External}
 use Rattle.cpp_tree.specs.declared.roles.Role.TheVariants.{BlockItem}
 use Rattle.cpp_tree.specs.Trees.{Tree, nowhere}
-use Rattle.cpp_tree.specs.Units.{Func, Global as GlobalRecord}
+use Rattle.cpp_tree.specs.Units.{Func}
 use Rattle.cpp_tree.specs.Notation.{plain, effect, prvalue, lvalue}
 use Rattle.cpp_tree.specs.Rows.{Setting}
 use Rattle.cpp_tree.specs.WellFormed.{outermost, fits, body_fits}

@@ -1,5 +1,5 @@
 -- Where the parts of an object lie: what the numbers in the nodes that build and destroy one have to be.
-use Rattle.std.specs.Prelude.{ℕ, zero, suc, ◌+◌, ◌*◌, ◌-◌, ◌%◌, ◌==◌, nat_le, nat_lt, Bool, true, false, not, ◌&&◌, ◌||◌, List, [], ◌∷◌, length, slice_get, Option, Some, None, is_some, cond}
+use Rattle.std.specs.Prelude.{ℕ, zero, suc, ◌+◌, ◌*◌, ◌-◌, ◌%◌, ◌==◌, nat_le, nat_lt, Bool, true, false, ◌&&◌, ◌||◌, List, [], ◌∷◌, length, slice_get, Option, Some, None, is_some, cond}
 use Rattle.tx_ints.specs.declared.kinds.IntKind.{IntKind}
 use Rattle.cpp_types.specs.Typ.{Typ, typ, Form, array, class, closure}
 use Rattle.cpp_types.specs.Class.{Class, Member, completion_of, held_form}

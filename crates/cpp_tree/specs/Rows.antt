@@ -1,5 +1,5 @@
 -- What each node asks of its own numbers, type and category and of its kids' kinds, types and categories.
-use Rattle.std.specs.Prelude.{ℕ, zero, suc, ◌+◌, ◌==◌, nat_le, nat_lt, Bool, true, false, not, ◌&&◌, ◌||◌, List, [], ◌∷◌, ◌++◌, length, drop, slice_get, Option, Some, None, is_some, cond}
+use Rattle.std.specs.Prelude.{ℕ, ◌+◌, ◌==◌, nat_le, nat_lt, Bool, true, false, not, ◌&&◌, ◌||◌, List, [], ◌∷◌, ◌++◌, length, drop, slice_get, Option, Some, None, is_some, cond}
 use Rattle.std.specs.List.{list_all}
 use Rattle.tx_ints.specs.declared.kinds.IntKind.{IntKind}
 use Rattle.tx_ints.specs.declared.kinds.IntKind.TheVariants.{Int, Long, ULong}
@@ -8,8 +8,8 @@ use Rattle.tx_ints.specs.declared.kinds.BinOp.TheVariants.{Add, Lt, Gt, Le, Ge, 
 use Rattle.tx_ints.specs.Integers.{is_shift}
 use Rattle.cpp_types.specs.Typ.{Typ, typ, Form, void, int, ptr, ref, func, Signature, signature, Typs, none, more}
 use Rattle.cpp_types.specs.Class.{Class, Function}
-use Rattle.cpp_types.specs.Conversion.{is_object_form, is_lvalue, bases}
-use Rattle.cpp_types.specs.Equal.{name_eq, flag_eq, kind_eq, typ_eq, form_eq, signature_eq}
+use Rattle.cpp_types.specs.Conversion.{is_lvalue}
+use Rattle.cpp_types.specs.Equal.{name_eq, flag_eq, kind_eq, typ_eq, form_eq}
 use Rattle.cpp_types.specs.declared.ranks.Cat.{Cat}
 use Rattle.cpp_types.specs.declared.ranks.Cat.TheVariants.{Lvalue, Prvalue}
 use Rattle.cpp_tree.specs.declared.kinds.Builtin.{Builtin}
@@ -17,9 +17,9 @@ use Rattle.cpp_tree.specs.declared.kinds.Builtin.TheVariants.{PutChar, GetChar, 
 use Rattle.cpp_tree.specs.declared.kinds.TKind.{TKind}
 use Rattle.cpp_tree.specs.declared.kinds.TKind.TheVariants.{Literal, Local, Global, Function as FunctionAddress, ClassTable, Load, Convert, Retype, Binary, Conditional, Comma, Assign, Update, CopyAssign, Materialize, FullExpression, Call, VirtualCall, PointerCall, Builtin as CallBuiltin, Throw, Rethrow, Store, CopyScalar, Construct, CopyConstruct, CopyFrom, Pieces, Piece, Elements, Block, Init, Defer, Loop, Switch, Case, Default, Break, Continue, Return, Try, Handler, Atomic, Synchronized, Destroy, Field}
 use Rattle.cpp_tree.specs.declared.program.FuncKind.{FuncKind}
-use Rattle.cpp_tree.specs.declared.program.FuncKind.TheVariants.{Plain, Constructor, Destructor, ClosureCall}
+use Rattle.cpp_tree.specs.declared.program.FuncKind.TheVariants.{Plain, Constructor, Destructor}
 use Rattle.cpp_tree.specs.Units.{Func, Global as GlobalRecord, SlotFunc}
-use Rattle.cpp_tree.specs.Typing.{Head, passes, form_in, is_volatile_typ, unqualified, is_void, is_class_typ, is_reference, is_class, without_exception, same_shape, kind_in, is_kind, same_kind, scalar_of, is_scalar_value, word_kind, gives, is_promoted, gives_promoted, is_word_of, is_prvalue, is_statement_typ, is_bool, is_lvalue_of, is_prvalue_of, initialises, builds, is_result, Word, object, passed, are_words}
+use Rattle.cpp_tree.specs.Typing.{Head, passes, form_in, is_volatile_typ, unqualified, is_void, is_class_typ, is_reference, is_class, without_exception, same_shape, kind_in, same_kind, scalar_of, is_scalar_value, word_kind, gives, is_promoted, gives_promoted, is_word_of, is_prvalue, is_statement_typ, is_bool, is_lvalue_of, is_prvalue_of, initialises, builds, is_result, Word, object, passed, are_words}
 use Rattle.cpp_tree.specs.Parts.{size_in, are_pieces, are_elements, are_destroyed, are_scalars}
 use Rattle.cpp_tree.specs.Roles.{is_throw}
 

@@ -3,7 +3,6 @@ use Rattle.std.specs.Prelude.{ℕ, Bool, List, map, Option, option_map}
 use Rattle.cpp_types.specs.Typ.{Typ, typ_of, Signature, signature_of}
 use Rattle.cpp_types.specs.Class.{Class, classes_of, Function, function_of}
 use Rattle.cpp_types.specs.declared.classes.At.{At}
-use Rattle.cpp_tree.specs.declared.arena.TNodeId.{TNodeId}
 use Rattle.cpp_tree.specs.declared.program.Linkage.{Linkage}
 use Rattle.cpp_tree.specs.declared.program.FuncKind.{FuncKind}
 use Rattle.cpp_tree.specs.declared.program.TParam.{TParam}

@@ -1,13 +1,12 @@
 -- Well-formed programs.
-use Rattle.std.specs.Prelude.{◌≡◌, ℕ, zero, suc, ◌+◌, ◌<◌, ◌≤◌, ◌==◌, nat_lt, nat_le, nat_eq, Bool, true, false, not, ◌&&◌, ◌||◌, List, [], ◌∷◌, ◌++◌, map, length, take, slice_get, drop, count_by, Option, Some, None, is_some, unwrap_or, cond}
+use Rattle.std.specs.Prelude.{◌≡◌, ℕ, suc, ◌+◌, ◌<◌, ◌≤◌, ◌==◌, nat_lt, nat_le, nat_eq, Bool, true, false, not, ◌&&◌, ◌||◌, List, [], ◌∷◌, ◌++◌, map, length, slice_get, drop, count_by, Option, Some, None, is_some, unwrap_or, cond}
 use Rattle.std.specs.List.{list_all}
 use Rattle.cpp_types.specs.Typ.{Typ, typ, ptr}
-use Rattle.cpp_types.specs.Class.{Class, InOrder, classes_of}
-use Rattle.cpp_types.specs.Conversion.{is_object_form}
+use Rattle.cpp_types.specs.Class.{InOrder, classes_of}
 use Rattle.cpp_types.specs.Equal.{flag_eq, typ_eq}
 use Rattle.cpp_types.specs.declared.ranks.Cat.{Cat}
 use Rattle.cpp_tree.specs.declared.kinds.TKind.{TKind}
-use Rattle.cpp_tree.specs.declared.kinds.TKind.TheVariants.{Literal, Local, Materialize, FullExpression, Store, Pieces, Piece, Elements, Block, Init, Defer, Loop, Switch, Case, Default, Break, Continue, Return, Handler}
+use Rattle.cpp_tree.specs.declared.kinds.TKind.TheVariants.{Literal, Local, Materialize, FullExpression, Store, Pieces, Piece, Elements, Block, Init, Defer, Loop, Switch, Break, Continue, Return, Handler}
 use Rattle.cpp_tree.specs.declared.arena.TNode.{TNode}
 use Rattle.cpp_tree.specs.declared.arena.TNodeId.{TNodeId}
 use Rattle.cpp_tree.specs.declared.roles.Position.{Position}
@@ -20,8 +19,8 @@ use Rattle.cpp_tree.specs.declared.program.Program.{Program}
 use Rattle.cpp_tree.specs.Trees.{Tree, node, Trees, none, more, kind_of, kids_of}
 use Rattle.cpp_tree.specs.Arena.{IsOrdered, IsForest, trees_of, trees_at, tree_at}
 use Rattle.cpp_tree.specs.Units.{Func, Param, func_of, global_of, slot_of}
-use Rattle.cpp_tree.specs.Typing.{Head, head_of, passes, form_in, unqualified, is_void, is_class_typ, is_reference, is_class, is_prvalue, is_statement_typ}
-use Rattle.cpp_tree.specs.Roles.{Kids, kids_for, role_at, serves, way_fits, is_block, is_label}
+use Rattle.cpp_tree.specs.Typing.{Head, head_of, passes, form_in, is_void, is_class_typ, is_class, is_prvalue, is_statement_typ}
+use Rattle.cpp_tree.specs.Roles.{Kids, kids_for, role_at, serves, way_fits, is_label}
 use Rattle.cpp_tree.specs.Rows.{Setting, row_fits, is_constructor, is_destructor, result_of, object_words, words_of}
 
 -- Positions: what is open round a node

@@ -29,31 +29,52 @@ pub enum Builtin {
 pub enum TKind {
     // Expressions.
     /// A word.
-    Literal { word: u64 },
+    Literal {
+        word: u64,
+    },
     /// The address of an item of the frame.
-    Local { place: u32 },
+    Local {
+        place: u32,
+    },
     /// The address of a global, or of a string's characters.
-    Global { global: u32 },
+    Global {
+        global: u32,
+    },
     /// The address of a function.
-    Function { func: u32 },
+    Function {
+        func: u32,
+    },
     /// The number that an object's class pointer has: it tells the class when a virtual function is called.
-    ClassTable { class: u32 },
+    ClassTable {
+        class: u32,
+    },
     /// Reads a scalar (C++14 4.1). As an lvalue: reads the address that a reference, or another slot, holds.
     /// Kids: the address.
-    Load { kind: IntKind, volatile: bool },
+    Load {
+        kind: IntKind,
+        volatile: bool,
+    },
     /// Converts between integer kinds (C++14 4.7), to `bool` by a comparison with 0 (4.12). Kids: a value.
-    Convert { to: IntKind },
+    Convert {
+        to: IntKind,
+    },
     /// The same word with another type or category. Kids: an expression.
     Retype,
     /// An operator (C++14 5.6 to 5.13). Kids: left, right.
-    Binary { op: BinOp, kind: IntKind },
+    Binary {
+        op: BinOp,
+        kind: IntKind,
+    },
     /// `? :`, `&&`, `||` and `if` (C++14 5.14 to 5.16, 6.4.1). Kids: the test, what is run where it is not 0,
     /// what is run where it is 0.
     Conditional,
     /// C++14 5.18. Kids: an expression whose value is dropped, an expression.
     Comma,
     /// `=` on a scalar (C++14 5.17). Kids: the address, the value.
-    Assign { kind: IntKind, volatile: bool },
+    Assign {
+        kind: IntKind,
+        volatile: bool,
+    },
     /// `op=`, `++` and `--` (C++14 5.17, 5.2.6, 5.3.2). The operand is stored as `stored` and the operator works
     /// in `operation`; `old` says that the value is that of before. Kids: the address, the right operand.
     Update {
@@ -67,11 +88,16 @@ pub enum TKind {
     CopyAssign,
     /// An object of the frame that lives until the end of the full-expression (C++14 12.2), or, where it is an
     /// argument of class type, until the call is done. Kids: an initialiser, Destroy*.
-    Materialize { place: u32, argument: bool },
+    Materialize {
+        place: u32,
+        argument: bool,
+    },
     /// An expression at whose end its temporaries are destroyed (C++14 12.2). Kids: an expression.
     FullExpression,
     /// A call by name (C++14 5.2.2). Kids: the words that are passed.
-    Call { func: u32 },
+    Call {
+        func: u32,
+    },
     /// A call of a virtual function (C++14 10.3): of `func` as its class `class` names it in the slot `slot`, where
     /// objects of that class have their class pointer at `pointer`. Kids: the object, the other words.
     VirtualCall {
@@ -83,7 +109,9 @@ pub enum TKind {
     /// A call through a pointer. Kids: the pointer, the words that are passed.
     PointerCall,
     /// A call of a function that needs no declaration. Kids: its arguments.
-    Builtin { which: Builtin },
+    Builtin {
+        which: Builtin,
+    },
     /// C++14 15.1. Kids: a value, or an object of class type, and Field*.
     Throw,
     /// `throw;`
@@ -91,37 +119,58 @@ pub enum TKind {
 
     // Initialisers.
     /// A scalar, or the address in a reference. Kids: a value.
-    Store { kind: IntKind, volatile: bool },
+    Store {
+        kind: IntKind,
+        volatile: bool,
+    },
     /// A scalar, from the same place of the object that is copied.
-    CopyScalar { kind: IntKind, volatile: bool },
+    CopyScalar {
+        kind: IntKind,
+        volatile: bool,
+    },
     /// A class object, by a constructor. Kids: the words behind `this`.
-    Construct { func: u32 },
+    Construct {
+        func: u32,
+    },
     /// A class object, by its copy constructor, from the object that is copied.
-    CopyConstruct { func: u32 },
+    CopyConstruct {
+        func: u32,
+    },
     /// A copy. Kids: the object that is copied, an initialiser.
     CopyFrom,
     /// A class or an array, part by part. Kids: Piece*.
     Pieces,
     /// A part. Kids: an initialiser, Destroy*.
-    Piece { offset: u32 },
+    Piece {
+        offset: u32,
+    },
     /// An array of `count` elements that are built alike. Kids: an initialiser, Destroy*.
-    Elements { count: u32, stride: u32 },
+    Elements {
+        count: u32,
+        stride: u32,
+    },
 
     // Statements.
     /// A compound statement (C++14 6.3). Where `subobjects`, what it built is destroyed only when an exception
     /// leaves it: the body of a constructor. Kids: statement*.
-    Block { subobjects: bool },
+    Block {
+        subobjects: bool,
+    },
     /// A variable, or a base or member in a constructor. Kids: the address, an initialiser, Destroy*.
     Init,
     /// A base or member of an object that is being destroyed: its destructions are due at the end of the block.
     /// Kids: the address, Destroy*.
     Defer,
     /// `while`, `for` and, where not `test_first`, `do` (C++14 6.5). Kids: the test, the body, the step.
-    Loop { test_first: bool },
+    Loop {
+        test_first: bool,
+    },
     /// C++14 6.4.2. Kids: the value, statement*.
     Switch,
     /// Among the statements of a switch.
-    Case { word: u64 },
+    Case {
+        word: u64,
+    },
     /// Among the statements of a switch.
     Default,
     Break,
@@ -132,9 +181,13 @@ pub enum TKind {
     Try,
     /// A handler of its node's type, of `void` for `...` (C++14 15.3); the exception's bytes go to `place` where it
     /// has a name. Kids: the body, Field*.
-    Handler { place: Option<u32> },
+    Handler {
+        place: Option<u32>,
+    },
     /// An atomic block (the TS, [stmt.tx]). Kids: the body.
-    Atomic { kind: BlockKind },
+    Atomic {
+        kind: BlockKind,
+    },
     /// A synchronized block (the TS, [stmt.sync]). Kids: the body.
     Synchronized,
 
@@ -147,5 +200,8 @@ pub enum TKind {
         stride: u32,
     },
     /// A scalar in an exception's bytes.
-    Field { offset: u32, kind: IntKind },
+    Field {
+        offset: u32,
+        kind: IntKind,
+    },
 }
