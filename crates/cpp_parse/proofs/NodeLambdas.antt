@@ -33,11 +33,11 @@ module _ {A : Type 0} (other : A) (make : ℕ → Node → List A → A) where
       let v : A = make (length vs) m (values_at other vs m.kids.items) in
       let longer = length-append vs (v ∷ []) in
       let node : m ≡ n = cc in
-      let place : i ≡ length vs = omega (arith, at) in
-      let kids : values_at other (values_from other make vs (m ∷ ns)) n.kids.items ≡ values_at other vs n.kids.items = fronts_kept vs (m ∷ ns) n.kids.items (ap (λ (z : ℕ). are_below z n.kids.items) (sym place) ∙ below) in
-      front_kept (vs ++ v ∷ []) ns i (omega (arith, place, longer))
-      ∙ get_or_push vs v other i (sym place)
-      ∙ ap (λ (z : ℕ). make z m (values_at other vs m.kids.items)) (sym place)
+      let position : i ≡ length vs = omega (arith, at) in
+      let kids : values_at other (values_from other make vs (m ∷ ns)) n.kids.items ≡ values_at other vs n.kids.items = fronts_kept vs (m ∷ ns) n.kids.items (ap (λ (z : ℕ). are_below z n.kids.items) (sym position) ∙ below) in
+      front_kept (vs ++ v ∷ []) ns i (omega (arith, position, longer))
+      ∙ get_or_push vs v other i (sym position)
+      ∙ ap (λ (z : ℕ). make z m (values_at other vs m.kids.items)) (sym position)
       ∙ ap (λ (z : Node). make i z (values_at other vs z.kids.items)) node
       ∙ ap (make i n) (sym kids)
   value_from vs (m ∷ ns) (suc k) i n e at below =

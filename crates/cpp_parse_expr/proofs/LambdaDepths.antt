@@ -9,13 +9,13 @@ use Rattle.cpp_ast.specs.declared.arena.NodeId.{NodeId}
 use Rattle.cpp_ast.specs.declared.kinds.NodeKind.{NodeKind}
 use Rattle.cpp_ast.specs.Orders.{are_below}
 use Rattle.cpp_ast.specs.Trees.{Tree, node, Trees, none, more, kind_of, Shows, ShowsAll, kid_depth, deepest, deepest_kid}
-use Rattle.cpp_syntax.specs.declared.places.OpenBody.{OpenBody}
+use Rattle.cpp_syntax.specs.declared.positions.OpenBody.{OpenBody}
 use Rattle.cpp_syntax.specs.View.{values_at, values_from, lambdas_made, lambdas_at, lams_of, is_lambda}
 use Rattle.cpp_parse_expr.specs.Depths.{Path, at_root, to_kid, IsKid, HoldOwn, HoldLower, AreDepths, height}
 use Rattle.cpp_parse_expr.specs.Parse.{lambda_depths, lambda_depths_in}
-use Rattle.cpp_parse_expr.proofs.Kids.{kind_is}
-use Rattle.cpp_parse_expr.proofs.Deeper.{deepest_height}
-use Rattle.cpp_parse_expr.proofs.Paths.{kid_own}
+use Rattle.cpp_parse_expr.proofs.NodeKids.{kind_is}
+use Rattle.cpp_parse_expr.proofs.FirstTooDeep.{deepest_height}
+use Rattle.cpp_parse_expr.proofs.DepthPaths.{kid_own}
 
 -- The value of a node is made of those of its kids, which stand before it.
 
@@ -41,11 +41,11 @@ module _ {A : Type 0} (other : A) (make : ℕ → Node → List A → A) where
       let v : A = make (length vs) m (values_at other vs m.kids.items) in
       let longer = length-append vs (v ∷ []) in
       let node : m ≡ n = cc in
-      let place : i ≡ length vs = omega (arith, at) in
-      let kids : values_at other (values_from other make vs (m ∷ ns)) n.kids.items ≡ values_at other vs n.kids.items = fronts_kept vs (m ∷ ns) n.kids.items (ap (λ (z : ℕ). are_below z n.kids.items) (sym place) ∙ below) in
-      front_kept (vs ++ v ∷ []) ns i (omega (arith, place, longer))
-      ∙ get_or_push vs v other i (sym place)
-      ∙ ap (λ (z : ℕ). make z m (values_at other vs m.kids.items)) (sym place)
+      let position : i ≡ length vs = omega (arith, at) in
+      let kids : values_at other (values_from other make vs (m ∷ ns)) n.kids.items ≡ values_at other vs n.kids.items = fronts_kept vs (m ∷ ns) n.kids.items (ap (λ (z : ℕ). are_below z n.kids.items) (sym position) ∙ below) in
+      front_kept (vs ++ v ∷ []) ns i (omega (arith, position, longer))
+      ∙ get_or_push vs v other i (sym position)
+      ∙ ap (λ (z : ℕ). make z m (values_at other vs m.kids.items)) (sym position)
       ∙ ap (λ (z : Node). make i z (values_at other vs z.kids.items)) node
       ∙ ap (make i n) (sym kids)
   value_from vs (m ∷ ns) (suc k) i n e at below =
@@ -94,7 +94,7 @@ module _ (nodes : List Node) (root depth first : ℕ) (own : HoldOwn first nodes
         let found = (s.0).found in
         let stands : slice_get nodes id ≡ Some found = (s.0).stands in
         let are = lambdas_are nodes id found stands (lower.lower id found from stands) in
-        let below = pairs_in id d found.kids.items kids from s.1 (λ k kid e. record { found = found; stands = stands; place = k; there = e }) p in
+        let below = pairs_in id d found.kids.items kids from s.1 (λ k kid e. record { found = found; stands = stands; position = k; there = e }) p in
         let this : Pairs nodes root depth (own_lambda (is_lambda found.kind) id) (own_lambda (is_lambda kind) d) = subst (λ (k : NodeKind). Pairs nodes root depth (own_lambda (is_lambda found.kind) id) (own_lambda (is_lambda k) d)) (s.0).kind_is (own_pair (is_lambda found.kind) p) in
         subst (λ (ids : List ℕ). Pairs nodes root depth ids (lambda_depths_in d kids ++ own_lambda (is_lambda kind) d)) (sym are) (pairs_both below this)
 
@@ -163,7 +163,7 @@ part_of {nodes = nodes} {depth = depth} tree s (at_root {id = id} {d = d} e f) =
     record { tree = tree; shows = subst (λ (z : ℕ). Shows nodes z tree) (sym e) s; shallow = omega (arith, same) }
 part_of {nodes = nodes} {depth = depth} tree s (to_kid {holder = holder} {id = id} {above = above} {kid = kid} p k e f) =
     let h = part_of tree s p in
-    let part = inside nodes holder id above (deepest depth tree) kid k.found k.place h.tree k.stands k.there e h.shows h.shallow in
+    let part = inside nodes holder id above (deepest depth tree) kid k.found k.position h.tree k.stands k.there e h.shows h.shallow in
     subst (λ (n : ℕ). Part nodes id n (deepest depth tree)) (sym f) part
 
 pub path_shallow : {nodes : List Node} {root depth id d : ℕ} (tree : Tree) → Shows nodes root tree → Path nodes root depth id d → d ≤ deepest depth tree

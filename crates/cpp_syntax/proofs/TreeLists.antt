@@ -5,9 +5,9 @@ use Rattle.std.proofs.lemmas.List.{map-append, length-map}
 use Rattle.cpp_ast.specs.declared.arena.Node.{Node}
 use Rattle.cpp_ast.specs.declared.arena.NodeId.{NodeId}
 use Rattle.cpp_ast.specs.Trees.{Tree, node, Trees, none, more}
-use Rattle.cpp_syntax.specs.Texts.{join, one_tree}
+use Rattle.cpp_syntax.specs.Derivations.{join, one_tree}
 use Rattle.cpp_syntax.specs.View.{trees_of, count_trees, count_lambdas, count_lambdas_in, is_lambda, values_at, values_from, tree_made, lambdas_made, no_tree, trees_from, trees_at, lambdas_from, lambdas_at}
-use Rattle.cpp_syntax.proofs.Values.{at_map}
+use Rattle.cpp_syntax.proofs.NodeValues.{at_map}
 
 pub trees_of-append : (ts us : List Tree) → trees_of (ts ++ us) ≡ join (trees_of ts) (trees_of us)
 trees_of-append [] us = refl

@@ -5,8 +5,8 @@ use Rattle.cpp_ast.specs.declared.kinds.NodeKind.{NodeKind}
 use Rattle.cpp_ast.specs.declared.kinds.NodeKind.TheVariants as kind
 use Rattle.cpp_ast.specs.Trees.{Tree, node, Trees, more}
 use Rattle.cpp_syntax.specs.Source.{Source}
-use Rattle.cpp_syntax.specs.Rules.{Placing, at_first, at_token, at_name}
-use Rattle.cpp_syntax.specs.Texts.{Name, join, one_tree, leads_to_name, name_by, declared, declared_in, placed, place_of_first}
+use Rattle.cpp_syntax.specs.Rules.{Positioning, at_first, at_token, at_name}
+use Rattle.cpp_syntax.specs.Derivations.{Name, join, one_tree, leads_to_name, name_by, declared, declared_in, positioned, position_of_first}
 use Rattle.cpp_syntax.specs.View.{is_lambda}
 use Rattle.cpp_syntax.specs.WithBodies.{FilledTree, no_body, a_body, Filled, no_trees, more_trees}
 
@@ -17,7 +17,7 @@ filled_join {gs = gs} (more_trees {fs = f1} {gs = f2} x y e) z = more_trees x (f
 pub filled_one : {fs : List Tree} {t u : Tree} → FilledTree fs t u → Filled fs (one_tree t) (one_tree u)
 filled_one {fs = fs} x = more_trees x (no_trees refl) (back (append-nil fs))
 
--- Names and places are the same.
+-- Names and indices are the same.
 
 lambda_leads : (kind : NodeKind) → is_lambda kind ≡ true → leads_to_name kind ≡ false
 lambda_leads kind.Lambda e = refl
@@ -37,15 +37,15 @@ mutual
   declared_in_same (no_trees e) = refl
   declared_in_same (more_trees {ts = ts} {us = us} x y e) = first_same ts us x (declared_same x) (declared_in_same y)
 
-pub placed_same : {fs : List Tree} {ts us : Trees} (placing : Placing) (source : Source) (a : ℕ) (token : Option ℕ) → Filled fs ts us → placed placing source a token us ≡ placed placing source a token ts
-placed_same at_first source a token x = refl
-placed_same at_token source a token x = refl
-placed_same at_name source a token x = let e = declared_in_same x in rw e refl
+pub positioned_same : {fs : List Tree} {ts us : Trees} (positioning : Positioning) (source : Source) (a : ℕ) (token : Option ℕ) → Filled fs ts us → positioned positioning source a token us ≡ positioned positioning source a token ts
+positioned_same at_first source a token x = refl
+positioned_same at_token source a token x = refl
+positioned_same at_name source a token x = let e = declared_in_same x in rw e refl
 
-pub first_place_same : {fs : List Tree} {ts us : Trees} (source : Source) (a : ℕ) → Filled fs ts us → place_of_first source a us ≡ place_of_first source a ts
-first_place_same source a (no_trees e) = refl
-first_place_same source a (more_trees (no_body e x) y f) = refl
-first_place_same source a (more_trees (a_body body e x g h) y f) = refl
+pub first_position_same : {fs : List Tree} {ts us : Trees} (source : Source) (a : ℕ) → Filled fs ts us → position_of_first source a us ≡ position_of_first source a ts
+first_position_same source a (no_trees e) = refl
+first_position_same source a (more_trees (no_body e x) y f) = refl
+first_position_same source a (more_trees (a_body body e x g h) y f) = refl
 
 -- A tree and its bodies make one tree.
 

@@ -1,9 +1,9 @@
 use Rattle.std.proofs.Common.{refl, sym as back}
 use Rattle.cpp_ast.specs.declared.kinds.NodeKind.TheVariants.{ClassKey}
-use Rattle.cpp_syntax.specs.Symbols.{is_class_key}
-use Rattle.cpp_syntax.proofs.Longest.{mark_none}
+use Rattle.cpp_syntax.specs.Terminals.{is_class_key}
+use Rattle.cpp_syntax.proofs.LongestMatches.{mark_none}
 use Rattle.cpp_syntax.proofs.Readers.{reads_left_out, none_node}
-use Rattle.cpp_syntax.proofs.Leaves.{always_leaf, always_taken}
+use Rattle.cpp_syntax.proofs.LeafReaders.{always_leaf, always_taken}
 use Rattle.cpp_parse.proofs.classes.optional_class_key.Goals as goal
 
 pub returns-then-not-is_class_key_at : goal.returns-then-not-is_class_key_at

@@ -1,11 +1,11 @@
 use Rattle.std.proofs.Common.{refl, sym as back}
-use Rattle.cpp_syntax.proofs.Longest.{mark_none, seq_none, node_none}
+use Rattle.cpp_syntax.proofs.LongestMatches.{mark_none, seq_none, node_none}
 use Rattle.cpp_syntax.proofs.Readers.{leaves_same, leaves_both, leaves_read}
-use Rattle.cpp_parse_expr.proofs.Answering.{parsed_err, made, mark_and, none_second_mark}
+use Rattle.cpp_parse_expr.proofs.ReaderAnswers.{parsed_err, made, mark_and, none_second_mark}
 use Rattle.cpp_parse.proofs.constructors.named_initializer.Goals as goal
 
 pub returns-then-not-is_name_at : goal.returns-then-not-is_name_at
-returns-then-not-is_name_at c = (leaves_same c.refuse.ensures, node_none (seq_none (mark_none (back c.if-not-is_name_at.ensures.test))))
+returns-then-not-is_name_at c = (leaves_same c.expected_at.ensures, node_none (seq_none (mark_none (back c.if-not-is_name_at.ensures.test))))
 
 pub returns-in_default : goal.returns-in_default
 returns-in_default c =

@@ -3,7 +3,7 @@ use Rattle.std.proofs.lemmas.List.{length-set, length-replicate}
 use Rattle.std.proofs.lemmas.Option.{slice_get-get_or}
 use Rattle.cpp_ast.specs.declared.arena.NodeId.{NodeId}
 use Rattle.cpp_ast.specs.declared.units.LamBody.{LamBody}
-use Rattle.cpp_parse.proofs.Table.{no_entry, none_or, table_empty, nodes_empty, table_more, nodes_more}
+use Rattle.cpp_parse.proofs.BodyTable.{no_entry, none_or, table_empty, nodes_empty, table_more, nodes_more}
 use Rattle.cpp_parse.proofs.depth.bodies_by_node.Goals as goal
 
 abbrev first_id : NodeId

@@ -1,4 +1,4 @@
-use Rattle.cpp_parse.proofs.Definitions.{definition_by}
+use Rattle.cpp_parse.proofs.DefinitionKinds.{definition_by}
 use Rattle.cpp_parse.proofs.functions.definition_at.Goals as goal
 
 pub returns : goal.returns

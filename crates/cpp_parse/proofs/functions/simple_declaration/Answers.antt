@@ -1,9 +1,9 @@
 use Rattle.std.proofs.Common.{None, refl}
-use Rattle.cpp_syntax.specs.declared.symbol.Symbol.TheVariants as symbol
+use Rattle.cpp_syntax.specs.declared.terminal.Terminal.TheVariants as terminal
 use Rattle.cpp_syntax.specs.Rules.{simple_declaration}
-use Rattle.cpp_syntax.proofs.Longest.{neither}
-use Rattle.cpp_parse_expr.proofs.Answering.{parsed_left, parsed_right, parsed_form}
-use Rattle.cpp_parse_expr.proofs.Suffixed.{parsed_instead, with_none_behind, with_same_before}
+use Rattle.cpp_syntax.proofs.LongestMatches.{neither}
+use Rattle.cpp_parse_expr.proofs.ReaderAnswers.{parsed_left, parsed_right, parsed_form}
+use Rattle.cpp_parse_expr.proofs.PostfixReaders.{parsed_instead, with_none_behind, with_same_before}
 use Rattle.cpp_parse.proofs.functions.simple_declaration.Goals as goal
 
 pub returns-in-Ordinary : goal.returns-in-Ordinary

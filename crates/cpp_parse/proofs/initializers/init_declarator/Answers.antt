@@ -1,7 +1,7 @@
 use Rattle.cpp_syntax.specs.Names.{naming_of}
 use Rattle.cpp_syntax.proofs.Readers.{leaves_same, leaves_both, leaves_read, reads_form, none_form, none_node, none_seq}
-use Rattle.cpp_parse_expr.proofs.Answering.{made_at_name, parsed_err}
-use Rattle.cpp_parse.proofs.Initialised.{initialised}
+use Rattle.cpp_parse_expr.proofs.ReaderAnswers.{made_at_name, parsed_err}
+use Rattle.cpp_parse.proofs.InitDeclarators.{initialised}
 use Rattle.cpp_parse.proofs.initializers.init_declarator.Goals as goal
 
 pub returns-in_default : goal.returns-in_default

@@ -1,8 +1,8 @@
-use Rattle.cpp_syntax.specs.declared.symbol.Symbol.TheVariants as symbol
-use Rattle.cpp_syntax.proofs.Longest.{neither}
-use Rattle.cpp_parse_expr.proofs.Answering.{parsed_err, parsed_left, parsed_right}
-use Rattle.cpp_parse.proofs.Reached.{parsed_from}
-use Rattle.cpp_parse.proofs.Beginnings.{single_none, function_none, initialized_none, listed_none}
+use Rattle.cpp_syntax.specs.declared.terminal.Terminal.TheVariants as terminal
+use Rattle.cpp_syntax.proofs.LongestMatches.{neither}
+use Rattle.cpp_parse_expr.proofs.ReaderAnswers.{parsed_err, parsed_left, parsed_right}
+use Rattle.cpp_parse.proofs.LongestAlone.{parsed_from}
+use Rattle.cpp_parse.proofs.MemberStarts.{single_none, function_none, initialized_none, listed_none}
 use Rattle.cpp_parse.proofs.members.typed_member.Goals as goal
 
 pub returns-in_err-shape : goal.returns-in_err-shape

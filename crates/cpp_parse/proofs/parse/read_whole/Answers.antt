@@ -2,7 +2,7 @@ use Rattle.std.proofs.Common.{[], List, refl, subst}
 use Rattle.cpp_ast.specs.declared.arena.Node.{Node}
 use Rattle.cpp_ast.specs.declared.units.LamBody.{LamBody}
 use Rattle.cpp_ast.specs.Orders.{IsOrdered}
-use Rattle.cpp_syntax.specs.declared.places.OpenBody.{OpenBody}
+use Rattle.cpp_syntax.specs.declared.positions.OpenBody.{OpenBody}
 use Rattle.cpp_parse.specs.Bodies.{AreRead, IsBroken}
 use Rattle.cpp_parse.specs.Steps.{AreDeclarations}
 use Rattle.cpp_parse.proofs.UnitRead.{whole_read, broken_unit}

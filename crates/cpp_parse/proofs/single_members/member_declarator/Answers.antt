@@ -1,8 +1,8 @@
 use Rattle.std.proofs.Common.{refl}
-use Rattle.cpp_syntax.proofs.Longest.{node_none}
+use Rattle.cpp_syntax.proofs.LongestMatches.{node_none}
 use Rattle.cpp_syntax.proofs.Readers.{leaves_same, leaves_both, leaves_read, reads_seq, reads_form, none_seq, none_form}
-use Rattle.cpp_parse_expr.proofs.Answering.{parsed_err}
-use Rattle.cpp_parse.proofs.Named.{member_made}
+use Rattle.cpp_parse_expr.proofs.ReaderAnswers.{parsed_err}
+use Rattle.cpp_parse.proofs.NamedDeclarators.{member_made}
 use Rattle.cpp_parse.proofs.single_members.member_declarator.Goals as goal
 
 pub returns-in_default : goal.returns-in_default

@@ -1,10 +1,10 @@
 use Rattle.std.proofs.Common.{refl}
-use Rattle.cpp_syntax.specs.declared.symbol.Symbol.TheVariants as symbol
-use Rattle.cpp_syntax.proofs.Longest.{seq_none, node_none}
+use Rattle.cpp_syntax.specs.declared.terminal.Terminal.TheVariants as terminal
+use Rattle.cpp_syntax.proofs.LongestMatches.{seq_none, node_none}
 use Rattle.cpp_syntax.proofs.Readers.{leaves_same, leaves_both, leaves_read, reads_seq, none_behind}
-use Rattle.cpp_syntax.proofs.Loops.{reads_mark_next}
-use Rattle.cpp_parse_expr.proofs.Answering.{parsed_err, made_at_name}
-use Rattle.cpp_parse.proofs.Reached.{none_marked}
+use Rattle.cpp_syntax.proofs.ReaderLoops.{reads_mark_next}
+use Rattle.cpp_parse_expr.proofs.ReaderAnswers.{parsed_err, made_at_name}
+use Rattle.cpp_parse.proofs.LongestAlone.{none_marked}
 use Rattle.cpp_parse.proofs.single_members.member_function_alone.Goals as goal
 
 pub returns-in_err-changed : goal.returns-in_err-changed

@@ -1,8 +1,8 @@
 use Rattle.std.proofs.Common.{None, refl}
 use Rattle.cpp_syntax.specs.Rules.{declaration_head}
 use Rattle.cpp_syntax.proofs.Readers.{leaves_both, leaves_read}
-use Rattle.cpp_parse_expr.proofs.Answering.{parsed_err, parsed_form}
-use Rattle.cpp_parse_expr.proofs.Suffixed.{parsed_seq}
+use Rattle.cpp_parse_expr.proofs.ReaderAnswers.{parsed_err, parsed_form}
+use Rattle.cpp_parse_expr.proofs.PostfixReaders.{parsed_seq}
 use Rattle.cpp_parse.proofs.specifiers.declaration_head.Goals as goal
 
 pub returns-in_err-behind : goal.returns-in_err-behind

@@ -1,6 +1,6 @@
 use Rattle.std.proofs.Common.{refl}
 use Rattle.cpp_syntax.proofs.Readers.{leaves_same, leaves_both, leaves_read, reads_seq, reads_form}
-use Rattle.cpp_parse_expr.proofs.Answering.{always_err, made}
+use Rattle.cpp_parse_expr.proofs.ReaderAnswers.{always_err, made}
 use Rattle.cpp_parse_expr.proofs.declarators.function_qualifiers.Goals as goal
 
 pub returns-in_err-safe : goal.returns-in_err-safe

@@ -1,5 +1,5 @@
 use Rattle.std.proofs.Common.{refl, arith, get_or}
-use Rattle.cpp_parse_expr.proofs.Deeper.{passing_more, passing_found, passing_all}
+use Rattle.cpp_parse_expr.proofs.FirstTooDeep.{passing_more, passing_found, passing_all}
 use Rattle.cpp_parse_expr.proofs.depth.deeper_kid.Goals as goal
 
 pub returns-then-reach-limit-clause-deep : goal.returns-then-reach-limit-clause-deep

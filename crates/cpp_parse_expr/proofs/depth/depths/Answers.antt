@@ -2,7 +2,7 @@ use Rattle.std.proofs.Common.{◌≡◌, ◌+◌, ◌-◌, ◌<◌, ℕ, length,
 use Rattle.std.proofs.lemmas.List.{get_or_read}
 use Rattle.std.proofs.lemmas.Option.{slice_get_within}
 use Rattle.cpp_ast.specs.Orders.{are_below}
-use Rattle.cpp_parse_expr.proofs.Paths.{Handed, handed_none, handed_next, handed_all, below_more}
+use Rattle.cpp_parse_expr.proofs.DepthPaths.{Handed, handed_none, handed_next, handed_all, below_more}
 use Rattle.cpp_parse_expr.proofs.depth.depths.Goals as goal
 
 pub nodes-init : goal.nodes-init

@@ -3,8 +3,8 @@ use Rattle.cpp_ast.specs.declared.arena.NodeId.{NodeId}
 use Rattle.cpp_ast.specs.Orders.{are_below}
 use Rattle.cpp_ast.specs.Trees.{Trees, ShowsAll}
 use Rattle.cpp_parse_expr.specs.Depths.{deep_node, deep_kid, HasDeep, IsDeep}
-use Rattle.cpp_parse_expr.proofs.Deeper.{Down, down_none, down_more, down_over, down_found, none_low, some_high}
-use Rattle.cpp_parse_expr.proofs.Paths.{below_more}
+use Rattle.cpp_parse_expr.proofs.FirstTooDeep.{Down, down_none, down_more, down_over, down_found, none_low, some_high}
+use Rattle.cpp_parse_expr.proofs.DepthPaths.{below_more}
 use Rattle.cpp_parse_expr.proofs.depth.first_deeper.Goals as goal
 
 pub down-init : goal.down-init

@@ -1,7 +1,7 @@
 use Rattle.std.proofs.Common.{◌≤◌, ◌<◌, length}
 use Rattle.cpp_ast.specs.Trees.{Tree, Shows}
 use Rattle.cpp_parse_expr.specs.Depths.{deep_node}
-use Rattle.cpp_parse_expr.proofs.Deeper.{Down}
+use Rattle.cpp_parse_expr.proofs.FirstTooDeep.{Down}
 use Rattle.cpp_parse_expr.proofs.depth.first_deeper.Given as goal
 
 abbrev pub invariant-down : goal.invariant-down

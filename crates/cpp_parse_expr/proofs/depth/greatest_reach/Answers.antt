@@ -1,5 +1,5 @@
 use Rattle.std.proofs.Common.{◌≡◌, ◌+◌, ◌≤◌, ℕ, length, max, refl, sym, ◌∙◌, arith, get_or, subst}
-use Rattle.cpp_parse_expr.proofs.Heights.{Reaching, reaching_more, reaching_all, ord_max_is}
+use Rattle.cpp_parse_expr.proofs.TreeHeights.{Reaching, reaching_more, reaching_all, ord_max_is}
 use Rattle.cpp_parse_expr.proofs.depth.greatest_reach.Goals as goal
 
 pub kids-preserved : goal.kids-preserved

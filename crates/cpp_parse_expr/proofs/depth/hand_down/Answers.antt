@@ -2,7 +2,7 @@ use Rattle.std.proofs.Common.{◌≡◌, ◌+◌, ◌-◌, ◌<◌, ◌≤◌, g
 use Rattle.std.proofs.lemmas.Option.{slice_get-get_or}
 use Rattle.cpp_ast.specs.declared.arena.NodeId.{NodeId}
 use Rattle.cpp_parse_expr.specs.Depths.{step}
-use Rattle.cpp_parse_expr.proofs.Paths.{Handing, handing_more, handing_all, below_at, from_at}
+use Rattle.cpp_parse_expr.proofs.DepthPaths.{Handing, handing_more, handing_all, below_at, from_at}
 use Rattle.cpp_parse_expr.proofs.depth.hand_down.Goals as goal
 
 pub kids-preserved : goal.kids-preserved

@@ -3,8 +3,8 @@ use Rattle.std.proofs.lemmas.Option.{slice_get_within}
 use Rattle.cpp_ast.specs.declared.arena.NodeId.{NodeId}
 use Rattle.cpp_ast.specs.Trees.{Trees, ShowsAll}
 use Rattle.cpp_parse_expr.specs.Depths.{AreHeights, height_in}
-use Rattle.cpp_parse_expr.proofs.Heights.{heights_more}
-use Rattle.cpp_parse_expr.proofs.Paths.{lower_more}
+use Rattle.cpp_parse_expr.proofs.TreeHeights.{heights_more}
+use Rattle.cpp_parse_expr.proofs.DepthPaths.{lower_more}
 use Rattle.cpp_parse_expr.proofs.depth.heights.Goals as goal
 
 pub nodes-preserved : goal.nodes-preserved

@@ -1,11 +1,11 @@
 use Rattle.std.proofs.Common.{refl, sym as back, arith}
-use Rattle.cpp_syntax.specs.Symbols.{dot}
+use Rattle.cpp_syntax.specs.Terminals.{dot}
 use Rattle.cpp_syntax.specs.Grammar.{member_access}
 use Rattle.cpp_parse_expr.specs.Suffixes.{a_member}
-use Rattle.cpp_syntax.proofs.Longest.{mark_none, neither}
+use Rattle.cpp_syntax.proofs.LongestMatches.{mark_none, neither}
 use Rattle.cpp_syntax.proofs.Readers.{leaves_none, reads_mark}
-use Rattle.cpp_syntax.proofs.Loops.{within}
-use Rattle.cpp_parse_expr.proofs.Answering.{word_and, none_unlike, none_second, reads_to}
+use Rattle.cpp_syntax.proofs.ReaderLoops.{within}
+use Rattle.cpp_parse_expr.proofs.ReaderAnswers.{word_and, none_unlike, none_second, reads_to}
 use Rattle.cpp_parse_expr.proofs.expressions.member.Goals as goal
 
 pub returns-then-not-is_name_at : goal.returns-then-not-is_name_at

@@ -1,13 +1,13 @@
 use Rattle.std.proofs.Common.{rules, refl, sym as back}
 use Rattle.cpp_ast.specs.declared.kinds.NodeKind.TheVariants.{CaptureDefault}
-use Rattle.cpp_syntax.specs.Symbols.{is_capture_default}
+use Rattle.cpp_syntax.specs.Terminals.{is_capture_default}
 use Rattle.cpp_syntax.specs.Types.{is_before_no_name}
 use Rattle.cpp_syntax.specs.Rules.{where_}
 use Rattle.cpp_syntax.specs.Grammar.{leaf, capture}
-use Rattle.cpp_syntax.proofs.Longest.{mark_none, node_none, where_none, neither}
+use Rattle.cpp_syntax.proofs.LongestMatches.{mark_none, node_none, where_none, neither}
 use Rattle.cpp_syntax.proofs.Readers.{leaves_same, reads_left}
-use Rattle.cpp_syntax.proofs.Loops.{reads_where}
-use Rattle.cpp_parse_expr.proofs.Answering.{leaf_there, none_unlike, none_second, parsed_right}
+use Rattle.cpp_syntax.proofs.ReaderLoops.{reads_where}
+use Rattle.cpp_parse_expr.proofs.ReaderAnswers.{leaf_there, none_unlike, none_second, parsed_right}
 use Rattle.cpp_parse_expr.proofs.Captures.{no_default_before, before_no_name}
 use Rattle.cpp_parse_expr.proofs.lambdas.first_capture.Goals as goal
 

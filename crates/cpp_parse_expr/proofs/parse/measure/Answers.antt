@@ -1,9 +1,9 @@
 use Rattle.std.proofs.Common.{◌≡◌, ◌≤◌, ◌<◌, ◌-◌, ◌^◌, ℕ, length, map, get_or, slice_get, List, sym, ◌∙◌, ap, arith}
 use Rattle.std.proofs.lemmas.Option.{slice_get_within}
 use Rattle.cpp_ast.specs.Trees.{deepest}
-use Rattle.cpp_syntax.specs.declared.places.OpenBody.{OpenBody}
+use Rattle.cpp_syntax.specs.declared.positions.OpenBody.{OpenBody}
 use Rattle.cpp_parse_expr.specs.Parse.{form_of}
-use Rattle.cpp_parse_expr.proofs.Parsing.{ready, too_deep, each_body, parsed}
+use Rattle.cpp_parse_expr.proofs.ParseAnswers.{ready, too_deep, each_body, parsed}
 use Rattle.cpp_parse_expr.proofs.parse.measure.Goals as goal
 
 pub heights-requires-clause-own : goal.heights-requires-clause-own
@@ -24,7 +24,7 @@ node-requires c =
     slice_get_within c.args.nodes.now c.in-Some.deep.0 deep.1.found deep.1.stands
 
 pub returns-in-Some : goal.returns-in-Some
-returns-in-Some c = (too_deep c.args.types.now (form_of c.args.form) c.args.from c.args.next c.args.first c.args.nodes.now c.args.root c.args.bodies.items c.requires.first c.requires.read c.args.depth c.args.limit c.token_at-token.result c.in-Some.deep.0 c.node.result.now (c.in-Some.ensures c.requires.read.tree c.requires.read.shows) c.node.ensures.node c.token_at-token.ensures.inside c.token_at-token.ensures.place, c.requires.read.grown)
+returns-in-Some c = (too_deep c.args.types.now (form_of c.args.form) c.args.from c.args.next c.args.first c.args.nodes.now c.args.root c.args.bodies.items c.requires.first c.requires.read c.args.depth c.args.limit c.token_at-token.result c.in-Some.deep.0 c.node.result.now (c.in-Some.ensures c.requires.read.tree c.requires.read.shows) c.node.ensures.node c.token_at-token.ensures.inside c.token_at-token.ensures.position, c.requires.read.grown)
 
 pub depths-requires-clause-own : goal.depths-requires-clause-own
 depths-requires-clause-own c = (ready c.args.types.now (form_of c.args.form) c.args.from c.args.next c.args.first c.args.nodes.now c.args.root c.args.bodies.items c.requires.first c.requires.read).own

@@ -1,6 +1,6 @@
 use Rattle.std.proofs.Common.{get_or, arith}
 use Rattle.std.proofs.lemmas.Option.{slice_get-get_or}
-use Rattle.cpp_syntax.specs.declared.places.OpenBody.{OpenBody}
+use Rattle.cpp_syntax.specs.declared.positions.OpenBody.{OpenBody}
 use Rattle.cpp_parse_expr.proofs.parse.with_depths.Goals as goal
 
 abbrev no_body : OpenBody

@@ -1,5 +1,5 @@
 use Rattle.std.proofs.Common.{◌≡◌, ◌-◌, get_or, map, take}
-use Rattle.cpp_syntax.specs.declared.places.OpenBody.{OpenBody}
+use Rattle.cpp_syntax.specs.declared.positions.OpenBody.{OpenBody}
 use Rattle.cpp_parse_expr.specs.declared.parse.BodyRange.{BodyRange}
 use Rattle.cpp_parse_expr.specs.Parse.{open_bodies}
 use Rattle.cpp_parse_expr.proofs.parse.with_depths.Given as goal

@@ -1,8 +1,8 @@
 use Rattle.std.proofs.Common.{◌≡◌, ◌≤◌, ◌-◌, None}
 use Rattle.cpp_ast.specs.declared.kinds.NodeKind.TheVariants.{SimpleTypeSpecifier}
-use Rattle.cpp_syntax.specs.Symbols.{is_type_word}
+use Rattle.cpp_syntax.specs.Terminals.{is_type_word}
 use Rattle.cpp_syntax.specs.Grammar.{leaf}
-use Rattle.cpp_syntax.proofs.Loops.{ReadsChain}
+use Rattle.cpp_syntax.proofs.ReaderLoops.{ReadsChain}
 use Rattle.cpp_parse_expr.proofs.types.type_words.Given as goal
 
 abbrev pub invariant-words : goal.invariant-words

@@ -3,8 +3,8 @@ use Rattle.cpp_ast.specs.Orders.{are_below}
 use Rattle.cpp_ast.specs.declared.arena.NodeId.{NodeId}
 use Rattle.cpp_ast.specs.Trees.{Trees, ShowsAll}
 use Rattle.cpp_syntax.specs.Gathers.{Leads}
-use Rattle.cpp_syntax.proofs.Values.{below_more}
-use Rattle.cpp_syntax.proofs.Named.{next_of}
+use Rattle.cpp_syntax.proofs.NodeValues.{below_more}
+use Rattle.cpp_syntax.proofs.DeclaredNames.{next_of}
 use Rattle.cpp_syntax.proofs.arena.name_of_node.Goals as goal
 
 pub first_of_declarator-requires : goal.first_of_declarator-requires

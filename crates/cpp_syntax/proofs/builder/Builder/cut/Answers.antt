@@ -1,5 +1,5 @@
 use Rattle.std.proofs.Common.{rules}
-use Rattle.cpp_syntax.proofs.Cuts.{built_cut, cut_shown}
+use Rattle.cpp_syntax.proofs.BuilderCuts.{built_cut, cut_shown}
 use Rattle.cpp_syntax.proofs.builder.Builder.cut.Goals as goal
 
 pub invariant_of-self : goal.invariant_of-self

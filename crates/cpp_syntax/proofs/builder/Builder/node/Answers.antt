@@ -1,7 +1,7 @@
 use Rattle.std.proofs.Common.{rules, length}
 use Rattle.cpp_syntax.specs.View.{lams_of}
-use Rattle.cpp_syntax.proofs.Gathering.{built_gathered, no_lambda}
-use Rattle.cpp_syntax.proofs.Views.{node_shown}
+use Rattle.cpp_syntax.proofs.GatheredNodes.{built_gathered, no_lambda}
+use Rattle.cpp_syntax.proofs.BuilderViews.{node_shown}
 use Rattle.cpp_syntax.proofs.builder.Builder.node.Goals as goal
 
 pub invariant_of-self-2 : goal.invariant_of-self-2

@@ -1,7 +1,7 @@
 use Rattle.std.proofs.Common.{◌≡◌, ◌<◌, ℕ, length, arith}
 use Rattle.cpp_syntax.specs.Rules.{unnamed}
-use Rattle.cpp_syntax.specs.Texts.{no_read}
-use Rattle.cpp_syntax.proofs.Spans.{many_starts, many_ahead, known_later}
+use Rattle.cpp_syntax.specs.Derivations.{no_read}
+use Rattle.cpp_syntax.proofs.Recognisers.{many_starts, many_ahead, known_later}
 use Rattle.cpp_syntax.proofs.DeclaratorShapes.{suffix_starts, suffixes_more, suffixes_end}
 use Rattle.cpp_syntax.proofs.outline.Outline.behind_suffixes.Goals as goal
 
