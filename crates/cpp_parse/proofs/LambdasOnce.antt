@@ -14,7 +14,7 @@ use Rattle.cpp_syntax.specs.View.{lambdas_at, is_lambda, BuiltTrees, lams_of}
 use Rattle.cpp_parse_expr.specs.Depths.{HoldLower}
 use Rattle.cpp_parse_expr.proofs.DepthPaths.{held, below_at}
 use Rattle.cpp_parse.specs.NotedBodies.{times, one_from, is_lambda_node, is_lambda_at, one_lambda}
-use Rattle.cpp_parse.proofs.NodeLambdas.{lambdas_of, lambdas_are, own_lambda}
+use Rattle.cpp_syntax.proofs.NodeLambdas.{lambdas_of, lambdas_are, own_lambda}
 
 pub times-append : (k : ℕ) (xs ys : List ℕ) → times k (xs ++ ys) ≡ times k xs + times k ys
 times-append k xs ys = sum_by-append (λ (other : ℕ). cond (nat_eq other k) 1 0) xs ys

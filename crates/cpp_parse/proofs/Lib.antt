@@ -1,7 +1,6 @@
 pub mod FirstDeepNode
 pub mod BodyPositions
 pub mod JoinedBodies
-pub mod NodeLambdas
 pub mod LambdasOnce
 pub mod BodyReaders
 pub mod TreesWithBodies

@@ -13,10 +13,11 @@ use Rattle.cpp_syntax.specs.Derivations.{no_read, reads_node}
 use Rattle.cpp_syntax.specs.Lookahead.{lookahead}
 use Rattle.cpp_syntax.specs.Longest.{is_free}
 use Rattle.cpp_syntax.specs.View.{BuilderState, appended}
-use Rattle.cpp_syntax.specs.Parsed.{ReadsLongest, NoneOf, ParsesLongest}
+use Rattle.cpp_syntax.specs.Parsed.{Leaves, ReadsLongest, NoneOf, ParsesLongest}
 use Rattle.cpp_syntax.proofs.Alternatives.{left_filled, empty_always}
 use Rattle.cpp_syntax.proofs.IndependentDerivations.{free_none}
 use Rattle.cpp_syntax.proofs.LongestMatches.{nothing_long, word_long, mark_long, seq, node_long, node_none, form_none, mark_next_long, seq_ends, if_none}
+use Rattle.cpp_syntax.proofs.Readers.{leaves_read}
 use Rattle.cpp_syntax.proofs.ReaderLoops.{ReadsMany, any_ends, at_start, reads_if, reads_as}
 use Rattle.cpp_parse_expr.proofs.ReaderAnswers.{none_unlike, reads_to}
 use Rattle.cpp_parse_expr.proofs.UnmarkedRules.{marks_none, reads_unmarked}
@@ -26,6 +27,12 @@ pub parsed_if : (s : Source) (look : Lookahead) (p : Rule) (a : ℕ) (k : Option
 parsed_if s look p a k v w (Ok (Some next)) i h = reads_if i h
 parsed_if s look p a k v w (Ok None) i h = (h.0, if_none h.1)
 parsed_if s look p a k v w (Err x) i h = h
+
+-- something was read, or nothing
+pub leaves_any : (s : Source) (p : Rule) (a : ℕ) (k : Option ℕ) (v w : BuilderState) (r : Result (Option ℕ) AllocError) → ParsesLongest s p a k v w r → Leaves v w
+leaves_any s p a k v w (Ok (Some next)) h = leaves_read h
+leaves_any s p a k v w (Ok None) h = h.0
+leaves_any s p a k v w (Err x) h = h
 
 -- a node that says that there is none
 pub absent_there : {s : Source} {a : ℕ} {old new : BuilderState} → a ≤ length s.terminals → new ≡ appended old (reads_node Absent (position_at s a) None no_read) → ReadsLongest s (node Absent nothing) a a None old new

@@ -13,7 +13,7 @@ use Rattle.cpp_syntax.specs.View.{is_lambda, lambdas_at, lams_of, trees_at, Buil
 use Rattle.cpp_syntax.specs.WithBodies.{FilledTree, no_body, a_body, Filled, no_trees, more_trees}
 use Rattle.cpp_parse_expr.specs.Depths.{HoldLower}
 use Rattle.cpp_parse.specs.NotedBodies.{lams_noted, is_lambda_node, is_lambda_at, AreNoted, Among, first, later, noted_for, BodiesShow}
-use Rattle.cpp_parse.proofs.NodeLambdas.{lambdas_of, lambdas_are, own_lambda}
+use Rattle.cpp_syntax.proofs.NodeLambdas.{lambdas_of, lambdas_are, own_lambda}
 use Rattle.cpp_parse.proofs.LambdasOnce.{one_for}
 use Rattle.cpp_parse.proofs.BodyTable.{kids_without, left_out, chosen, one_same}
 

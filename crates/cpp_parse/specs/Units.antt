@@ -4,6 +4,7 @@ use Rattle.cpp_lex.specs.Tokens.{Lexeme}
 use Rattle.cpp_ast.specs.declared.units.Unit.{Unit as UnitRecord}
 use Rattle.cpp_ast.specs.Trees.{Trees, unit_depth}
 use Rattle.cpp_ast.specs.Units.{ShowsUnit}
+use Rattle.cpp_syntax.specs.declared.limits.TheConstants.{MAX_DEPTH}
 use Rattle.cpp_syntax.specs.Source.{position_at}
 use Rattle.cpp_syntax.specs.Classes.{source_of}
 use Rattle.cpp_syntax.specs.Lookahead.{IsUnit}
@@ -13,7 +14,7 @@ use Rattle.cpp_parse_expr.specs.declared.parse.ParseFault.TheVariants as fault
 
 -- how deep a unit may nest
 abbrev pub deepest_allowed : ℕ
-deepest_allowed = 200
+deepest_allowed = MAX_DEPTH
 
 -- The one unit of the tokens was read, and it does not nest too deep.
 pub record IsUnitRead (number : ℕ) (tokens : List Lexeme) (unit : UnitRecord) : Type 0 where

@@ -8,6 +8,7 @@ ghost use Rattle.cpp_syntax.specs.Rules.{form, some, handler};
 ghost use Rattle.cpp_syntax.specs.Parsed.{ParsesLongest};
 ghost use Rattle.cpp_syntax.specs.View.{is_lambda};
 ghost use Rattle.cpp_parse.specs.Lines.{marked_block, try_block, exception_declaration};
+ghost use Rattle.cpp_syntax.specs.declared.limits.TheConstants.{MAX_TOKENS};
 
 use crate::statements::compound_statement;
 use cpp_ast::NodeKind;
@@ -27,7 +28,7 @@ pub fn marked_block(
 ) -> Result<Option<usize>, AllocError>
     requires here { at ≤ length text.now.terminals }
     requires inside { at + 1 ≤ length text.now.terminals }
-    requires few { length text.now.terminals ≤ 1048576 }
+    requires few { length text.now.terminals ≤ MAX_TOKENS }
     requires kind { is_lambda kind ≡ false }
     ensures { (word : Terminal → Bool) → word (terminal_at text.now at) ≡ true → ParsesLongest text.now (marked_block kind word) at None out.old out.new result }
 {
@@ -49,7 +50,7 @@ pub fn try_block(
 ) -> Result<Option<usize>, AllocError>
     requires here { at ≤ length text.now.terminals }
     requires begins { try_word (terminal_at text.now at) ≡ true }
-    requires few { length text.now.terminals ≤ 1048576 }
+    requires few { length text.now.terminals ≤ MAX_TOKENS }
     ensures { ParsesLongest text.now try_block at None out.old out.new result }
 {
     let start = out.checkpoint();

@@ -5,13 +5,11 @@ ghost use Rattle.cpp_parse.specs.Bodies.{AreInside, IsInside, ReadsBodies, Reads
 
 use crate::statements::compound_statement;
 use cpp_ast::{LamBody, NodeId, Nodes};
+use cpp_syntax::limits::MAX_NESTED_CALLS;
 use cpp_syntax::shapes::descend;
 use cpp_syntax::{Builder, OpenBody, Parts, TypeNames};
 use std::alloc::{AllocError, Global};
 use std::mem;
-
-/// How many calls may be nested in one body.
-const MAX_NESTED_CALLS: u32 = 500;
 
 /// What the tokens of a body are.
 #[derive(Drop)]

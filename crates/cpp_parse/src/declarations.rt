@@ -7,6 +7,7 @@ ghost use Rattle.cpp_syntax.specs.Rules.{◌∣◌, form, many, declaration, sim
 ghost use Rattle.cpp_syntax.specs.Parsed.{ParsesLongest, ParsesAlways};
 ghost use Rattle.cpp_parse.specs.Alternatives.{alias_declaration, class_declaration, class_specifier, linkage_specification, linkage_block};
 ghost use Rattle.cpp_parse.specs.Answers.{LinkageSeen};
+ghost use Rattle.cpp_syntax.specs.declared.limits.TheConstants.{MAX_TOKENS};
 
 use crate::classes::{class_declaration, class_specifier, enum_specifier};
 use crate::functions::simple_declaration;
@@ -119,7 +120,7 @@ fn class_or_specifier(
 ) -> Result<Option<usize>, AllocError>
     requires here { at ≤ length text.now.terminals }
     requires begins { is_class_key (terminal_at text.now at) ≡ true }
-    requires few { length text.now.terminals ≤ 1048576 }
+    requires few { length text.now.terminals ≤ MAX_TOKENS }
     ensures { ParsesLongest text.now (class_declaration ∣ class_specifier) at None out.old out.new result }
 {
     let name = at + 1;
@@ -147,7 +148,7 @@ fn linkage(
     out: &mut Builder,
 ) -> Result<Option<usize>, AllocError>
     requires here { at ≤ length text.now.terminals }
-    requires few { length text.now.terminals ≤ 1048576 }
+    requires few { length text.now.terminals ≤ MAX_TOKENS }
     ensures { ParsesLongest text.now (linkage_specification ∣ linkage_block) at None out.old out.new result }
 {
     let language = at + 1;

@@ -11,6 +11,7 @@ ghost use Rattle.cpp_syntax.specs.Names.{naming_of};
 ghost use Rattle.cpp_syntax.specs.Derivations.{Read, token_of_name, declared_in};
 ghost use Rattle.cpp_syntax.specs.View.{BuilderState, appended, IsMark};
 ghost use Rattle.cpp_syntax.specs.Parsed.{ParsesLongest, ParsesAlways};
+ghost use Rattle.cpp_syntax.specs.declared.limits.TheConstants.{MAX_TOKENS};
 
 use cpp_ast::NodeKind;
 use cpp_parse_expr::declarators::declarator;
@@ -155,7 +156,7 @@ fn equal_initializer(
 ) -> Result<Option<usize>, AllocError>
     requires here { at ≤ length text.now.terminals }
     requires begins { equal (terminal_at text.now at) ≡ true }
-    requires few { length text.now.terminals ≤ 1048576 }
+    requires few { length text.now.terminals ≤ MAX_TOKENS }
     ensures { ParsesLongest text.now (node EqualInitializer (mark equal · form initializer)) at None out.old out.new result }
 {
     let start = out.checkpoint();

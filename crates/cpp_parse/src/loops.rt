@@ -7,6 +7,7 @@ ghost use Rattle.cpp_syntax.specs.Rules.{◌·◌, form, word, expression, for_i
 ghost use Rattle.cpp_syntax.specs.Grammar.{optional_expression};
 ghost use Rattle.cpp_syntax.specs.Parsed.{ParsesLongest, ParsesAlways};
 ghost use Rattle.cpp_parse.specs.Lines.{while_statement, until, do_statement, for_rest, for_statement};
+ghost use Rattle.cpp_syntax.specs.declared.limits.TheConstants.{MAX_TOKENS};
 
 use crate::initializers::block_declaration;
 use crate::statements::{condition, note_declaration, statement};
@@ -27,7 +28,7 @@ pub fn while_statement(
 ) -> Result<Option<usize>, AllocError>
     requires here { at ≤ length text.now.terminals }
     requires begins { while_word (terminal_at text.now at) ≡ true }
-    requires few { length text.now.terminals ≤ 1048576 }
+    requires few { length text.now.terminals ≤ MAX_TOKENS }
     ensures { ParsesLongest text.now while_statement at None out.old out.new result }
 {
     let start = out.checkpoint();
@@ -59,7 +60,7 @@ pub fn do_statement(
 ) -> Result<Option<usize>, AllocError>
     requires here { at ≤ length text.now.terminals }
     requires begins { do_word (terminal_at text.now at) ≡ true }
-    requires few { length text.now.terminals ≤ 1048576 }
+    requires few { length text.now.terminals ≤ MAX_TOKENS }
     ensures { ParsesLongest text.now do_statement at None out.old out.new result }
 {
     let start = out.checkpoint();
@@ -107,7 +108,7 @@ pub fn for_statement(
 ) -> Result<Option<usize>, AllocError>
     requires here { at ≤ length text.now.terminals }
     requires begins { for_word (terminal_at text.now at) ≡ true }
-    requires few { length text.now.terminals ≤ 1048576 }
+    requires few { length text.now.terminals ≤ MAX_TOKENS }
     ensures { ParsesLongest text.now for_statement at None out.old out.new result }
 {
     if !text.is_at(at + 1, Terminal::OpenParen) {

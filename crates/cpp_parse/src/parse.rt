@@ -5,6 +5,7 @@ ghost use Rattle.cpp_lex.specs.Tokens.{lexeme_of, lexemes_of};
 ghost use Rattle.cpp_syntax.specs.Classes.{source_of};
 ghost use Rattle.cpp_parse.specs.Units.{ParsesUnit};
 ghost use Rattle.cpp_parse.specs.Steps.{ReadsDeclarations, ReadsWhole, AnswersUnit, IsWholeRead};
+ghost use Rattle.cpp_syntax.specs.declared.limits.TheConstants.{MAX_TOKENS};
 
 use crate::bodies::read_bodies;
 use crate::declarations::translation_unit;
@@ -14,21 +15,10 @@ use cpp_ast::{LamBody, NodeId, Nodes, Unit};
 use cpp_lex::{Token, Tokens};
 use cpp_parse_expr::ParseFault;
 use cpp_parse_expr::parse::token_at;
+use cpp_syntax::limits::{MAX_DEPTH, MAX_NESTED_BODIES, MAX_NESTED_CALLS, MAX_NESTED_SEARCHES};
 use cpp_syntax::{Builder, OpenBody, Parts, Terminal, TypeNames};
 use std::alloc::{AllocError, Global};
 use std::mem;
-
-/// How many calls may be nested.
-const MAX_NESTED_CALLS: u32 = 500;
-
-/// How many lambdas may be nested, so that the machine's own stack is never used up.
-const MAX_NESTED_BODIES: u32 = 500;
-
-/// How far the calls that look for a node that nests too deep may be nested.
-const MAX_NESTED_SEARCHES: u32 = 10_000;
-
-/// How deep a unit may nest.
-const MAX_DEPTH: u32 = 200;
 
 /// What the declarations of a unit were read as.
 #[derive(Drop)]
@@ -77,7 +67,7 @@ enum Answer {
 /// of the text. `Nesting` comes exactly where they are a unit that nests deeper than 200; its token is that of the first node that does.
 /// `Memory` comes where memory ran out, or where the text nests further than calls may be nested.
 pub fn parse_unit(alloc: Global, source: u32, tokens: &Tokens) -> Result<Unit, ParseFault>
-    requires { length tokens.now.items.items ≤ 1048576 }
+    requires { length tokens.now.items.items ≤ MAX_TOKENS }
     ensures { ParsesUnit source (lexemes_of tokens.now) result }
 {
     match answer_unit(alloc, source, tokens) {
@@ -90,7 +80,7 @@ pub fn parse_unit(alloc: Global, source: u32, tokens: &Tokens) -> Result<Unit, P
 
 /// Reads a unit, and measures it.
 fn answer_unit(alloc: Global, source: u32, tokens: &Tokens) -> Result<Answer, AllocError>
-    requires { length tokens.now.items.items ≤ 1048576 }
+    requires { length tokens.now.items.items ≤ MAX_TOKENS }
     ensures { AnswersUnit source (lexemes_of tokens.now) result }
 {
     let types = TypeNames::of(alloc, source, tokens)?;

@@ -9,6 +9,7 @@ ghost use Rattle.cpp_syntax.specs.Grammar.{condition};
 ghost use Rattle.cpp_syntax.specs.Parsed.{Leaves, ParsesLongest, ParsesAlways};
 ghost use Rattle.cpp_syntax.specs.View.{is_lambda};
 ghost use Rattle.cpp_parse.specs.Lines.{declaration_or_expression, expression_statement, if_statement, switch_statement, labelled, case_statement, default_statement, return_statement, jump};
+ghost use Rattle.cpp_syntax.specs.declared.limits.TheConstants.{MAX_TOKENS};
 
 use crate::blocks::{marked_block, try_block};
 use crate::initializers::block_declaration;
@@ -192,7 +193,7 @@ fn if_statement(
 ) -> Result<Option<usize>, AllocError>
     requires here { at ≤ length text.now.terminals }
     requires begins { if_word (terminal_at text.now at) ≡ true }
-    requires few { length text.now.terminals ≤ 1048576 }
+    requires few { length text.now.terminals ≤ MAX_TOKENS }
     ensures { ParsesLongest text.now if_statement at None out.old out.new result }
 {
     let start = out.checkpoint();
@@ -224,7 +225,7 @@ fn switch_statement(
 ) -> Result<Option<usize>, AllocError>
     requires here { at ≤ length text.now.terminals }
     requires begins { switch_word (terminal_at text.now at) ≡ true }
-    requires few { length text.now.terminals ≤ 1048576 }
+    requires few { length text.now.terminals ≤ MAX_TOKENS }
     ensures { ParsesLongest text.now switch_statement at None out.old out.new result }
 {
     let start = out.checkpoint();
@@ -255,7 +256,7 @@ fn case_statement(
 ) -> Result<Option<usize>, AllocError>
     requires here { at ≤ length text.now.terminals }
     requires begins { case_word (terminal_at text.now at) ≡ true }
-    requires few { length text.now.terminals ≤ 1048576 }
+    requires few { length text.now.terminals ≤ MAX_TOKENS }
     ensures { ParsesLongest text.now case_statement at None out.old out.new result }
 {
     let start = out.checkpoint();
@@ -287,7 +288,7 @@ fn default_statement(
 ) -> Result<Option<usize>, AllocError>
     requires here { at ≤ length text.now.terminals }
     requires begins { default_word (terminal_at text.now at) ≡ true }
-    requires few { length text.now.terminals ≤ 1048576 }
+    requires few { length text.now.terminals ≤ MAX_TOKENS }
     ensures { ParsesLongest text.now default_statement at None out.old out.new result }
 {
     let start = out.checkpoint();
@@ -331,7 +332,7 @@ fn jump(
     out: &mut Builder,
 ) -> Result<Option<usize>, AllocError>
     requires here { at ≤ length text.now.terminals }
-    requires few { length text.now.terminals ≤ 1048576 }
+    requires few { length text.now.terminals ≤ MAX_TOKENS }
     requires kind { is_lambda kind ≡ false }
     ensures { (word : Terminal → Bool) → word (terminal_at text.now at) ≡ true → ParsesLongest text.now (jump kind word) at None out.old out.new result }
 {
@@ -352,7 +353,7 @@ fn return_statement(
 ) -> Result<Option<usize>, AllocError>
     requires here { at ≤ length text.now.terminals }
     requires begins { return_word (terminal_at text.now at) ≡ true }
-    requires few { length text.now.terminals ≤ 1048576 }
+    requires few { length text.now.terminals ≤ MAX_TOKENS }
     ensures { ParsesLongest text.now return_statement at None out.old out.new result }
 {
     let start = out.checkpoint();

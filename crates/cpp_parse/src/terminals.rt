@@ -4,6 +4,7 @@ ghost use Rattle.std.specs.Prelude.{◌≡◌, ◌<◌, ◌≤◌, true, length}
 ghost use Rattle.cpp_syntax.specs.Source.{terminal_at};
 ghost use Rattle.cpp_syntax.specs.Terminals.{is_virt, is_class_key, is_access, is_specifier};
 ghost use Rattle.cpp_syntax.specs.FirstSets.{first_of_types};
+ghost use Rattle.cpp_syntax.specs.declared.limits.TheConstants.{MAX_TOKENS};
 
 use cpp_syntax::{Terminal, TypeNames};
 
@@ -11,7 +12,7 @@ use cpp_syntax::{Terminal, TypeNames};
 pub fn is_specifier_at(text: &TypeNames, at: usize) -> bool
     ensures test { result ≡ is_specifier (terminal_at text.now at) }
     ensures inside { result ≡ true → at < length text.now.terminals }
-    ensures few { length text.now.terminals ≤ 1048576 }
+    ensures few { length text.now.terminals ≤ MAX_TOKENS }
 {
     text.terminal(at).is_specifier()
 }
@@ -20,7 +21,7 @@ pub fn is_specifier_at(text: &TypeNames, at: usize) -> bool
 pub fn is_virt_at(text: &TypeNames, at: usize) -> bool
     ensures test { result ≡ is_virt (terminal_at text.now at) }
     ensures inside { result ≡ true → at < length text.now.terminals }
-    ensures few { length text.now.terminals ≤ 1048576 }
+    ensures few { length text.now.terminals ≤ MAX_TOKENS }
 {
     text.terminal(at).is_virt()
 }
@@ -29,7 +30,7 @@ pub fn is_virt_at(text: &TypeNames, at: usize) -> bool
 pub fn is_class_key_at(text: &TypeNames, at: usize) -> bool
     ensures test { result ≡ is_class_key (terminal_at text.now at) }
     ensures inside { result ≡ true → at < length text.now.terminals }
-    ensures few { length text.now.terminals ≤ 1048576 }
+    ensures few { length text.now.terminals ≤ MAX_TOKENS }
 {
     text.terminal(at).is_class_key()
 }
@@ -38,7 +39,7 @@ pub fn is_class_key_at(text: &TypeNames, at: usize) -> bool
 pub fn is_access_at(text: &TypeNames, at: usize) -> bool
     ensures test { result ≡ is_access (terminal_at text.now at) }
     ensures inside { result ≡ true → at < length text.now.terminals }
-    ensures few { length text.now.terminals ≤ 1048576 }
+    ensures few { length text.now.terminals ≤ MAX_TOKENS }
 {
     text.terminal(at).is_access()
 }
@@ -47,7 +48,7 @@ pub fn is_access_at(text: &TypeNames, at: usize) -> bool
 pub fn begins_type_at(text: &TypeNames, at: usize) -> bool
     ensures test { result ≡ first_of_types (terminal_at text.now at) }
     ensures inside { result ≡ true → at < length text.now.terminals }
-    ensures few { length text.now.terminals ≤ 1048576 }
+    ensures few { length text.now.terminals ≤ MAX_TOKENS }
 {
     first_of_types(text.terminal(at))
 }

@@ -11,6 +11,7 @@ use std::test::Fail;
 mod bank;
 mod declarations;
 mod nests;
+mod slips;
 mod statements;
 
 // The spelling of a token.

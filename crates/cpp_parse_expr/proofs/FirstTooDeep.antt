@@ -9,7 +9,7 @@ use Rattle.cpp_ast.specs.declared.kinds.NodeKind.{NodeKind}
 use Rattle.cpp_ast.specs.Shapes.{counts_one}
 use Rattle.cpp_ast.specs.Trees.{Tree, node, Trees, none, more, kind_of, Shows, ShowsAll, kid_depth, deepest, deepest_kid}
 use Rattle.cpp_parse_expr.specs.Depths.{step, height, height_in, or_else, deep_node, deep_kid, HasDeep, IsDeep}
-use Rattle.cpp_parse_expr.proofs.NodeKids.{front_at, none_past, parts_of, kind_is}
+use Rattle.cpp_syntax.proofs.NodeKids.{front_at, none_past, parts_of, kind_is}
 
 by_count : (depth : ℕ) (counts : Bool) → (if counts then depth + 1 else depth) ≡ depth + (if counts then 1 else 0)
 by_count depth true = refl

@@ -13,45 +13,10 @@ use Rattle.cpp_syntax.specs.declared.positions.OpenBody.{OpenBody}
 use Rattle.cpp_syntax.specs.View.{values_at, values_from, lambdas_made, lambdas_at, lams_of, is_lambda}
 use Rattle.cpp_parse_expr.specs.Depths.{Path, at_root, to_kid, IsKid, HoldOwn, HoldLower, AreDepths, height}
 use Rattle.cpp_parse_expr.specs.Parse.{lambda_depths, lambda_depths_in}
-use Rattle.cpp_parse_expr.proofs.NodeKids.{kind_is}
+use Rattle.cpp_syntax.proofs.NodeKids.{kind_is}
+use Rattle.cpp_syntax.proofs.NodeLambdas.{value_from}
 use Rattle.cpp_parse_expr.proofs.FirstTooDeep.{deepest_height}
 use Rattle.cpp_parse_expr.proofs.DepthPaths.{kid_own}
-
--- The value of a node is made of those of its kids, which stand before it.
-
-module _ {A : Type 0} (other : A) (make : ℕ → Node → List A → A) where
-  front_kept : (vs : List A) (ns : List Node) (i : ℕ) → i < length vs → get_or (values_from other make vs ns) i other ≡ get_or vs i other
-  front_kept vs [] i h = refl
-  front_kept vs (n ∷ ns) i h =
-      let v : A = make (length vs) n (values_at other vs n.kids.items) in
-      let longer = length-append vs (v ∷ []) in
-      front_kept (vs ++ v ∷ []) ns i (omega (arith, h, longer)) ∙ get_or_append_left vs (v ∷ []) other i h
-
-  fronts_kept : (vs : List A) (ns : List Node) (ids : List NodeId) → are_below (length vs) ids ≡ true → values_at other (values_from other make vs ns) ids ≡ values_at other vs ids
-  fronts_kept vs ns [] h = refl
-  fronts_kept vs ns (id ∷ ids) h =
-      let parts = and_parts (nat_lt id.0 (length vs)) (are_below (length vs) ids) h in
-      let first = front_kept vs ns id.0 (ltb-true id.0 (length vs) parts.0) in
-      let rest = fronts_kept vs ns ids parts.1 in
-      cc
-
-  value_from : (vs : List A) (ns : List Node) (k i : ℕ) (n : Node) → slice_get ns k ≡ Some n → i ≡ length vs + k → are_below i n.kids.items ≡ true → get_or (values_from other make vs ns) i other ≡ make i n (values_at other (values_from other make vs ns) n.kids.items)
-  value_from vs [] k i n e at below = absurd (none-some n e)
-  value_from vs (m ∷ ns) zero i n e at below =
-      let v : A = make (length vs) m (values_at other vs m.kids.items) in
-      let longer = length-append vs (v ∷ []) in
-      let node : m ≡ n = cc in
-      let position : i ≡ length vs = omega (arith, at) in
-      let kids : values_at other (values_from other make vs (m ∷ ns)) n.kids.items ≡ values_at other vs n.kids.items = fronts_kept vs (m ∷ ns) n.kids.items (ap (λ (z : ℕ). are_below z n.kids.items) (sym position) ∙ below) in
-      front_kept (vs ++ v ∷ []) ns i (omega (arith, position, longer))
-      ∙ get_or_push vs v other i (sym position)
-      ∙ ap (λ (z : ℕ). make z m (values_at other vs m.kids.items)) (sym position)
-      ∙ ap (λ (z : Node). make i z (values_at other vs z.kids.items)) node
-      ∙ ap (make i n) (sym kids)
-  value_from vs (m ∷ ns) (suc k) i n e at below =
-      let v : A = make (length vs) m (values_at other vs m.kids.items) in
-      let longer = length-append vs (v ∷ []) in
-      value_from (vs ++ v ∷ []) ns k i n e (omega (arith, at, longer)) below
 
 abbrev lambda_values : List Node → List (List ℕ)
 lambda_values nodes = values_from [] lambdas_made [] nodes

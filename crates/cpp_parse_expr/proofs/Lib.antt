@@ -1,4 +1,3 @@
-pub mod NodeKids
 pub mod TreeHeights
 pub mod FirstTooDeep
 pub mod DepthPaths

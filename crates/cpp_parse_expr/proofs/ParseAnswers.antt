@@ -26,7 +26,7 @@ use Rattle.cpp_parse_expr.specs.Parse.{form_of, tree_read, IsRead, IsTooDeep, Is
 use Rattle.cpp_parse_expr.specs.declared.parse.BodyRange.{BodyRange}
 use Rattle.cpp_parse_expr.proofs.NodePositions.{text_positioned, deep_position}
 use Rattle.cpp_parse_expr.proofs.LambdaDepths.{Pairs, lambda_pairs, BodyAt, body_at, body_depths}
-use Rattle.cpp_parse_expr.proofs.NodeKids.{front_of}
+use Rattle.cpp_syntax.proofs.NodeKids.{front_of}
 use Rattle.cpp_parse_expr.proofs.DepthPaths.{held, among}
 
 pub single_of : (f : ExprForm) → is_single (form_of f) ≡ true

@@ -10,7 +10,7 @@ use Rattle.cpp_ast.specs.declared.arena.Node.{Node}
 use Rattle.cpp_ast.specs.declared.arena.NodeId.{NodeId}
 use Rattle.cpp_ast.specs.Trees.{Tree, Trees, kind_of, Shows, ShowsAll}
 use Rattle.cpp_parse_expr.specs.Depths.{step, height, height_in, AreHeights}
-use Rattle.cpp_parse_expr.proofs.NodeKids.{front_at, none_past, parts_of}
+use Rattle.cpp_syntax.proofs.NodeKids.{front_at, none_past, parts_of}
 
 -- The greatest reach of the kids that were passed, and of the others.
 pub record Reaching (nodes : List Node) (ids : List NodeId) (i reached : ℕ) (trees : Trees) : Type 0 where

@@ -8,6 +8,7 @@ ghost use Rattle.cpp_syntax.specs.Names.{naming_of};
 ghost use Rattle.cpp_syntax.specs.Rules.{◌·◌, form, many, optional, whole, type_id, declarator, direct_declarator, conditional_expression, function_qualifiers, parameter_declaration_clause, parameter_declaration};
 ghost use Rattle.cpp_syntax.specs.Grammar.{leaf, omitted_id, array_suffix, pointer_declarator, reference_declarator, declarator_head, declarator_id, parenthesized_declarator, array_bound, tx_qualifier, noexcept_specification, parameter_list, parameters_behind, suffix};
 ghost use Rattle.cpp_syntax.specs.Parsed.{ParsesLongest, ParsesAlways, ParsesAlwaysBehind};
+ghost use Rattle.cpp_syntax.specs.declared.limits.TheConstants.{MAX_TOKENS};
 
 use crate::expressions::conditional_expression;
 use crate::types::{cv_qualifiers, type_name, type_specifier_seq};
@@ -71,7 +72,7 @@ fn pointer_declarator(
 ) -> Result<Option<usize>, AllocError>
     requires here { at ≤ length text.now.terminals }
     requires begins { star (terminal_at text.now at) ≡ true }
-    requires few { length text.now.terminals ≤ 1048576 }
+    requires few { length text.now.terminals ≤ MAX_TOKENS }
     ensures { ParsesLongest text.now (pointer_declarator whole (naming_of naming)) at None out.old out.new result }
 {
     let start = out.checkpoint();
@@ -101,7 +102,7 @@ fn reference_declarator(
 ) -> Result<Option<usize>, AllocError>
     requires here { at ≤ length text.now.terminals }
     requires begins { amp (terminal_at text.now at) ≡ true }
-    requires few { length text.now.terminals ≤ 1048576 }
+    requires few { length text.now.terminals ≤ MAX_TOKENS }
     ensures { ParsesLongest text.now (reference_declarator whole (naming_of naming)) at None out.old out.new result }
 {
     let start = out.checkpoint();
@@ -336,7 +337,7 @@ fn array_bound(
 ) -> Result<Option<usize>, AllocError>
     requires here { at ≤ length text.now.terminals }
     requires begins { open_bracket (terminal_at text.now at) ≡ true }
-    requires few { length text.now.terminals ≤ 1048576 }
+    requires few { length text.now.terminals ≤ MAX_TOKENS }
     ensures { ParsesLongest text.now (array_bound whole) at (Some at) out.old out.new result }
 {
     let close = optional_conditional_expression(text, at + 1, descend(depth_left)?, out)?;
@@ -382,12 +383,12 @@ pub fn function_parameters(
         out.expected_at(at);
         return Ok(None);
     }
-    if !naming.may_be_unnamed() && !text.lookahead_parameters(at) {
-        return Ok(None);
-    }
     let close = parameter_clause(text, at + 1, descend(depth_left)?, out)?;
     if !text.is_at(close, Terminal::CloseParen) {
         out.expected_at(close);
+        return Ok(None);
+    }
+    if !naming.may_be_unnamed() && !text.lookahead_parameters(at) {
         return Ok(None);
     }
     Ok(Some(function_qualifiers(text, close + 1, out)?))

@@ -8,6 +8,7 @@ ghost use Rattle.cpp_syntax.specs.Grammar.{list, throw_expression, choice, sizeo
 ghost use Rattle.cpp_syntax.specs.View.{BuilderState};
 ghost use Rattle.cpp_syntax.specs.Parsed.{ParsesLongest, ParsesAlways};
 ghost use Rattle.cpp_parse_expr.specs.Suffixes.{ParsedSuffix, literal_kind};
+ghost use Rattle.cpp_syntax.specs.declared.limits.TheConstants.{MAX_TOKENS};
 
 use crate::declarators::type_id;
 use crate::lambdas::lambda_expression;
@@ -119,7 +120,7 @@ fn throw_expression(
 ) -> Result<usize, AllocError>
     requires here { at ≤ length text.now.terminals }
     requires begins { throw_word (terminal_at text.now at) ≡ true }
-    requires few { length text.now.terminals ≤ 1048576 }
+    requires few { length text.now.terminals ≤ MAX_TOKENS }
     ensures { ParsesAlways text.now throw_expression at None out.old out.new result }
 {
     let start = out.checkpoint();
@@ -199,7 +200,7 @@ fn choice(
 ) -> Result<Option<usize>, AllocError>
     requires here { at ≤ length text.now.terminals }
     requires begins { question (terminal_at text.now at) ≡ true }
-    requires few { length text.now.terminals ≤ 1048576 }
+    requires few { length text.now.terminals ≤ MAX_TOKENS }
     ensures { ParsesLongest text.now choice at (Some at) out.old out.new result }
 {
     let inner = descend(depth_left)?;
@@ -334,7 +335,7 @@ fn sizeof_expression(
 ) -> Result<Option<usize>, AllocError>
     requires here { at ≤ length text.now.terminals }
     requires begins { sizeof_word (terminal_at text.now at) ≡ true }
-    requires few { length text.now.terminals ≤ 1048576 }
+    requires few { length text.now.terminals ≤ MAX_TOKENS }
     ensures { ParsesLongest text.now sizeof_expression at None out.old out.new result }
 {
     let start = out.checkpoint();
@@ -443,7 +444,7 @@ fn subscript(
 ) -> Result<Option<Suffix>, AllocError>
     requires here { at ≤ length text.now.terminals }
     requires begins { open_bracket (terminal_at text.now at) ≡ true }
-    requires few { length text.now.terminals ≤ 1048576 }
+    requires few { length text.now.terminals ≤ MAX_TOKENS }
     ensures { ParsedSuffix text.now at out.old out.new result }
 {
     let Some(close) = expression(text, at + 1, descend(depth_left)?, out)? else {
@@ -470,7 +471,7 @@ fn call(
 ) -> Result<Option<Suffix>, AllocError>
     requires here { at ≤ length text.now.terminals }
     requires begins { open_paren (terminal_at text.now at) ≡ true }
-    requires few { length text.now.terminals ≤ 1048576 }
+    requires few { length text.now.terminals ≤ MAX_TOKENS }
     ensures { ParsedSuffix text.now at out.old out.new result }
 {
     let Some(next) = arguments(text, at, depth_left, out)? else {
@@ -487,7 +488,7 @@ fn call(
 fn member(text: &TypeNames, at: usize) -> Option<Suffix>
     requires here { at ≤ length text.now.terminals }
     requires begins { dot (terminal_at text.now at) ≡ true }
-    requires few { length text.now.terminals ≤ 1048576 }
+    requires few { length text.now.terminals ≤ MAX_TOKENS }
     ensures { (old : BuilderState) → ParsedSuffix text.now at old old (Ok result) }
 {
     if !text.is_name_at(at + 1) {
@@ -504,7 +505,7 @@ fn member(text: &TypeNames, at: usize) -> Option<Suffix>
 fn pointer_member(text: &TypeNames, at: usize) -> Option<Suffix>
     requires here { at ≤ length text.now.terminals }
     requires begins { arrow (terminal_at text.now at) ≡ true }
-    requires few { length text.now.terminals ≤ 1048576 }
+    requires few { length text.now.terminals ≤ MAX_TOKENS }
     ensures { (old : BuilderState) → ParsedSuffix text.now at old old (Ok result) }
 {
     if !text.is_name_at(at + 1) {
@@ -527,7 +528,7 @@ fn arguments(
 ) -> Result<Option<usize>, AllocError>
     requires here { at ≤ length text.now.terminals }
     requires begins { open_paren (terminal_at text.now at) ≡ true }
-    requires few { length text.now.terminals ≤ 1048576 }
+    requires few { length text.now.terminals ≤ MAX_TOKENS }
     ensures { ParsesLongest text.now arguments at (Some at) out.old out.new result }
 {
     let close = expression_list(text, at + 1, descend(depth_left)?, out)?;
@@ -655,7 +656,7 @@ fn parenthesized_expression(
 ) -> Result<Option<usize>, AllocError>
     requires here { at ≤ length text.now.terminals }
     requires begins { open_paren (terminal_at text.now at) ≡ true }
-    requires few { length text.now.terminals ≤ 1048576 }
+    requires few { length text.now.terminals ≤ MAX_TOKENS }
     ensures { ParsesLongest text.now parenthesized_expression at None out.old out.new result }
 {
     let start = out.checkpoint();
@@ -687,7 +688,7 @@ fn static_cast(
 ) -> Result<Option<usize>, AllocError>
     requires here { at ≤ length text.now.terminals }
     requires begins { static_cast_word (terminal_at text.now at) ≡ true }
-    requires few { length text.now.terminals ≤ 1048576 }
+    requires few { length text.now.terminals ≤ MAX_TOKENS }
     ensures { ParsesLongest text.now static_cast at None out.old out.new result }
 {
     if !text.is_at(at + 1, Terminal::Less) {
@@ -728,7 +729,7 @@ fn of_type_name(
 ) -> Result<Option<usize>, AllocError>
     requires here { at ≤ length text.now.terminals }
     requires begins { is_type_name (terminal_at text.now at) ≡ true }
-    requires few { length text.now.terminals ≤ 1048576 }
+    requires few { length text.now.terminals ≤ MAX_TOKENS }
     ensures { ParsesLongest text.now (qualified_id ∣ functional_cast) at None out.old out.new result }
 {
     if !text.is_at(at + 1, Terminal::ColonColon) {
@@ -761,7 +762,7 @@ fn of_std(
 ) -> Result<Option<usize>, AllocError>
     requires here { at ≤ length text.now.terminals }
     requires begins { std (terminal_at text.now at) ≡ true }
-    requires few { length text.now.terminals ≤ 1048576 }
+    requires few { length text.now.terminals ≤ MAX_TOKENS }
     ensures { ParsesLongest text.now (std_abort ∣ functional_cast) at None out.old out.new result }
 {
     if !text.is_at(at + 1, Terminal::ColonColon) {

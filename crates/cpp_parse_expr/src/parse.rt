@@ -13,13 +13,11 @@ use crate::depth::{depths, first_deeper, heights};
 use crate::expressions::{assignment_expression, conditional_expression, expression};
 use crate::types::type_specifier_seq;
 use cpp_ast::{At, NodeId, Nodes};
+use cpp_syntax::limits::MAX_NESTED_CALLS;
 use cpp_syntax::{Builder, Naming, OpenBody, Parts, TypeNames};
 use std::alloc::{AllocError, Global};
 use std::mem;
 use thiserror::Error;
-
-/// How many calls may be nested. Each bracket, operator before an operand and operator between operands nests one.
-const MAX_NESTED_CALLS: u32 = 500;
 
 /// A form of the grammar that is read alone.
 #[derive(Clone, Copy, Debug, PartialEq, Eq)]

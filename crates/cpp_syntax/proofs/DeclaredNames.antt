@@ -5,6 +5,7 @@ use Rattle.cpp_ast.specs.declared.arena.Node.{Node}
 use Rattle.cpp_ast.specs.declared.arena.NodeId.{NodeId}
 use Rattle.cpp_ast.specs.declared.kinds.NodeKind.{NodeKind}
 use Rattle.cpp_ast.specs.Trees.{Tree, node, Trees, none, more, NodeAt, Shows, ShowsAll}
+use Rattle.cpp_syntax.proofs.NodeKids.{front_at, drop-past, Parts, parts_of}
 use Rattle.cpp_syntax.specs.Gathers.{Leads}
 use Rattle.cpp_syntax.specs.Derivations.{is_of_declarator, declared, declared_in, leads_to_name, name_by, Name}
 
@@ -16,33 +17,6 @@ pub record Behind (nodes : List Node) (ids : List NodeId) (i : ℕ) (trees : Tre
 
 pub at_first : (nodes : List Node) (ids : List NodeId) (trees : Trees) → ShowsAll nodes ids trees → Behind nodes ids 0 trees
 at_first nodes ids trees s = record { rest = trees; shows = s; same = refl }
-
--- the first of some ids and the others
-pub record Front (nodes : List Node) (id : NodeId) (ids : List NodeId) (trees : Trees) : Type 0 where
-  pub first : Tree
-  pub others : Trees
-  pub are : trees ≡ more first others
-  pub shows : Shows nodes id.0 first
-  pub show : ShowsAll nodes ids others
-
-pub front_of : (nodes : List Node) (all ids : List NodeId) (id : NodeId) (trees : Trees) → all ≡ id ∷ ids → ShowsAll nodes all trees → Front nodes id ids trees
-front_of nodes all ids id none e s = absurd (let f : all ≡ [] = s in cc)
-front_of nodes all ids id (more t ts) e s =
-    let f : all ≡ s.0 ∷ s.1 = s.2 in
-    let first : s.0 ≡ id = cc in
-    let others : s.1 ≡ ids = cc in
-    record {
-      first = t;
-      others = ts;
-      are = refl;
-      shows = subst (λ (i : NodeId). Shows nodes i.0 t) first s.3;
-      show = subst (λ (is : List NodeId). ShowsAll nodes is ts) others s.4;
-    }
-
-pub front_at : (nodes : List Node) (ids : List NodeId) (i : ℕ) (id d : NodeId) (trees : Trees) → i < length ids → id ≡ get_or ids i d → ShowsAll nodes (drop i ids) trees → Front nodes id (drop (i + 1) ids) trees
-front_at nodes ids i id d trees inside at s =
-    let next : suc i ≡ i + 1 = omega arith in
-    front_of nodes (drop i ids) (drop (i + 1) ids) id trees (drop-cons ids i d inside ∙ ap (λ (k : ℕ). get_or ids i d ∷ drop k ids) next ∙ ap (λ (j : NodeId). j ∷ drop (i + 1) ids) (sym at)) s
 
 -- one more that is none of a declarator
 pub past : (nodes : List Node) (ids : List NodeId) (i : ℕ) (id d : NodeId) (trees : Trees) → i < length ids → id ≡ get_or ids i d → ((tree : Tree) → Shows nodes id.0 tree → false ≡ is_of_declarator tree) → Behind nodes ids i trees → Behind nodes ids (i + 1) trees
@@ -68,12 +42,6 @@ none_of : (nodes : List Node) (ids : List NodeId) (trees : Trees) → ids ≡ []
 none_of nodes ids none e s = refl
 none_of nodes ids (more t ts) e s = absurd (let f : ids ≡ s.0 ∷ s.1 = s.2 in cc)
 
-drop-past : (i : ℕ) (ids : List NodeId) → length ids ≤ i → drop i ids ≡ []
-drop-past zero [] h = refl
-drop-past zero (id ∷ ids) h = absurd (omega (arith, h))
-drop-past (suc i) [] h = refl
-drop-past (suc i) (id ∷ ids) h = drop-past i ids (omega (arith, h))
-
 pub none_at : (nodes : List Node) (ids : List NodeId) (i : ℕ) (trees : Trees) → length ids ≤ i → Behind nodes ids i trees → declared_in trees ≡ None
 none_at nodes ids i trees after b = b.same ∙ none_of nodes (drop i ids) b.rest (drop-past i ids after) b.shows
 
@@ -83,25 +51,6 @@ pub record LeadsTo (nodes : List Node) (found : ℕ) (tree : Tree) : Type 0 wher
   pub shows : Shows nodes found to
   pub leads : is_of_declarator to ≡ true
   pub same : declared tree ≡ declared to
-
--- what a node shows, by its parts
-pub record ShownParts (nodes : List Node) (found : Node) (tree : Tree) : Type 0 where
-  pub kids : Trees
-  pub is : tree ≡ node found.kind found.at found.token kids
-  pub shows : ShowsAll nodes found.kids.items kids
-
-pub parts_of : (nodes : List Node) (id : ℕ) (found : Node) (tree : Tree) → slice_get nodes id ≡ Some found → Shows nodes id tree → ShownParts nodes found tree
-parts_of nodes id found (node k at token kids) stands s =
-    let there : slice_get nodes id ≡ Some (s.0).found = (s.0).stands in
-    let same : (s.0).found ≡ found = cc in
-    let kind_is : k ≡ found.kind = sym (s.0).kind_is ∙ ap (λ (n : Node). n.kind) same in
-    let at_is : at ≡ found.at = sym (s.0).at_is ∙ ap (λ (n : Node). n.at) same in
-    let token_is : token ≡ found.token = sym (s.0).token_is ∙ ap (λ (n : Node). n.token) same in
-    record {
-      kids = kids;
-      is = cc;
-      shows = subst (λ (n : Node). ShowsAll nodes n.kids.items kids) same s.1;
-    }
 
 abbrev by_kind : Bool → Trees → Option Name → Option Name
 by_kind leads kids other = if leads then declared_in kids else other

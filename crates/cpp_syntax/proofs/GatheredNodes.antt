@@ -17,6 +17,7 @@ use Rattle.cpp_ast.specs.Units.{times_in, times_a_kid}
 use Rattle.cpp_syntax.specs.declared.positions.OpenBody.{OpenBody}
 use Rattle.cpp_syntax.specs.Gathers.{Gathered}
 use Rattle.cpp_syntax.specs.View.{EachShows, IsBuilt, running, is_lambda, lams_of, lambdas_at, lambdas_from, lambdas_made, values_at, values_from, trees_at, trees_from, tree_made, no_tree}
+use Rattle.cpp_syntax.proofs.NodeLambdas.{own_lambda}
 use Rattle.cpp_syntax.proofs.NodeValues.{values_long, values_snoc, at_grow, at_gathered, at_last, below_take, below_drop, value_grow, value_last}
 
 -- ids that show their trees
@@ -101,9 +102,6 @@ apart_gathered base old new was ids start added id nodes kids index pending with
     omega (arith, more, by_added, split, last, whole, step, bound)
 
 -- the lambdas below the trees
-
-abbrev pub own_lambda : NodeKind → ℕ → List ℕ
-own_lambda k id = if is_lambda k then id ∷ [] else []
 
 concat_last : (xss : List (List ℕ)) (xs : List ℕ) → concat (xss ++ xs ∷ []) ≡ concat xss ++ xs
 concat_last xss xs = concat-append xss (xs ∷ []) ∙ ap (λ (ns : List ℕ). concat xss ++ ns) (append-nil xs)

@@ -10,7 +10,7 @@ use Rattle.cpp_syntax.specs.Gathers.{first_at}
 use Rattle.cpp_syntax.specs.Derivations.{Read, at_of}
 use Rattle.cpp_syntax.specs.View.{BuilderState, appended, builder_state, count_trees, EachShows, trees_at}
 use Rattle.cpp_syntax.proofs.GatheredNodes.{all_of_each, each_drop}
-use Rattle.cpp_syntax.proofs.DeclaredNames.{front_of, parts_of}
+use Rattle.cpp_syntax.proofs.NodeKids.{front_of, parts_of}
 use Rattle.cpp_syntax.proofs.BuilderViews.{since}
 
 pub shows_since : (base : ℕ) (nodes : List Node) (ids : List NodeId) (bodies : List OpenBody) (start : ℕ) (shown before : BuilderState) (got : Read) → EachShows nodes ids → builder_state base nodes ids bodies ≡ shown → shown ≡ appended before got → count_trees before.read.trees ≡ start → ShowsAll nodes (drop start ids) got.trees

@@ -19,6 +19,8 @@ pub mod WithBodies
 pub mod LambdaBodies
 pub mod UnitBodies
 mod NodeValues
+pub mod NodeKids
+pub mod NodeLambdas
 mod TreeLists
 pub mod BuilderMarks
 mod GatheredNodes

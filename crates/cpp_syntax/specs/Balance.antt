@@ -2,6 +2,7 @@
 use Rattle.std.specs.Prelude.{◌≡◌, ◌↔◌, ℕ, ◌+◌, ◌≤◌, nat_lt, if◌then◌else◌, Bool, true, false, List, length, get_or, slice_index_or, Option, Some, None}
 use Rattle.cpp_syntax.specs.declared.terminal.Terminal.{Terminal}
 use Rattle.cpp_syntax.specs.declared.terminal.Terminal.TheVariants as terminal
+use Rattle.cpp_syntax.specs.declared.limits.TheConstants.{MAX_TOKENS}
 use Rattle.cpp_syntax.specs.Terminals.{is_unbracketed}
 
 -- the terminal at an index
@@ -36,6 +37,6 @@ partner_in partners a = if nat_lt a (get_or partners a 0) then Some (get_or part
 
 -- A table has the partner of each index.
 pub record IsTable (terminals : List Terminal) (begins : List ℕ) (partners : List ℕ) : Type 0 where
-  pub few : length terminals ≤ 1048576
+  pub few : length terminals ≤ MAX_TOKENS
   pub begin : length begins ≡ length terminals
   pub each : (a : ℕ) → IsPartner terminals a (partner_in partners a)

@@ -3,6 +3,7 @@
 ghost use Rattle.std.specs.Prelude.{◌≡◌, ◌<◌, ◌≤◌, ℕ, suc, true, length};
 ghost use Rattle.cpp_syntax.specs.Source.{terminal_at};
 ghost use Rattle.cpp_syntax.specs.Terminals.{is_name, is_cv, is_safety, is_type_word, is_prefix, is_step, is_assignment, is_capture_default, is_unseparated, is_chosen, is_literal, level_of};
+ghost use Rattle.cpp_syntax.specs.declared.limits.TheConstants.{MAX_TOKENS};
 
 use crate::outline::Outline;
 
@@ -11,7 +12,7 @@ impl Outline {
     pub fn is_name_at(&self, at: usize) -> bool
         ensures test { result ≡ is_name (terminal_at self.now at) }
         ensures inside { result ≡ true → at < length self.now.terminals }
-        ensures few { length self.now.terminals ≤ 1048576 }
+        ensures few { length self.now.terminals ≤ MAX_TOKENS }
     {
         self.terminal(at).is_name()
     }
@@ -20,7 +21,7 @@ impl Outline {
     pub fn is_cv_at(&self, at: usize) -> bool
         ensures test { result ≡ is_cv (terminal_at self.now at) }
         ensures inside { result ≡ true → at < length self.now.terminals }
-        ensures few { length self.now.terminals ≤ 1048576 }
+        ensures few { length self.now.terminals ≤ MAX_TOKENS }
     {
         self.terminal(at).is_cv()
     }
@@ -29,7 +30,7 @@ impl Outline {
     pub fn is_safety_at(&self, at: usize) -> bool
         ensures test { result ≡ is_safety (terminal_at self.now at) }
         ensures inside { result ≡ true → at < length self.now.terminals }
-        ensures few { length self.now.terminals ≤ 1048576 }
+        ensures few { length self.now.terminals ≤ MAX_TOKENS }
     {
         self.terminal(at).is_safety()
     }
@@ -38,7 +39,7 @@ impl Outline {
     pub fn is_type_word_at(&self, at: usize) -> bool
         ensures test { result ≡ is_type_word (terminal_at self.now at) }
         ensures inside { result ≡ true → at < length self.now.terminals }
-        ensures few { length self.now.terminals ≤ 1048576 }
+        ensures few { length self.now.terminals ≤ MAX_TOKENS }
     {
         self.terminal(at).is_type_word()
     }
@@ -47,7 +48,7 @@ impl Outline {
     pub fn is_prefix_at(&self, at: usize) -> bool
         ensures test { result ≡ is_prefix (terminal_at self.now at) }
         ensures inside { result ≡ true → at < length self.now.terminals }
-        ensures few { length self.now.terminals ≤ 1048576 }
+        ensures few { length self.now.terminals ≤ MAX_TOKENS }
     {
         self.terminal(at).is_prefix()
     }
@@ -56,7 +57,7 @@ impl Outline {
     pub fn is_step_at(&self, at: usize) -> bool
         ensures test { result ≡ is_step (terminal_at self.now at) }
         ensures inside { result ≡ true → at < length self.now.terminals }
-        ensures few { length self.now.terminals ≤ 1048576 }
+        ensures few { length self.now.terminals ≤ MAX_TOKENS }
     {
         self.terminal(at).is_step()
     }
@@ -65,7 +66,7 @@ impl Outline {
     pub fn is_assignment_at(&self, at: usize) -> bool
         ensures test { result ≡ is_assignment (terminal_at self.now at) }
         ensures inside { result ≡ true → at < length self.now.terminals }
-        ensures few { length self.now.terminals ≤ 1048576 }
+        ensures few { length self.now.terminals ≤ MAX_TOKENS }
     {
         self.terminal(at).is_assignment()
     }
@@ -74,7 +75,7 @@ impl Outline {
     pub fn is_capture_default_at(&self, at: usize) -> bool
         ensures test { result ≡ is_capture_default (terminal_at self.now at) }
         ensures inside { result ≡ true → at < length self.now.terminals }
-        ensures few { length self.now.terminals ≤ 1048576 }
+        ensures few { length self.now.terminals ≤ MAX_TOKENS }
     {
         self.terminal(at).is_capture_default()
     }
@@ -83,7 +84,7 @@ impl Outline {
     pub fn is_chosen_at(&self, at: usize) -> bool
         ensures test { result ≡ is_chosen (terminal_at self.now at) }
         ensures inside { result ≡ true → at < length self.now.terminals }
-        ensures few { length self.now.terminals ≤ 1048576 }
+        ensures few { length self.now.terminals ≤ MAX_TOKENS }
     {
         self.terminal(at).is_chosen()
     }
@@ -92,7 +93,7 @@ impl Outline {
     pub fn is_unseparated_at(&self, at: usize) -> bool
         ensures test { result ≡ is_unseparated (terminal_at self.now at) }
         ensures inside { result ≡ true → at < length self.now.terminals }
-        ensures few { length self.now.terminals ≤ 1048576 }
+        ensures few { length self.now.terminals ≤ MAX_TOKENS }
     {
         self.terminal(at).is_unseparated()
     }
@@ -101,7 +102,7 @@ impl Outline {
     pub fn is_literal_at(&self, at: usize) -> bool
         ensures test { result ≡ is_literal (terminal_at self.now at) }
         ensures inside { result ≡ true → at < length self.now.terminals }
-        ensures few { length self.now.terminals ≤ 1048576 }
+        ensures few { length self.now.terminals ≤ MAX_TOKENS }
     {
         self.terminal(at).is_literal()
     }
@@ -111,7 +112,7 @@ impl Outline {
     pub fn level_at(&self, at: usize) -> u32
         ensures level { result ≡ level_of (terminal_at self.now at) }
         ensures inside { (n : ℕ) → result ≡ suc n → at < length self.now.terminals }
-        ensures few { length self.now.terminals ≤ 1048576 }
+        ensures few { length self.now.terminals ≤ MAX_TOKENS }
     {
         self.terminal(at).level()
     }

@@ -10,6 +10,7 @@ pub mod builder;
 mod classes;
 mod groups;
 pub mod laws;
+pub mod limits;
 pub mod names;
 pub mod naming;
 mod outline;

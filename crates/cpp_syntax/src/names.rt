@@ -9,6 +9,7 @@ ghost use Rattle.cpp_syntax.specs.Balance.{IsPartner};
 ghost use Rattle.cpp_syntax.specs.Rules.{a_cast, a_type_in_parentheses, parameters, a_declaration};
 ghost use Rattle.cpp_syntax.specs.Lookahead.{lookahead};
 ghost use Rattle.cpp_syntax.specs.Shapes.{BehindWords, ThrownFound, begins_name_at};
+ghost use Rattle.cpp_syntax.specs.declared.limits.TheConstants.{MAX_TOKENS};
 
 use crate::outline::Outline;
 use crate::terminal::Terminal;
@@ -40,7 +41,7 @@ impl Model for TypeNames {
 impl TypeNames {
     /// What is kept of the tokens of a unit, whose source has a number.
     pub fn of(alloc: Global, source: u32, tokens: &Tokens) -> Result<TypeNames, AllocError>
-        requires { length tokens.now.items.items ≤ 1048576 }
+        requires { length tokens.now.items.items ≤ MAX_TOKENS }
         ensures { IfOk result (λ types. types ≡ source_of source (lexemes_of tokens.now)) }
     {
         let outline = Outline::of(alloc, source, tokens)?;
@@ -54,7 +55,7 @@ impl TypeNames {
     /// How many tokens there are.
     pub fn len(&self) -> usize
         ensures len { result ≡ length self.now.terminals }
-        ensures few { result ≤ 1048576 }
+        ensures few { result ≤ MAX_TOKENS }
     {
         self.outline.len()
     }
@@ -63,7 +64,7 @@ impl TypeNames {
     pub fn terminal(&self, at: usize) -> Terminal
         ensures terminal { result ≡ terminal_at self.now at }
         ensures inside { is_end result ≡ false → at < length self.now.terminals }
-        ensures few { length self.now.terminals ≤ 1048576 }
+        ensures few { length self.now.terminals ≤ MAX_TOKENS }
     {
         self.outline.terminal(at)
     }
@@ -73,7 +74,7 @@ impl TypeNames {
         ensures yes { result ≡ true → ReadsAs (terminal_at self.now at) terminal }
         ensures no { result ≡ false → ReadsAs (terminal_at self.now at) terminal → ⊥ }
         ensures inside { result ≡ true → is_end terminal ≡ false → at < length self.now.terminals }
-        ensures few { length self.now.terminals ≤ 1048576 }
+        ensures few { length self.now.terminals ≤ MAX_TOKENS }
     {
         self.outline.is_at(at, terminal)
     }
@@ -81,7 +82,7 @@ impl TypeNames {
     /// The position in the text of the token at an index, or of what is behind the last.
     pub fn position(&self, at: usize) -> At
         ensures position { result ≡ position_at self.now at }
-        ensures few { length self.now.terminals ≤ 1048576 }
+        ensures few { length self.now.terminals ≤ MAX_TOKENS }
     {
         self.outline.position(at)
     }
@@ -98,7 +99,7 @@ impl TypeNames {
     pub fn is_name_at(&self, at: usize) -> bool
         ensures test { result ≡ is_name (terminal_at self.now at) }
         ensures inside { result ≡ true → at < length self.now.terminals }
-        ensures few { length self.now.terminals ≤ 1048576 }
+        ensures few { length self.now.terminals ≤ MAX_TOKENS }
     {
         self.outline.is_name_at(at)
     }
@@ -107,7 +108,7 @@ impl TypeNames {
     pub fn is_cv_at(&self, at: usize) -> bool
         ensures test { result ≡ is_cv (terminal_at self.now at) }
         ensures inside { result ≡ true → at < length self.now.terminals }
-        ensures few { length self.now.terminals ≤ 1048576 }
+        ensures few { length self.now.terminals ≤ MAX_TOKENS }
     {
         self.outline.is_cv_at(at)
     }
@@ -116,7 +117,7 @@ impl TypeNames {
     pub fn is_safety_at(&self, at: usize) -> bool
         ensures test { result ≡ is_safety (terminal_at self.now at) }
         ensures inside { result ≡ true → at < length self.now.terminals }
-        ensures few { length self.now.terminals ≤ 1048576 }
+        ensures few { length self.now.terminals ≤ MAX_TOKENS }
     {
         self.outline.is_safety_at(at)
     }
@@ -125,7 +126,7 @@ impl TypeNames {
     pub fn is_type_word_at(&self, at: usize) -> bool
         ensures test { result ≡ is_type_word (terminal_at self.now at) }
         ensures inside { result ≡ true → at < length self.now.terminals }
-        ensures few { length self.now.terminals ≤ 1048576 }
+        ensures few { length self.now.terminals ≤ MAX_TOKENS }
     {
         self.outline.is_type_word_at(at)
     }
@@ -134,7 +135,7 @@ impl TypeNames {
     pub fn is_prefix_at(&self, at: usize) -> bool
         ensures test { result ≡ is_prefix (terminal_at self.now at) }
         ensures inside { result ≡ true → at < length self.now.terminals }
-        ensures few { length self.now.terminals ≤ 1048576 }
+        ensures few { length self.now.terminals ≤ MAX_TOKENS }
     {
         self.outline.is_prefix_at(at)
     }
@@ -143,7 +144,7 @@ impl TypeNames {
     pub fn is_step_at(&self, at: usize) -> bool
         ensures test { result ≡ is_step (terminal_at self.now at) }
         ensures inside { result ≡ true → at < length self.now.terminals }
-        ensures few { length self.now.terminals ≤ 1048576 }
+        ensures few { length self.now.terminals ≤ MAX_TOKENS }
     {
         self.outline.is_step_at(at)
     }
@@ -152,7 +153,7 @@ impl TypeNames {
     pub fn is_assignment_at(&self, at: usize) -> bool
         ensures test { result ≡ is_assignment (terminal_at self.now at) }
         ensures inside { result ≡ true → at < length self.now.terminals }
-        ensures few { length self.now.terminals ≤ 1048576 }
+        ensures few { length self.now.terminals ≤ MAX_TOKENS }
     {
         self.outline.is_assignment_at(at)
     }
@@ -161,7 +162,7 @@ impl TypeNames {
     pub fn is_capture_default_at(&self, at: usize) -> bool
         ensures test { result ≡ is_capture_default (terminal_at self.now at) }
         ensures inside { result ≡ true → at < length self.now.terminals }
-        ensures few { length self.now.terminals ≤ 1048576 }
+        ensures few { length self.now.terminals ≤ MAX_TOKENS }
     {
         self.outline.is_capture_default_at(at)
     }
@@ -170,7 +171,7 @@ impl TypeNames {
     pub fn is_literal_at(&self, at: usize) -> bool
         ensures test { result ≡ is_literal (terminal_at self.now at) }
         ensures inside { result ≡ true → at < length self.now.terminals }
-        ensures few { length self.now.terminals ≤ 1048576 }
+        ensures few { length self.now.terminals ≤ MAX_TOKENS }
     {
         self.outline.is_literal_at(at)
     }
@@ -180,7 +181,7 @@ impl TypeNames {
     pub fn level_at(&self, at: usize) -> u32
         ensures level { result ≡ level_of (terminal_at self.now at) }
         ensures inside { (n : ℕ) → result ≡ suc n → at < length self.now.terminals }
-        ensures few { length self.now.terminals ≤ 1048576 }
+        ensures few { length self.now.terminals ≤ MAX_TOKENS }
     {
         self.outline.level_at(at)
     }

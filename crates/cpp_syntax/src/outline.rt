@@ -6,6 +6,7 @@ ghost use Rattle.cpp_syntax.specs.Source.{Source, terminal_at, position_at};
 ghost use Rattle.cpp_syntax.specs.Classes.{source_of, end_of};
 ghost use Rattle.cpp_syntax.specs.Terminals.{ReadsAs, is_end};
 ghost use Rattle.cpp_syntax.specs.Balance.{IsPartner};
+ghost use Rattle.cpp_syntax.specs.declared.limits.TheConstants.{MAX_TOKENS};
 
 use crate::classes::terminals;
 use crate::partners::partners;
@@ -42,7 +43,7 @@ impl Model for Outline {
 impl Outline {
     /// What is kept of the tokens of a unit.
     pub fn of(alloc: Global, source: u32, tokens: &Tokens) -> Result<Outline, AllocError>
-        requires { length tokens.now.items.items ≤ 1048576 }
+        requires { length tokens.now.items.items ≤ MAX_TOKENS }
         ensures { IfOk result (λ names. names ≡ source_of source (lexemes_of tokens.now)) }
     {
         let items = tokens.items.as_slice();
@@ -60,7 +61,7 @@ impl Outline {
     /// How many tokens there are.
     pub fn len(&self) -> usize
         ensures len { result ≡ length self.now.terminals }
-        ensures few { result ≤ 1048576 }
+        ensures few { result ≤ MAX_TOKENS }
     {
         self.terminals.len()
     }
@@ -76,7 +77,7 @@ impl Outline {
     pub fn terminal(&self, at: usize) -> Terminal
         ensures terminal { result ≡ terminal_at self.now at }
         ensures inside { is_end result ≡ false → at < length self.now.terminals }
-        ensures few { length self.now.terminals ≤ 1048576 }
+        ensures few { length self.now.terminals ≤ MAX_TOKENS }
     {
         match self.terminals.get(at) {
             Some(terminal) => *terminal,
@@ -89,7 +90,7 @@ impl Outline {
         ensures yes { result ≡ true → ReadsAs (terminal_at self.now at) terminal }
         ensures no { result ≡ false → ReadsAs (terminal_at self.now at) terminal → ⊥ }
         ensures inside { result ≡ true → is_end terminal ≡ false → at < length self.now.terminals }
-        ensures few { length self.now.terminals ≤ 1048576 }
+        ensures few { length self.now.terminals ≤ MAX_TOKENS }
     {
         self.terminal(at).is(terminal)
     }
@@ -97,7 +98,7 @@ impl Outline {
     /// The position in the text of the token at an index, or of what is behind the last.
     pub fn position(&self, at: usize) -> At
         ensures position { result ≡ position_at self.now at }
-        ensures few { length self.now.terminals ≤ 1048576 }
+        ensures few { length self.now.terminals ≤ MAX_TOKENS }
     {
         let offset = match self.begins.get(at) {
             Some(begin) => *begin,

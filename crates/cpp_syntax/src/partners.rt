@@ -5,6 +5,7 @@ ghost use Rattle.cpp_syntax.specs.Balance.{IsPartner, partner_in, closes, termin
 ghost use Rattle.cpp_syntax.specs.Pairing.{Paired};
 ghost use Rattle.cpp_syntax.specs.FirstSets.{opens};
 ghost use Rattle.cpp_syntax.specs.Terminals.{is_unbracketed};
+ghost use Rattle.cpp_syntax.specs.declared.limits.TheConstants.{MAX_TOKENS};
 
 use crate::terminal::Terminal;
 use std::alloc::{AllocError, Global};
@@ -43,7 +44,7 @@ fn terminal_in(terminals: &[Terminal], at: usize) -> Terminal
 
 /// A table with the index of its partner for each bracket that one closes, and for each other token its own index.
 pub(crate) fn partners(alloc: Global, terminals: &[Terminal]) -> Result<Vec<u32>, AllocError>
-    requires { length terminals.now ≤ 1048576 }
+    requires { length terminals.now ≤ MAX_TOKENS }
     ensures { IfOk result (λ partners. (a : ℕ) → IsPartner terminals.now a (partner_in partners.items a)) }
 {
     let mut partners = Vec::with_capacity(alloc, terminals.len())?;
@@ -62,7 +63,7 @@ fn step(
     at: usize,
 ) -> Result<(), AllocError>
     requires inside { at < length terminals.now }
-    requires few { length terminals.now ≤ 1048576 }
+    requires few { length terminals.now ≤ MAX_TOKENS }
     requires paired { Paired terminals.now partners.old.items opened.old.items at at }
     ensures { OnOk result (Paired terminals.now partners.new.items opened.new.items (at + 1) (at + 1)) }
 {
@@ -82,7 +83,7 @@ fn open(
     at: usize,
 ) -> Result<(), AllocError>
     requires inside { at < length terminals.now }
-    requires few { length terminals.now ≤ 1048576 }
+    requires few { length terminals.now ≤ MAX_TOKENS }
     requires opening { opens (terminal_in terminals.now at) ≡ true }
     requires paired { Paired terminals.now partners.old.items opened.old.items at at }
     ensures { OnOk result (Paired terminals.now partners.new.items opened.new.items (at + 1) (at + 1)) }
@@ -95,7 +96,7 @@ fn open(
 /// Passes a token that opens no bracket.
 fn pass(partners: &mut Vec<u32>, opened: &mut Vec<usize>, terminals: &[Terminal], at: usize)
     requires inside { at < length terminals.now }
-    requires few { length terminals.now ≤ 1048576 }
+    requires few { length terminals.now ≤ MAX_TOKENS }
     requires opening { opens (terminal_in terminals.now at) ≡ false }
     requires paired { Paired terminals.now partners.old.items opened.old.items at at }
     ensures { Paired terminals.now partners.new.items opened.new.items at (at + 1) }
@@ -108,7 +109,7 @@ fn pass(partners: &mut Vec<u32>, opened: &mut Vec<usize>, terminals: &[Terminal]
 /// Closes the last open bracket, or leaves all open ones without a partner where the token does not close that.
 fn close(partners: &mut Vec<u32>, opened: &mut Vec<usize>, terminals: &[Terminal], at: usize)
     requires inside { at < length terminals.now }
-    requires few { length terminals.now ≤ 1048576 }
+    requires few { length terminals.now ≤ MAX_TOKENS }
     requires opening { opens (terminal_in terminals.now at) ≡ false }
     requires closing { is_unbracketed (terminal_in terminals.now at) ≡ false }
     requires paired { Paired terminals.now partners.old.items opened.old.items at at }

@@ -63,6 +63,32 @@ fn names_become_types(rt: HostRuntime) -> Result<(), Fail> {
     Ok(())
 }
 
+// A word with a special meaning stays one where a type has its name, and is that name too.
+#[test]
+fn words_may_be_types(rt: HostRuntime) -> Result<(), Fail> {
+    let alloc = rt.alloc();
+    let tokens = lex(alloc, b"final struct final; final override")?;
+    assert!(rt; tokens.items.len() <= 1_048_576);
+    let types = TypeNames::of(alloc, 0, &tokens)?;
+    let terminals = [
+        Terminal::FinalLater,
+        Terminal::Struct,
+        Terminal::Final,
+        Terminal::Semicolon,
+        Terminal::FinalType,
+        Terminal::Override,
+    ];
+    for at in 0..terminals.len() {
+        assert_eq!(rt; types.terminal(at), terminals[at]);
+    }
+    assert!(rt; types.is_at(0, Terminal::Final));
+    assert!(rt; !types.is_at(0, Terminal::TypeName));
+    assert!(rt; types.is_at(4, Terminal::Final));
+    assert!(rt; types.is_at(4, Terminal::TypeName));
+    assert!(rt; !types.is_at(5, Terminal::TypeName));
+    Ok(())
+}
+
 // Each spelling that is not a name of the program.
 #[test]
 fn spellings_are_terminals(rt: HostRuntime) -> Result<(), Fail> {
@@ -155,7 +181,7 @@ fn shapes_are_seen(rt: HostRuntime) -> Result<(), Fail> {
     let alloc = rt.alloc();
     let tokens = lex(
         alloc,
-        b"class T; (T)-1 (x)-1 (T*)) x(T a, int) y(1) T x(a), z = (1, 2); T(x)+1;",
+        b"class T; (T)-1 (x)-1 (T*)) x(T a, int) y(1) T x(a), z = (1, 2); T(x)+1; T(x) = 1 ? x, x : x;",
     )?;
     assert!(rt; tokens.items.len() <= 1_048_576);
     let types = TypeNames::of(alloc, 0, &tokens)?;
@@ -166,7 +192,8 @@ fn shapes_are_seen(rt: HostRuntime) -> Result<(), Fail> {
     assert!(rt; types.lookahead_parameters(19));
     assert!(rt; !types.lookahead_parameters(26));
     assert!(rt; types.lookahead_declaration(29, 9)?);
-    assert!(rt; !types.lookahead_declaration(44, 9)?);
+    assert!(rt; !types.lookahead_declaration(43, 9)?);
+    assert!(rt; types.lookahead_declaration(50, 9)?);
     assert!(rt; types.begins_name(18));
     assert_eq!(rt; types.behind_type_words(23), 24);
     assert_eq!(rt; types.thrown_type(0), None);

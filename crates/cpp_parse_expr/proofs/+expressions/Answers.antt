@@ -85,7 +85,7 @@ pub declarators::function_parameters-returns-then-not-is_at : goal.declarators::
 declarators::function_parameters-returns-then-not-is_at t c = (leaves_same c.expected_at.ensures, no_parameters_here _ (naming_of c.args.naming) (refused open_paren terminal.OpenParen refl _ (c.if-not-is_at.ensures.no refl)))
 
 pub declarators::function_parameters-returns-then-not-lookahead_parameters : goal.declarators::function_parameters-returns-then-not-lookahead_parameters
-declarators::function_parameters-returns-then-not-lookahead_parameters t c = (leaves_none _, parameters_unseen _ (naming_of c.args.naming) (back c.if-not-may_be_unnamed.ensures) (c.if-not-lookahead_parameters.ensures.no refl))
+declarators::function_parameters-returns-then-not-lookahead_parameters t c = (leaves_read c.in_ok-close.ensures, parameters_unseen _ (naming_of c.args.naming) (back c.if-not-may_be_unnamed.ensures) (c.if-not-lookahead_parameters.ensures.no refl))
 
 pub declarators::function_parameters-returns-in_err-descend : goal.declarators::function_parameters-returns-in_err-descend
 declarators::function_parameters-returns-in_err-descend t c = parsed_err _ _ _ _ c.from_residual.result c.from_residual.ensures.0 (leaves_none _)
@@ -562,7 +562,7 @@ lambdas::lambda_expression-returns-then-not-is_at t c =
 pub lambdas::lambda_expression-returns-in_default-partner : goal.lambdas::lambda_expression-returns-in_default-partner
 lambdas::lambda_expression-returns-in_default-partner t c =
     let x = rw c.in-Some.is at c.in_ok-introduced.ensures in (
-      leaves_both (leaves_read x) (leaves_read c.in_ok-open.ensures),
+      leaves_both (leaves_read x) (leaves_both (leaves_read c.in_ok-open.ensures) (leaves_same c.expected_at-in_default-partner.ensures)),
       no_partner c.args.text.now (captured c.requires.here x c.in_ok-open.ensures) (λ n p. c.in_default-partner.not-Some n ((c.partner.ensures n).1 p)),
     )
 

@@ -32,22 +32,22 @@ returns-then-branch c =
     let n = none_left_out (refused semicolon terminal.Semicolon refl _ (c.if-is_at.ensures.no refl)) in
     parsed_form _ for_init_statement _ None _ _ c.block_declaration.result (parsed_left _ _ _ _ _ _ _ c.block_declaration.result (neither (unless_seen h) n) (parsed_if _ _ _ _ _ _ _ c.block_declaration.result h c.block_declaration.ensures))
 
+pub returns-in_err-next : goal.returns-in_err-next
+returns-in_err-next c = parsed_err _ _ _ _ c.from_residual-in_err-next.result c.from_residual-in_err-next.ensures.0 c.in_err-next.ensures
+
+pub returns-in_err-note_declaration : goal.returns-in_err-note_declaration
+returns-in_err-note_declaration c =
+    let x = rw c.in_default.is at c.in_ok-next.ensures in
+    parsed_err _ _ _ _ c.from_residual-in_err-note_declaration.result c.from_residual-in_err-note_declaration.ensures.0 (leaves_both x.0 c.note_declaration.ensures)
+
 pub returns-in_default : goal.returns-in_default
 returns-in_default c =
-    let x = rw c.in_default.is at c.in_ok-close.ensures in
+    let x = rw c.in_default.is at c.in_ok-next.ensures in
     let n = none_left_out (refused semicolon terminal.Semicolon refl _ (c.if-is_at.ensures.no refl)) in
-    (x.0, none_form (neither (if_unseen (c.in_ok-lookahead_declaration.ensures.no c.if-branch.false)) (neither (unless_none (none_seq x.1)) n)))
-
-pub returns-then-not-is_at : goal.returns-then-not-is_at
-returns-then-not-is_at c =
-    let x = rw c.in-Some.is at c.in_ok-close.ensures in
-    let n = none_left_out (refused semicolon terminal.Semicolon refl _ (c.if-is_at.ensures.no refl)) in
-    let m = none_behind x (word_none (refused semicolon terminal.Semicolon refl _ (c.if-not-is_at.ensures.no refl))) refl refl refl in
-    (leaves_both (leaves_read x) (leaves_same c.expected_at.ensures), none_form (neither (if_unseen (c.in_ok-lookahead_declaration.ensures.no c.if-branch.false)) (neither (unless_none m) n)))
+    (leaves_both x.0 c.note_declaration.ensures, none_form (neither (if_unseen (c.in_ok-lookahead_declaration.ensures.no c.if-branch.false)) (neither (unless_none x.1) n)))
 
 pub returns : goal.returns
 returns c =
     let g = c.in_ok-lookahead_declaration.ensures.no c.if-branch.false in
     let n = none_left_out (refused semicolon terminal.Semicolon refl _ (c.if-is_at.ensures.no refl)) in
-    let v = passed semicolon terminal.Semicolon refl _ (c.if-not-is_at.ensures.yes refl) in
-    reads_form (reads_right (if_unseen g) (reads_left (reads_unless g (reads_seq (rw c.in-Some.is at c.in_ok-close.ensures) (reads_word v (c.if-not-is_at.ensures.inside refl refl)) refl refl)) n))
+    reads_form (reads_right (if_unseen g) (reads_left (reads_unless g (rw c.in-Some.is at c.in_ok-next.ensures)) n))

@@ -2,7 +2,7 @@ use Rattle.std.proofs.Common.{◌≡◌, ◌-◌, get_or, length, ◌<◌, sym, 
 use Rattle.std.proofs.lemmas.List.{get_or_read}
 use Rattle.cpp_ast.specs.Trees.{kind_of}
 use Rattle.cpp_parse_expr.specs.Depths.{step, height}
-use Rattle.cpp_parse_expr.proofs.NodeKids.{kind_is}
+use Rattle.cpp_syntax.proofs.NodeKids.{kind_is}
 use Rattle.cpp_parse_expr.proofs.TreeHeights.{reach_of}
 use Rattle.cpp_parse_expr.proofs.depth.reach.Goals as goal
 

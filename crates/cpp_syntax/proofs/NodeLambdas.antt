@@ -27,7 +27,7 @@ module _ {A : Type 0} (other : A) (make : ℕ → Node → List A → A) where
       let rest = fronts_kept vs ns ids parts.1 in
       cc
 
-  value_from : (vs : List A) (ns : List Node) (k i : ℕ) (n : Node) → slice_get ns k ≡ Some n → i ≡ length vs + k → are_below i n.kids.items ≡ true → get_or (values_from other make vs ns) i other ≡ make i n (values_at other (values_from other make vs ns) n.kids.items)
+  pub value_from : (vs : List A) (ns : List Node) (k i : ℕ) (n : Node) → slice_get ns k ≡ Some n → i ≡ length vs + k → are_below i n.kids.items ≡ true → get_or (values_from other make vs ns) i other ≡ make i n (values_at other (values_from other make vs ns) n.kids.items)
   value_from vs [] k i n e at below = absurd (none-some n e)
   value_from vs (m ∷ ns) zero i n e at below =
       let v : A = make (length vs) m (values_at other vs m.kids.items) in

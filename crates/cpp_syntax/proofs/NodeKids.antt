@@ -31,7 +31,7 @@ front_at nodes ids i id d trees inside at s =
     let next : suc i ≡ i + 1 = omega arith in
     front_of nodes (drop i ids) (drop (i + 1) ids) id trees (drop-cons ids i d inside ∙ ap (λ (k : ℕ). get_or ids i d ∷ drop k ids) next ∙ ap (λ (j : NodeId). j ∷ drop (i + 1) ids) (sym at)) s
 
-drop-past : (i : ℕ) (ids : List NodeId) → length ids ≤ i → drop i ids ≡ []
+pub drop-past : (i : ℕ) (ids : List NodeId) → length ids ≤ i → drop i ids ≡ []
 drop-past zero [] h = refl
 drop-past zero (id ∷ ids) h = absurd (omega (arith, h))
 drop-past (suc i) [] h = refl
