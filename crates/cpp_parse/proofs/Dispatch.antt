@@ -35,19 +35,24 @@ pruned test p = p
 none_absent : (s : Source) (test : Terminal → Bool) (p : Rule) (a : ℕ) → test (terminal_at s a) ≡ true → absent test p ≡ true → NoneOf s p a
 none_absent s test p a t e = let h = and_parts (unlike test p) (not (rule_nullable p)) e in none_unlike test t h.0 (not-true (rule_nullable p) h.1)
 
-instead_chosen : {s : Source} {p q r : Rule} {a : ℕ} (b c : Bool) → (b ≡ true → NoneOf s p a) → (c ≡ true → NoneOf s q a) → Instead s r q a → Instead s (chosen b c p q r) (p ∣ q) a
+instead_chosen : {s : Source} {p q r : Rule} {a : ℕ} (b c : Bool) → (b ≡ true → NoneOf s p a) → (c ≡ true → NoneOf s q a) → Instead s r q a
+    → Instead s (chosen b c p q r) (p ∣ q) a
 instead_chosen true c n m x = with_none_before (n refl) x
 instead_chosen false true n m x = with_none_behind (m refl)
 instead_chosen false false n m x = with_same_before x
 
 instead_pruned : (s : Source) (test : Terminal → Bool) (p : Rule) (a : ℕ) → test (terminal_at s a) ≡ true → Instead s (pruned test p) p a
-instead_pruned s test (p ∣ q) a t = instead_chosen (absent test p) (absent test q) (none_absent s test p a t) (none_absent s test q a t) (instead_pruned s test q a t)
+instead_pruned s test (p ∣ q) a t =
+    instead_chosen (absent test p) (absent test q) (none_absent s test p a t) (none_absent s test q a t) (instead_pruned s test q a t)
 instead_pruned s test _ a t = record { to = λ b k r x. x; fro = λ b k r x. x }
 
-pub parsed_line : (s : Source) (test : Terminal → Bool) (q : Rule) (a : ℕ) (k : Option ℕ) (v w : BuilderState) (r : Result (Option ℕ) AllocError) → test (terminal_at s a) ≡ true → goes_within (pruned test q) q ≡ true → ParsesLongest s (pruned test q) a k v w r → ParsesLongest s q a k v w r
+pub parsed_line : (s : Source) (test : Terminal → Bool) (q : Rule) (a : ℕ) (k : Option ℕ) (v w : BuilderState) (r : Result (Option ℕ) AllocError)
+    → test (terminal_at s a) ≡ true → goes_within (pruned test q) q ≡ true → ParsesLongest s (pruned test q) a k v w r → ParsesLongest s q a k v w r
 parsed_line s test q a k v w r t e h = parsed_instead s (pruned test q) q a k v w r (instead_pruned s test q a t) e h
 
-pub statement_line : (s : Source) (test : Terminal → Bool) (a : ℕ) (v w : BuilderState) (r : Result (Option ℕ) AllocError) → test (terminal_at s a) ≡ true → goes_within (pruned test (production statement)) (production statement) ≡ true → ParsesLongest s (pruned test (production statement)) a None v w r → ParsesLongest s (form statement) a None v w r
+pub statement_line : (s : Source) (test : Terminal → Bool) (a : ℕ) (v w : BuilderState) (r : Result (Option ℕ) AllocError)
+    → test (terminal_at s a) ≡ true → goes_within (pruned test (production statement)) (production statement) ≡ true
+    → ParsesLongest s (pruned test (production statement)) a None v w r → ParsesLongest s (form statement) a None v w r
 statement_line s test a v w r t e h = parsed_form s statement a None v w r (parsed_line s test (production statement) a None v w r t e h)
 
 -- the terminals with which neither a declaration nor an expression begins, but another statement does
@@ -75,7 +80,10 @@ abbrev pub is_ordinary : Terminal → Bool
 is_ordinary s = not (line_word s)
 
 -- a terminal that is none of these
-pub ordinary_there : (s : Terminal) → (s ≡ terminal.OpenBrace → ⊥) → (s ≡ terminal.Semicolon → ⊥) → (s ≡ terminal.If → ⊥) → (s ≡ terminal.While → ⊥) → (s ≡ terminal.Do → ⊥) → (s ≡ terminal.For → ⊥) → (s ≡ terminal.Switch → ⊥) → (s ≡ terminal.Case → ⊥) → (s ≡ terminal.Default → ⊥) → (s ≡ terminal.Break → ⊥) → (s ≡ terminal.Continue → ⊥) → (s ≡ terminal.Return → ⊥) → (s ≡ terminal.Try → ⊥) → (s ≡ terminal.Synchronized → ⊥) → (s ≡ terminal.AtomicNoexcept → ⊥) → (s ≡ terminal.AtomicCancel → ⊥) → (s ≡ terminal.AtomicCommit → ⊥) → is_ordinary s ≡ true
+pub ordinary_there : (s : Terminal) → (s ≡ terminal.OpenBrace → ⊥) → (s ≡ terminal.Semicolon → ⊥) → (s ≡ terminal.If → ⊥) → (s ≡ terminal.While → ⊥)
+    → (s ≡ terminal.Do → ⊥) → (s ≡ terminal.For → ⊥) → (s ≡ terminal.Switch → ⊥) → (s ≡ terminal.Case → ⊥) → (s ≡ terminal.Default → ⊥)
+    → (s ≡ terminal.Break → ⊥) → (s ≡ terminal.Continue → ⊥) → (s ≡ terminal.Return → ⊥) → (s ≡ terminal.Try → ⊥) → (s ≡ terminal.Synchronized → ⊥)
+    → (s ≡ terminal.AtomicNoexcept → ⊥) → (s ≡ terminal.AtomicCancel → ⊥) → (s ≡ terminal.AtomicCommit → ⊥) → is_ordinary s ≡ true
 ordinary_there terminal.OpenBrace a b c d e f g h i j k l m n o p q = absurd (a refl)
 ordinary_there terminal.Semicolon a b c d e f g h i j k l m n o p q = absurd (b refl)
 ordinary_there terminal.If a b c d e f g h i j k l m n o p q = absurd (c refl)

@@ -25,10 +25,13 @@ pub record ReadsEnumerators (source : Source) (from next : ℕ) (old new : Build
   pub ahead : from ≤ next
   pub inside : next ≤ length source.terminals
 
-pub enumerators_begin : {s : Source} {a m : ℕ} {old now : BuilderState} → ReadsLongest s (form enumerator_definition) a m None old now → ReadsEnumerators s a m old now
-enumerators_begin x = record { marked = None; got = x.got; listed = listed_begins are_enumerators x.long; gained = x.gained; ahead = x.ahead; inside = x.inside }
+pub enumerators_begin : {s : Source} {a m : ℕ} {old now : BuilderState} → ReadsLongest s (form enumerator_definition) a m None old now
+    → ReadsEnumerators s a m old now
+enumerators_begin x =
+    record { marked = None; got = x.got; listed = listed_begins are_enumerators x.long; gained = x.gained; ahead = x.ahead; inside = x.inside }
 
-pub enumerators_more : {s : Source} {a m b : ℕ} {old now new : BuilderState} → ReadsEnumerators s a m old now → comma (terminal_at s m) ≡ true → m < length s.terminals → ReadsLongest s (form enumerator_definition) (m + 1) b None now new → ReadsEnumerators s a b old new
+pub enumerators_more : {s : Source} {a m b : ℕ} {old now new : BuilderState} → ReadsEnumerators s a m old now → comma (terminal_at s m) ≡ true
+    → m < length s.terminals → ReadsLongest s (form enumerator_definition) (m + 1) b None now new → ReadsEnumerators s a b old new
 enumerators_more {old = old} x t i y =
     let z = word_and t i y refl refl in
     record {
@@ -41,7 +44,8 @@ enumerators_more {old = old} x t i y =
     }
 
 -- no comma follows
-pub enumerators_end : {s : Source} {a m : ℕ} {old now : BuilderState} → ReadsEnumerators s a m old now → comma (terminal_at s m) ≡ false → ReadsLongest s enumerators a m None old now
+pub enumerators_end : {s : Source} {a m : ℕ} {old now : BuilderState} → ReadsEnumerators s a m old now → comma (terminal_at s m) ≡ false
+    → ReadsLongest s enumerators a m None old now
 enumerators_end x f = reads_unmarked (record {
   got = x.got;
   long = open_listed are_enumerators enumerators_go x.listed (seq_none (word_none f)) (left_out (word_none f));
@@ -51,7 +55,8 @@ enumerators_end x f = reads_unmarked (record {
 }) refl
 
 -- a comma follows, and no enumerator behind it
-pub enumerators_open : {s : Source} {a m : ℕ} {old now new : BuilderState} → ReadsEnumerators s a m old now → comma (terminal_at s m) ≡ true → m < length s.terminals → NoneOf s (form enumerator_definition) (m + 1) → new ≡ now → ReadsLongest s enumerators a (m + 1) None old new
+pub enumerators_open : {s : Source} {a m : ℕ} {old now new : BuilderState} → ReadsEnumerators s a m old now → comma (terminal_at s m) ≡ true
+    → m < length s.terminals → NoneOf s (form enumerator_definition) (m + 1) → new ≡ now → ReadsLongest s enumerators a (m + 1) None old new
 enumerators_open x t i n e = reads_unmarked (record {
   got = x.got;
   long = open_listed are_enumerators enumerators_go x.listed (none_second (free_none refl n x.got)) (taken (word_long t) refl);

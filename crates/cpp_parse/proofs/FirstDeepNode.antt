@@ -1,5 +1,6 @@
 -- The first node of some trees that lies too deep, where the bodies of lambdas are noted apart from their nodes.
-use Rattle.std.proofs.Common.{◌≡◌, ℕ, zero, suc, ◌+◌, ◌<◌, ◌≤◌, Bool, if◌then◌else◌, List, [], ◌∷◌, ◌++◌, length, drop, get_or, drop-cons, slice_get, Option, Some, None, refl, sym, ◌∙◌, ap, ap₂, subst, arith}
+use Rattle.std.proofs.Common.{◌≡◌, ℕ, zero, suc, ◌+◌, ◌<◌, ◌≤◌, Bool, if◌then◌else◌, List, [], ◌∷◌, ◌++◌, length, drop, get_or, drop-cons, slice_get}
+use Rattle.std.proofs.Common.{Option, Some, None, refl, sym, ◌∙◌, ap, ap₂, subst, arith}
 use Rattle.std.proofs.lemmas.Bool.{lt-ltb, le-ltb}
 use Rattle.cpp_ast.specs.declared.arena.At.{At}
 use Rattle.cpp_ast.specs.declared.arena.Node.{Node}
@@ -59,20 +60,26 @@ module _ (bodies : List LamBody) (nodes : List Node) where
     pub show : ShowsAllWith bodies nodes (drop (i + 1) ids) others
     pub same : deep_kid limit depth trees ≡ or_else (deep_node limit (kid_depth depth (kind_of tree)) tree) (deep_kid limit depth others)
 
-  pub next_kid : (ids : List NodeId) (i limit depth : ℕ) (id d : NodeId) (trees : Trees) → i < length ids → id ≡ get_or ids i d → Passing ids i limit depth trees → Next ids i limit depth id trees
+  pub next_kid : (ids : List NodeId) (i limit depth : ℕ) (id d : NodeId) (trees : Trees) → i < length ids → id ≡ get_or ids i d
+      → Passing ids i limit depth trees → Next ids i limit depth id trees
   next_kid ids i limit depth id d trees inside at p =
       let f = front_of (drop i ids) (drop (i + 1) ids) id p.rest (first_behind ids i id d inside at) p.shows in
       record { tree = f.first; others = f.others; shows = f.shows; show = f.show; same = p.same ∙ ap (deep_kid limit depth) f.are }
 
-  pub passing_more : (ids : List NodeId) (i limit depth : ℕ) (id : NodeId) (trees : Trees) → ((tree : Tree) → ShowsWith bodies nodes id.0 tree → None ≡ deep_node limit (kid_depth depth (kind_of tree)) tree) → Next ids i limit depth id trees → Passing ids (i + 1) limit depth trees
+  pub passing_more : (ids : List NodeId) (i limit depth : ℕ) (id : NodeId) (trees : Trees)
+      → ((tree : Tree) → ShowsWith bodies nodes id.0 tree → None ≡ deep_node limit (kid_depth depth (kind_of tree)) tree)
+      → Next ids i limit depth id trees → Passing ids (i + 1) limit depth trees
   passing_more ids i limit depth id trees nothing n = record {
     rest = n.others;
     shows = n.show;
     same = n.same ∙ ap (λ (o : Option At). or_else o (deep_kid limit depth n.others)) (sym (nothing n.tree n.shows));
   }
 
-  pub passing_found : (ids : List NodeId) (i limit depth : ℕ) (id : NodeId) (trees : Trees) (position : At) → ((tree : Tree) → ShowsWith bodies nodes id.0 tree → Some position ≡ deep_node limit (kid_depth depth (kind_of tree)) tree) → Next ids i limit depth id trees → Some position ≡ deep_kid limit depth trees
-  passing_found ids i limit depth id trees position found n = sym (n.same ∙ ap (λ (o : Option At). or_else o (deep_kid limit depth n.others)) (sym (found n.tree n.shows)))
+  pub passing_found : (ids : List NodeId) (i limit depth : ℕ) (id : NodeId) (trees : Trees) (position : At)
+      → ((tree : Tree) → ShowsWith bodies nodes id.0 tree → Some position ≡ deep_node limit (kid_depth depth (kind_of tree)) tree)
+      → Next ids i limit depth id trees → Some position ≡ deep_kid limit depth trees
+  passing_found ids i limit depth id trees position found n =
+      sym (n.same ∙ ap (λ (o : Option At). or_else o (deep_kid limit depth n.others)) (sym (found n.tree n.shows)))
 
   drop-past : (i : ℕ) (ids : List NodeId) → length ids ≤ i → drop i ids ≡ []
   drop-past zero [] h = refl
@@ -80,7 +87,8 @@ module _ (bodies : List LamBody) (nodes : List Node) where
   drop-past (suc i) [] h = refl
   drop-past (suc i) (id ∷ ids) h = drop-past i ids (omega (arith, h))
 
-  pub passing_all : (ids : List NodeId) (i limit depth : ℕ) (trees : Trees) → length ids ≤ i → Passing ids i limit depth trees → None ≡ deep_kid limit depth trees
+  pub passing_all : (ids : List NodeId) (i limit depth : ℕ) (trees : Trees) → length ids ≤ i → Passing ids i limit depth trees
+      → None ≡ deep_kid limit depth trees
   passing_all ids i limit depth trees past p = sym (p.same ∙ ap (deep_kid limit depth) (none_of (drop i ids) p.rest (drop-past i ids past) p.shows))
 
   -- trees of ids in two parts
@@ -112,14 +120,16 @@ module _ (bodies : List LamBody) (nodes : List Node) where
     pub show_kids : ShowsAllWith bodies nodes found.kids.items kids
     pub show_last : ShowsAllWith bodies nodes body last
 
-  pub parts_of : (id : ℕ) (found : Node) (body : List NodeId) (tree : Tree) → slice_get nodes id ≡ Some found → ((kids : List NodeId) → kids_with kids bodies id ≡ kids ++ body) → ShowsWith bodies nodes id tree → Parts found body tree
+  pub parts_of : (id : ℕ) (found : Node) (body : List NodeId) (tree : Tree) → slice_get nodes id ≡ Some found
+      → ((kids : List NodeId) → kids_with kids bodies id ≡ kids ++ body) → ShowsWith bodies nodes id tree → Parts found body tree
   parts_of id found body (node k at token kids) stands noted s =
       let there : slice_get nodes id ≡ Some (s.0).found = (s.0).stands in
       let same : (s.0).found ≡ found = cc in
       let kind_is : k ≡ found.kind = sym (s.0).kind_is ∙ ap (λ (n : Node). n.kind) same in
       let at_is : at ≡ found.at = sym (s.0).at_is ∙ ap (λ (n : Node). n.at) same in
       let token_is : token ≡ found.token = sym (s.0).token_is ∙ ap (λ (n : Node). n.token) same in
-      let shown : ShowsAllWith bodies nodes (kids_with found.kids.items bodies id) kids = subst (λ (n : Node). ShowsAllWith bodies nodes (kids_with n.kids.items bodies id) kids) same s.1 in
+      let shown : ShowsAllWith bodies nodes (kids_with found.kids.items bodies id) kids = subst
+      (λ (n : Node). ShowsAllWith bodies nodes (kids_with n.kids.items bodies id) kids) same s.1 in
       let h = halves_of found.kids.items body kids (subst (λ (is : List NodeId). ShowsAllWith bodies nodes is kids) (noted found.kids.items) shown) in
       record {
         kids = h.left;
@@ -142,10 +152,12 @@ deep_join limit depth (more t ts) us =
 abbrev by_test : Bool → At → Option At → Option At
 by_test b at o = if b then Some at else o
 
-pub at_depth : (limit depth : ℕ) (kind : NodeKind) (at : At) (token : Option ℕ) (kids : Trees) → limit < depth → deep_node limit depth (node kind at token kids) ≡ Some at
+pub at_depth : (limit depth : ℕ) (kind : NodeKind) (at : At) (token : Option ℕ) (kids : Trees) → limit < depth
+    → deep_node limit depth (node kind at token kids) ≡ Some at
 at_depth limit depth kind at token kids h = ap (λ (b : Bool). by_test b at (deep_kid limit depth kids)) (lt-ltb limit depth h)
 
-pub below_depth : (limit depth : ℕ) (kind : NodeKind) (at : At) (token : Option ℕ) (kids : Trees) → depth ≤ limit → deep_node limit depth (node kind at token kids) ≡ deep_kid limit depth kids
+pub below_depth : (limit depth : ℕ) (kind : NodeKind) (at : At) (token : Option ℕ) (kids : Trees) → depth ≤ limit
+    → deep_node limit depth (node kind at token kids) ≡ deep_kid limit depth kids
 below_depth limit depth kind at token kids h = ap (λ (b : Bool). by_test b at (deep_kid limit depth kids)) (le-ltb limit depth h)
 
 or_none : (o : Option At) → or_else o None ≡ o
@@ -153,7 +165,8 @@ or_none None = refl
 or_none (Some at) = refl
 
 -- A node in one of a depth, of which the kids and the noted body are known.
-module _ (bodies : List LamBody) (nodes : List Node) (holder limit : ℕ) (found : Node) (body : List NodeId) (tree : Tree) (p : Parts bodies nodes found body tree) where
+module _ (bodies : List LamBody) (nodes : List Node) (holder limit : ℕ) (found : Node) (body : List NodeId) (tree : Tree)
+    (p : Parts bodies nodes found body tree) where
   same_depth : kid_depth holder (kind_of tree) ≡ kid_depth holder found.kind
   same_depth = ap (λ (t : Tree). kid_depth holder (kind_of t)) p.is
 
@@ -171,16 +184,23 @@ module _ (bodies : List LamBody) (nodes : List Node) (holder limit : ℕ) (found
         ∙ below_depth limit depth found.kind found.at found.token (join p.kids p.last) low
         ∙ deep_join limit depth p.kids p.last
 
-    pub found_in_kids : (position : At) → ((trees : Trees) → ShowsAllWith bodies nodes found.kids.items trees → Some position ≡ deep_kid limit depth trees) → Some position ≡ deep_node limit (kid_depth holder (kind_of tree)) tree
+    pub found_in_kids : (position : At)
+        → ((trees : Trees) → ShowsAllWith bodies nodes found.kids.items trees → Some position ≡ deep_kid limit depth trees)
+        → Some position ≡ deep_node limit (kid_depth holder (kind_of tree)) tree
     found_in_kids position h = sym (by_parts ∙ ap (λ (o : Option At). or_else o (deep_kid limit depth p.last)) (sym (h p.kids p.show_kids)))
 
-    past_kids : ((trees : Trees) → ShowsAllWith bodies nodes found.kids.items trees → None ≡ deep_kid limit depth trees) → deep_node limit (kid_depth holder (kind_of tree)) tree ≡ deep_kid limit depth p.last
+    past_kids : ((trees : Trees) → ShowsAllWith bodies nodes found.kids.items trees → None ≡ deep_kid limit depth trees)
+        → deep_node limit (kid_depth holder (kind_of tree)) tree ≡ deep_kid limit depth p.last
     past_kids h = by_parts ∙ ap (λ (o : Option At). or_else o (deep_kid limit depth p.last)) (sym (h p.kids p.show_kids))
 
-    pub past_both : ((trees : Trees) → ShowsAllWith bodies nodes found.kids.items trees → None ≡ deep_kid limit depth trees) → body ≡ [] → None ≡ deep_node limit (kid_depth holder (kind_of tree)) tree
+    pub past_both : ((trees : Trees) → ShowsAllWith bodies nodes found.kids.items trees → None ≡ deep_kid limit depth trees) → body ≡ []
+        → None ≡ deep_node limit (kid_depth holder (kind_of tree)) tree
     past_both h e = sym (past_kids h ∙ ap (deep_kid limit depth) (none_of bodies nodes body p.last e p.show_last))
 
-    pub found_in_body : ((trees : Trees) → ShowsAllWith bodies nodes found.kids.items trees → None ≡ deep_kid limit depth trees) → (id : NodeId) (position : Option At) → body ≡ id ∷ [] → ((t : Tree) → ShowsWith bodies nodes id.0 t → position ≡ deep_node limit (kid_depth depth (kind_of t)) t) → position ≡ deep_node limit (kid_depth holder (kind_of tree)) tree
+    pub found_in_body : ((trees : Trees) → ShowsAllWith bodies nodes found.kids.items trees → None ≡ deep_kid limit depth trees)
+        → (id : NodeId) (position : Option At) → body ≡ id ∷ []
+        → ((t : Tree) → ShowsWith bodies nodes id.0 t → position ≡ deep_node limit (kid_depth depth (kind_of t)) t)
+        → position ≡ deep_node limit (kid_depth holder (kind_of tree)) tree
     found_in_body h id position e g =
         let f = front_of bodies nodes body [] id p.last e p.show_last in
         let rest : f.others ≡ none = none_of bodies nodes [] f.others refl f.show in

@@ -36,13 +36,17 @@ more_apart unnamed e = absurd (true≢false e)
 more_apart either e = absurd (true≢false e)
 
 -- A declarator and what initialises it. The name that the declarator declares is marked.
-pub initialised : {s : Source} (n : Naming) {a m b : ℕ} {k : Option ℕ} {u v w : BuilderState} → need_not_name n ≡ false → (x : ReadsLongest s (form (declarator whole n)) a m None u v) → ReadsLongest s (optional initializers) m b None v w → k ≡ token_of_name (declared_in (x.got).trees) → ReadsLongest s (form (declarator whole n) · mark_name · optional initializers) a b k u w
+pub initialised : {s : Source} (n : Naming) {a m b : ℕ} {k : Option ℕ} {u v w : BuilderState} → need_not_name n ≡ false
+    → (x : ReadsLongest s (form (declarator whole n)) a m None u v) → ReadsLongest s (optional initializers) m b None v w
+    → k ≡ token_of_name (declared_in (x.got).trees) → ReadsLongest s (form (declarator whole n) · mark_name · optional initializers) a b k u w
 initialised {s = s} n {a = a} {b = b} {k = k} {u = u} e x y f =
     let token : Option ℕ = token_of_name (declared_in (x.got).trees) in
     let z = seq x.long (seq mark_name_long (free_long refl y.long x.got) refl) (named_apart n e) in
     record {
       got = and_then x.got y.got;
-      long = subst (λ (l : Option ℕ). LongestMatch (lookahead s) kept_apart s (form (declarator whole n) · mark_name · optional initializers) no_read a b l (and_then x.got y.got)) (first_or_none token ∙ back f) z;
+      long =
+          subst (λ (l : Option ℕ). LongestMatch (lookahead s) kept_apart s (form (declarator whole n) · mark_name · optional initializers) no_read a
+          b l (and_then x.got y.got)) (first_or_none token ∙ back f) z;
       gained = gained_then u x.got y.got x.gained y.gained;
       ahead = let h = x.ahead in let i = y.ahead in omega (arith, h, i);
       inside = y.inside;

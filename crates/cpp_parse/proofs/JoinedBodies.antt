@@ -1,5 +1,6 @@
 -- What is known of bodies that were read one behind the other, and of one with those in it.
-use Rattle.std.proofs.Common.{◌≡◌, ℕ, ◌+◌, ◌≤◌, nat_eq, Bool, true, false, if◌then◌else◌, cond, List, [], ◌∷◌, ◌++◌, length, drop, slice_get, Option, Some, refl, sym, ◌∙◌, ap, ap₂, subst, arith, append_assoc, length-append}
+use Rattle.std.proofs.Common.{◌≡◌, ℕ, ◌+◌, ◌≤◌, nat_eq, Bool, true, false, if◌then◌else◌, cond, List, [], ◌∷◌, ◌++◌, length, drop, slice_get, Option}
+use Rattle.std.proofs.Common.{Some, refl, sym, ◌∙◌, ap, ap₂, subst, arith, append_assoc, length-append}
 use Rattle.std.proofs.lemmas.List.{map-append}
 use Rattle.std.proofs.Math.Seq.{drop-append_seam, drop-length}
 use Rattle.std.proofs.lemmas.List.Sums.{sum_by-cons, sum_by-append}
@@ -35,7 +36,8 @@ grown_long old new x =
     let both = length-append old x.extra in
     omega (arith, long, both)
 
-pub held_both : (id : ℕ) (old mid new : List Node) → Extends old mid → Extends mid new → times_a_kid id (drop (length old) new) ≡ times_a_kid id (drop (length old) mid) + times_a_kid id (drop (length mid) new)
+pub held_both : (id : ℕ) (old mid new : List Node) → Extends old mid → Extends mid new
+    → times_a_kid id (drop (length old) new) ≡ times_a_kid id (drop (length old) mid) + times_a_kid id (drop (length mid) new)
 held_both id old mid new x y =
     let f : Node → ℕ = λ (n : Node). times_in id n.kids.items in
     ap (λ (ns : List Node). times_a_kid id ns) (behind_both old mid new x y)
@@ -49,8 +51,10 @@ split_by : (own : Bool) (whole front back : ℕ) → whole ≡ front + back → 
 split_by true whole front back e = e
 split_by false whole front back e = refl
 
-pub lambda_split : (nodes : List Node) (from mid to id : ℕ) → from ≤ mid → mid ≤ to → one_lambda nodes from to id ≡ one_lambda nodes from mid id + one_lambda nodes mid to id
-lambda_split nodes from mid to id h k = split_by (is_lambda_at nodes id) (one_from from to id) (one_from from mid id) (one_from mid to id) (one_split from mid to id h k)
+pub lambda_split : (nodes : List Node) (from mid to id : ℕ) → from ≤ mid → mid ≤ to
+    → one_lambda nodes from to id ≡ one_lambda nodes from mid id + one_lambda nodes mid to id
+lambda_split nodes from mid to id h k =
+    split_by (is_lambda_at nodes id) (one_from from to id) (one_from from mid id) (one_from mid to id) (one_split from mid to id h k)
 
 -- Bodies among others.
 
@@ -62,7 +66,8 @@ among_right : {b : LamBody} (xs : List LamBody) {ys : List LamBody} → Among b 
 among_right [] a = a
 among_right (x ∷ xs) a = later x refl (among_right xs a)
 
-shown_both : (noted : List LamBody) (nodes : List Node) (ls ms : List ℕ) (fs gs : List Tree) → BodiesShow noted nodes ls fs → BodiesShow noted nodes ms gs → BodiesShow noted nodes (ls ++ ms) (fs ++ gs)
+shown_both : (noted : List LamBody) (nodes : List Node) (ls ms : List ℕ) (fs gs : List Tree) → BodiesShow noted nodes ls fs
+    → BodiesShow noted nodes ms gs → BodiesShow noted nodes (ls ++ ms) (fs ++ gs)
 shown_both noted nodes [] ms [] gs p q = q
 shown_both noted nodes [] ms (f ∷ fs) gs p q = absurd p
 shown_both noted nodes (l ∷ ls) ms [] gs p q = absurd p
@@ -77,7 +82,9 @@ none_in old all = record {
   show = λ noted are sub. tt;
 }
 
-pub both_in : (bs cs : List OpenBody) (old mid new : List Node) (added others : List LamBody) (fs gs : List Tree) (all : List Node) → Extends old mid → Extends mid new → BodiesIn bs old mid added fs all → BodiesIn cs mid new others gs all → BodiesIn (bs ++ cs) old new (added ++ others) (fs ++ gs) all
+pub both_in : (bs cs : List OpenBody) (old mid new : List Node) (added others : List LamBody) (fs gs : List Tree) (all : List Node) → Extends old mid
+    → Extends mid new → BodiesIn bs old mid added fs all → BodiesIn cs mid new others gs all
+    → BodiesIn (bs ++ cs) old new (added ++ others) (fs ++ gs) all
 both_in bs cs old mid new added others fs gs all x y p q =
     let low = grown_long old mid x in
     let high = grown_long mid new y in
@@ -86,17 +93,25 @@ both_in bs cs old mid new added others fs gs all x y p q =
           let front = p.each id in
           let back = q.each id in
           let held = held_both id old mid new x y in
-          let roots : times_in id (roots_noted (added ++ others)) ≡ times_in id (roots_noted added) + times_in id (roots_noted others) = ap (λ (is : List NodeId). times_in id is) (map-append (λ (b : LamBody). b.body) added others) ∙ sum_by-append (one_for id) (roots_noted added) (roots_noted others) in
+          let roots : times_in id (roots_noted (added ++ others)) ≡ times_in id (roots_noted added) + times_in id (roots_noted others) = ap
+          (λ (is : List NodeId). times_in id is) (map-append (λ (b : LamBody). b.body) added others) ∙ sum_by-append (one_for id)
+          (roots_noted added) (roots_noted others) in
           let split = one_split (length old) (length mid) (length new) id low high in
           omega (arith, front, back, held, roots, split);
       lams = λ id.
           let front = p.lams id in
           let back = q.lams id in
-          let noted : times_in id (lams_noted (added ++ others)) ≡ times_in id (lams_noted added) + times_in id (lams_noted others) = ap (λ (is : List NodeId). times_in id is) (map-append (λ (b : LamBody). b.lam) added others) ∙ sum_by-append (one_for id) (lams_noted added) (lams_noted others) in
-          let lams : times id (lams_of (bs ++ cs)) ≡ times id (lams_of bs) + times id (lams_of cs) = ap (λ (is : List ℕ). times id is) (map-append (λ (b : OpenBody). b.lam.0) bs cs) ∙ times-append id (lams_of bs) (lams_of cs) in
+          let noted : times_in id (lams_noted (added ++ others)) ≡ times_in id (lams_noted added) + times_in id (lams_noted others) = ap
+          (λ (is : List NodeId). times_in id is) (map-append (λ (b : LamBody). b.lam) added others) ∙ sum_by-append (one_for id)
+          (lams_noted added) (lams_noted others) in
+          let lams : times id (lams_of (bs ++ cs)) ≡ times id (lams_of bs) + times id (lams_of cs) = ap (λ (is : List ℕ). times id is)
+          (map-append (λ (b : OpenBody). b.lam.0) bs cs) ∙ times-append id (lams_of bs) (lams_of cs) in
           let split = lambda_split all (length old) (length mid) (length new) id low high in
           omega (arith, front, back, noted, lams, split);
-      show = λ noted are sub. subst (λ (ls : List ℕ). BodiesShow noted all ls (fs ++ gs)) (sym (map-append (λ (b : OpenBody). b.lam.0) bs cs)) (shown_both noted all (lams_of bs) (lams_of cs) fs gs (p.show noted are (λ b a. sub b (among_left others a))) (q.show noted are (λ b a. sub b (among_right added a))));
+      show =
+          λ noted are sub. subst (λ (ls : List ℕ). BodiesShow noted all ls (fs ++ gs)) (sym (map-append (λ (b : OpenBody). b.lam.0) bs cs))
+          (shown_both noted all (lams_of bs) (lams_of cs) fs gs (p.show noted are (λ b a. sub b (among_left others a)))
+          (q.show noted are (λ b a. sub b (among_right added a))));
     }
 
 -- A lambda stays one when nodes are added.
@@ -111,7 +126,8 @@ more_lambdas true false n h = absurd (let f : false ≡ true = h refl in cc)
 more_lambdas false now n h = omega arith
 
 pub lambda_grown : (old all : List Node) (from to id : ℕ) → Extends old all → one_lambda old from to id ≤ one_lambda all from to id
-lambda_grown old all from to id x = more_lambdas (is_lambda_at old id) (is_lambda_at all id) (one_from from to id) (λ h. some_lambda old all id (slice_get old id) x refl h)
+lambda_grown old all from to id x =
+    more_lambdas (is_lambda_at old id) (is_lambda_at all id) (one_from from to id) (λ h. some_lambda old all id (slice_get old id) x refl h)
 
 pub lower_before : (old all : List Node) → Extends old all → HoldLower 0 all → HoldLower 0 old
 lower_before old all x h = record { lower = λ id n from e. h.lower id n from (get_grown old all id n x e) }
@@ -120,7 +136,8 @@ lower_from : (base : ℕ) (nodes : List Node) → HoldLower 0 nodes → HoldLowe
 lower_from base nodes h = record { lower = λ id n from e. h.lower id n (omega arith) e }
 
 -- the lambdas of what was read, each once
-pub lambdas_new : (base : ℕ) (nodes all : List Node) (ids : List NodeId) (bodies : List OpenBody) (id : ℕ) → base ≤ length nodes → Extends nodes all → HoldLower 0 all → BuiltTrees base nodes ids bodies → times id (lams_of bodies) ≤ one_lambda all base (length nodes) id
+pub lambdas_new : (base : ℕ) (nodes all : List Node) (ids : List NodeId) (bodies : List OpenBody) (id : ℕ) → base ≤ length nodes → Extends nodes all
+    → HoldLower 0 all → BuiltTrees base nodes ids bodies → times id (lams_of bodies) ≤ one_lambda all base (length nodes) id
 lambdas_new base nodes all ids bodies id within x lower s =
     let once = lambdas_once nodes base id ids bodies within (lower_from base nodes (lower_before nodes all x lower)) s in
     let more = lambda_grown nodes all base (length nodes) id x in
@@ -134,7 +151,11 @@ one_shown noted nodes id t s =
     let same : s.0 ≡ id = cc in
     subst (λ (i : NodeId). ShowsWith noted nodes i.0 t) same s.3
 
-pub body_in : (body : OpenBody) (inner : List OpenBody) (old mid new : List Node) (root : NodeId) (added : List LamBody) (fs : List Tree) (tree : Tree) (all : List Node) → Extends old mid → Extends mid new → Extends new all → HoldLower 0 all → BuiltTrees (length old) mid (root ∷ []) inner → Filled fs (trees_at mid (root ∷ [])) (one_tree tree) → BodiesIn inner mid new added fs all → BodiesIn (body ∷ []) old new (record { lam = body.lam; body = root } ∷ added) (tree ∷ []) all
+pub body_in : (body : OpenBody) (inner : List OpenBody) (old mid new : List Node) (root : NodeId) (added : List LamBody) (fs : List Tree)
+    (tree : Tree) (all : List Node)
+    → Extends old mid → Extends mid new → Extends new all → HoldLower 0 all → BuiltTrees (length old) mid (root ∷ []) inner
+    → Filled fs (trees_at mid (root ∷ [])) (one_tree tree) → BodiesIn inner mid new added fs all
+    → BodiesIn (body ∷ []) old new (record { lam = body.lam; body = root } ∷ added) (tree ∷ []) all
 body_in body inner old mid new root added fs tree all x y z lower s filled q =
     let low = grown_long old mid x in
     let high = grown_long mid new y in
@@ -145,19 +166,22 @@ body_in body inner old mid new root added fs tree all x y z lower s filled q =
           let front = s.apart id in
           let back = q.each id in
           let held = held_both id old mid new x y in
-          let roots : times_in id (roots_noted (here ∷ added)) ≡ one_for id root + times_in id (roots_noted added) = sum_by-cons (one_for id) root (roots_noted added) in
+          let roots : times_in id (roots_noted (here ∷ added)) ≡ one_for id root + times_in id (roots_noted added) = sum_by-cons (one_for id) root
+          (roots_noted added) in
           let one : times_in id (root ∷ []) ≡ one_for id root + 0 = sum_by-cons (one_for id) root [] in
           let split = one_split (length old) (length mid) (length new) id low high in
           omega (arith, front, back, held, roots, one, split);
       lams = λ id.
           let back = q.lams id in
-          let noted : times_in id (lams_noted (here ∷ added)) ≡ one_for id body.lam + times_in id (lams_noted added) = sum_by-cons (one_for id) body.lam (lams_noted added) in
+          let noted : times_in id (lams_noted (here ∷ added)) ≡ one_for id body.lam + times_in id (lams_noted added) = sum_by-cons (one_for id)
+          body.lam (lams_noted added) in
           let one : times id (lams_of (body ∷ [])) ≡ one_for id body.lam + 0 = sum_by-cons (λ (other : ℕ). cond (nat_eq other id) 1 0) body.lam.0 [] in
           let inside = lambdas_new (length old) mid all (root ∷ []) inner id low grown lower s in
           let split = lambda_split all (length old) (length mid) (length new) id low high in
           omega (arith, back, noted, one, inside, split);
       show = λ noted are sub.
           let bodies = q.show noted are (λ b a. sub b (later here refl a)) in
-          let shown = filled_shown all mid noted grown (lower_before mid all grown lower) are (length old) (root ∷ []) inner fs (one_tree tree) s filled bodies in
+          let shown = filled_shown all mid noted grown (lower_before mid all grown lower) are (length old) (root ∷ []) inner fs (one_tree tree) s
+          filled bodies in
           (root, sub here (first refl), one_shown noted all root tree shown, tt);
     }

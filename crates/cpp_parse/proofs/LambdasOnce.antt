@@ -1,5 +1,6 @@
 -- Where each node is held once at most, each lambda below some nodes is met once there, and nothing else is.
-use Rattle.std.proofs.Common.{◌≡◌, ◌⊎◌, ℕ, zero, suc, ◌+◌, ◌-◌, ◌<◌, ◌≤◌, nat_eq, nat_lt, ◌&&◌, Bool, true, false, if◌then◌else◌, cond, List, [], ◌∷◌, ◌++◌, length, take, slice_get, Some, refl, sym, ◌∙◌, ap, arith, inl, inr}
+use Rattle.std.proofs.Common.{◌≡◌, ◌⊎◌, ℕ, zero, suc, ◌+◌, ◌-◌, ◌<◌, ◌≤◌, nat_eq, nat_lt, ◌&&◌, Bool, true, false, if◌then◌else◌, cond, List, [], ◌∷◌}
+use Rattle.std.proofs.Common.{◌++◌, length, take, slice_get, Some, refl, sym, ◌∙◌, ap, arith, inl, inr}
 use Rattle.std.specs.List.{sum_by}
 use Rattle.std.proofs.lemmas.Bool.{cases_eq, cases_lt, true≢false}
 use Rattle.std.proofs.lemmas.List.{take_all}
@@ -71,7 +72,8 @@ none_below position j ids below le = none_at position j ids below le (times_in j
       where
         lower : (position j : ℕ) (front back : List NodeId) → are_below position (front ++ record { 0 = j } ∷ back) ≡ true → position ≤ j → ⊥
         lower position j [] back below le = let less = below_at position (record { 0 = j } ∷ back) 0 (record { 0 = j }) below refl in omega (arith, less, le)
-        lower position j (id ∷ front) back below le = lower position j front back (and_rest (nat_lt id.0 position) (are_below position (front ++ record { 0 = j } ∷ back)) below) le
+        lower position j (id ∷ front) back below le =
+            lower position j front back (and_rest (nat_lt id.0 position) (are_below position (front ++ record { 0 = j } ∷ back)) below) le
           where
             and_rest : (a b : Bool) → a && b ≡ true → b ≡ true
             and_rest true b e = e
@@ -90,7 +92,8 @@ node_there (n ∷ ns) (suc i) h = let rest = node_there ns i (omega (arith, h)) 
 abbrev held_before : List Node → ℕ → ℕ → ℕ
 held_before nodes m j = times_a_kid j (take m nodes)
 
-held_more : (nodes : List Node) (i m j : ℕ) (n : Node) → m ≡ i + 1 → i < length nodes → slice_get nodes i ≡ Some n → held_before nodes m j ≡ held_before nodes i j + times_in j n.kids.items
+held_more : (nodes : List Node) (i m j : ℕ) (n : Node) → m ≡ i + 1 → i < length nodes → slice_get nodes i ≡ Some n
+    → held_before nodes m j ≡ held_before nodes i j + times_in j n.kids.items
 held_more nodes i m j n e inside stands =
     ap (λ (z : ℕ). held_before nodes z j) e
     ∙ sum_by_more (λ (node : Node). times_in j node.kids.items) nodes i n inside
@@ -108,7 +111,8 @@ own_times : (own : Bool) (i k : ℕ) → times k (if own then i ∷ [] else []) 
 own_times true i k = omega arith
 own_times false i k = refl
 
-by_node : (own there : Bool) (was one now : ℕ) → now ≡ was + one → (one ≡ 0) ⊎ (own ≡ there) → (if there then was else 0) + (if own then one else 0) ≤ (if there then now else 0)
+by_node : (own there : Bool) (was one now : ℕ) → now ≡ was + one → (one ≡ 0) ⊎ (own ≡ there)
+    → (if there then was else 0) + (if own then one else 0) ≤ (if there then now else 0)
 by_node true true was one now e h = omega (arith, e)
 by_node false false was one now e h = omega arith
 by_node false true was one now e h = omega (arith, e)
@@ -118,18 +122,21 @@ by_node true false was one now e (inr f) = absurd (true≢false f)
 pub one_other : (i j : ℕ) → (i ≡ j → ⊥) → one_for j (record { 0 = i }) ≡ 0
 one_other i j other = grind (arith, other)
 
-own_here : (nodes : List Node) (i k : ℕ) (n : Node) → slice_get nodes i ≡ Some n → (one_for k (record { 0 = i }) ≡ 0) ⊎ (is_lambda n.kind ≡ is_lambda_at nodes k)
+own_here : (nodes : List Node) (i k : ℕ) (n : Node) → slice_get nodes i ≡ Some n
+    → (one_for k (record { 0 = i }) ≡ 0) ⊎ (is_lambda n.kind ≡ is_lambda_at nodes k)
 own_here nodes i k n stands = elim (cases_eq i k) [
   | inl same ↦ inr (sym (ap (λ (z : ℕ). is_lambda_at nodes z) (sym same) ∙ ap is_lambda_node stands))
   | inr other ↦ inl (one_other i k other)
 ]
 
 -- the lambda at an index, beside those before it
-own_bound : (nodes : List Node) (base i m k : ℕ) (n : Node) → base ≤ i → m ≡ i + 1 → slice_get nodes i ≡ Some n → one_lambda nodes base i k + times k (own_lambda n.kind i) ≤ one_lambda nodes base m k
+own_bound : (nodes : List Node) (base i m k : ℕ) (n : Node) → base ≤ i → m ≡ i + 1 → slice_get nodes i ≡ Some n
+    → one_lambda nodes base i k + times k (own_lambda n.kind i) ≤ one_lambda nodes base m k
 own_bound nodes base i m k n from e stands =
     let more = one_more base i m k from e in
     let own = own_times (is_lambda n.kind) i k in
-    let whole = by_node (is_lambda n.kind) (is_lambda_at nodes k) (one_from base i k) (cond (nat_eq i k) 1 0) (one_from base m k) more (own_here nodes i k n stands) in
+    let whole = by_node (is_lambda n.kind) (is_lambda_at nodes k) (one_from base i k) (cond (nat_eq i k) 1 0) (one_from base m k) more
+    (own_here nodes i k n stands) in
     omega (arith, own, whole)
 
 no_less : (there : Bool) (was now : ℕ) → was ≤ now → (if there then was else 0) ≤ (if there then now else 0)
@@ -159,13 +166,15 @@ module _ (nodes : List Node) (base k : ℕ) (lower : HoldLower base nodes) where
     apart : AreApart i left
     bound : sum_by (weight nodes k) left ≤ one_lambda nodes base i k → sum_by (weight nodes k) ids ≤ one_lambda nodes base m k
 
-  own_weight : (i : ℕ) (n : Node) → base ≤ i → slice_get nodes i ≡ Some n → times k (lambdas_of nodes i) ≡ sum_by (weight nodes k) n.kids.items + times k (own_lambda n.kind i)
+  own_weight : (i : ℕ) (n : Node) → base ≤ i → slice_get nodes i ≡ Some n
+      → times k (lambdas_of nodes i) ≡ sum_by (weight nodes k) n.kids.items + times k (own_lambda n.kind i)
   own_weight i n from stands =
       ap (λ (ids : List ℕ). times k ids) (lambdas_are nodes i n stands (lower.lower i n from stands))
       ∙ times-append k (lambdas_at nodes n.kids.items) (own_lambda n.kind i)
       ∙ ap (λ (z : ℕ). z + times k (own_lambda n.kind i)) (times_below nodes k n.kids.items)
 
-  before_some : (i m : ℕ) (n : Node) (ids : List NodeId) → base ≤ i → m ≡ i + 1 → i < length nodes → slice_get nodes i ≡ Some n → AreApart m ids → SplitAt i ids → Before i m ids
+  before_some : (i m : ℕ) (n : Node) (ids : List NodeId) → base ≤ i → m ≡ i + 1 → i < length nodes → slice_get nodes i ≡ Some n → AreApart m ids
+      → SplitAt i ids → Before i m ids
   before_some i m n ids from next inside stands h s =
       let here : NodeId = record { 0 = i } in
       let parts : (f : NodeId → ℕ) → sum_by f ids ≡ sum_by f s.front + (f here + sum_by f s.back) = λ f.
@@ -189,7 +198,8 @@ module _ (nodes : List Node) (base k : ℕ) (lower : HoldLower base nodes) where
             omega (arith, b, was, now, own, one);
       }
 
-  before_none : (i m : ℕ) (n : Node) (ids : List NodeId) → base ≤ i → m ≡ i + 1 → i < length nodes → slice_get nodes i ≡ Some n → AreApart m ids → times_in i ids ≡ 0 → held_before nodes i i ≡ held_before nodes base i → Before i m ids
+  before_none : (i m : ℕ) (n : Node) (ids : List NodeId) → base ≤ i → m ≡ i + 1 → i < length nodes → slice_get nodes i ≡ Some n → AreApart m ids
+      → times_in i ids ≡ 0 → held_before nodes i i ≡ held_before nodes base i → Before i m ids
   before_none i m n ids from next inside stands h none lowest = record {
     left = ids;
     apart = λ j.
@@ -232,12 +242,14 @@ module _ (nodes : List Node) (base k : ℕ) (lower : HoldLower base nodes) where
       s.bound (once_to d i refl (omega (arith, within)) s.left s.apart)
 
 -- Each lambda in trees that are shown is met once, and each of the lambdas is one.
-pub lambdas_once : (nodes : List Node) (base k : ℕ) (ids : List NodeId) (bodies : List OpenBody) → base ≤ length nodes → HoldLower base nodes → BuiltTrees base nodes ids bodies → times k (lams_of bodies) ≤ one_lambda nodes base (length nodes) k
+pub lambdas_once : (nodes : List Node) (base k : ℕ) (ids : List NodeId) (bodies : List OpenBody) → base ≤ length nodes → HoldLower base nodes
+    → BuiltTrees base nodes ids bodies → times k (lams_of bodies) ≤ one_lambda nodes base (length nodes) k
 lambdas_once nodes base k ids bodies within lower s =
     let here : times k (lams_of bodies) ≡ sum_by (weight nodes k) ids = ap (λ (z : List ℕ). times k z) s.lambdas ∙ times_below nodes k ids in
     let most = once_to nodes base k lower (length nodes - base) (length nodes) (omega (arith, within)) (omega arith) ids (λ j.
     let apart = s.apart j in
-    let whole : held_before nodes (length nodes) j ≡ times_a_kid j nodes = ap (λ (ns : List Node). times_a_kid j ns) (take_all (length nodes) nodes (omega arith)) in
+    let whole : held_before nodes (length nodes) j ≡ times_a_kid j nodes = ap (λ (ns : List Node). times_a_kid j ns)
+    (take_all (length nodes) nodes (omega arith)) in
     let parts = sum_by-take-drop (λ (node : Node). times_in j node.kids.items) nodes base in
     omega (arith, apart, whole, parts)) in
     omega (arith, here, most)

@@ -15,17 +15,22 @@ use Rattle.cpp_parse.specs.Alternatives.{optional_attribute}
 use Rattle.cpp_parse.specs.Answers.{Reaches, IsAttribute}
 
 -- an attribute, token by token
-pub attribute_there : (s : Source) (a : ℕ) → open_bracket (terminal_at s a) ≡ true → open_bracket (terminal_at s (a + 1)) ≡ true → optimize_word (terminal_at s (a + 1 + 1)) ≡ true → close_bracket (terminal_at s (a + 1 + 1 + 1)) ≡ true → close_bracket (terminal_at s (a + 1 + 1 + 1 + 1)) ≡ true → a + 1 + 1 + 1 + 1 < length s.terminals → IsAttribute s a (a + 1 + 1 + 1 + 1 + 1)
+pub attribute_there : (s : Source) (a : ℕ) → open_bracket (terminal_at s a) ≡ true → open_bracket (terminal_at s (a + 1)) ≡ true
+    → optimize_word (terminal_at s (a + 1 + 1)) ≡ true → close_bracket (terminal_at s (a + 1 + 1 + 1)) ≡ true
+    → close_bracket (terminal_at s (a + 1 + 1 + 1 + 1)) ≡ true → a + 1 + 1 + 1 + 1 < length s.terminals → IsAttribute s a (a + 1 + 1 + 1 + 1 + 1)
 attribute_there s a t u v w x i =
     let e : a + 1 + 1 ≡ a + 2 = omega arith in
     record {
-      long = subst (λ (n : ℕ). LongestMatch (lookahead s) kept_apart s attribute no_read a (a + 1 + 1 + 1 + 1 + 1) None (reads_node Attribute (position_at s a) (Some n) no_read)) e
+      long =
+          subst (λ (n : ℕ). LongestMatch (lookahead s) kept_apart s attribute no_read a (a + 1 + 1 + 1 + 1 + 1) None
+          (reads_node Attribute (position_at s a) (Some n) no_read)) e
           (node_long (seq (word_long t) (seq (word_long u) (seq (mark_long v) (seq (word_long w) (word_long x) refl) refl) refl) refl));
       end = omega arith;
       inside = omega (arith, i);
     }
 
-pub attribute_read : {s : Source} {a b : ℕ} {v w : BuilderState} (x : IsAttribute s a b) → w ≡ appended v (reads_node Attribute (position_at s a) (Some (a + 2)) no_read) → ReadsLongest s attribute a b None v w
+pub attribute_read : {s : Source} {a b : ℕ} {v w : BuilderState} (x : IsAttribute s a b)
+    → w ≡ appended v (reads_node Attribute (position_at s a) (Some (a + 2)) no_read) → ReadsLongest s attribute a b None v w
 attribute_read x e = record { got = _; long = x.long; gained = e; ahead = let i = x.end in omega (arith, i); inside = x.inside }
 
 pub attribute_taken : {s : Source} {a b : ℕ} → IsAttribute s a b → Reaches s optional_attribute a b

@@ -4,14 +4,18 @@ use Rattle.std.specs.declared.alloc.AllocError.{AllocError}
 use Rattle.cpp_ast.specs.declared.kinds.NodeKind.TheVariants.{Attribute}
 use Rattle.cpp_syntax.specs.Source.{Source, position_at, terminal_at}
 use Rattle.cpp_syntax.specs.Terminals.{is_type_name, is_string, extern_word, colon_colon, close_paren}
-use Rattle.cpp_syntax.specs.Rules.{Rule, ◌·◌, ◌∣◌, word, mark, form, constructor_declarator, destructor_declarator, qualified, whole, parameter_declaration_clause, function_qualifiers}
+use Rattle.cpp_syntax.specs.Rules.{Rule, ◌·◌, ◌∣◌, word, mark, form, constructor_declarator, destructor_declarator, qualified, whole}
+use Rattle.cpp_syntax.specs.Rules.{parameter_declaration_clause, function_qualifiers}
 use Rattle.cpp_syntax.specs.Grammar.{attribute}
 use Rattle.cpp_syntax.specs.Derivations.{Read, no_read, reads_node, kept_apart}
 use Rattle.cpp_syntax.specs.Lookahead.{lookahead}
 use Rattle.cpp_syntax.specs.Longest.{LongestMatch}
 use Rattle.cpp_syntax.specs.View.{BuilderState}
 use Rattle.cpp_syntax.specs.Parsed.{Leaves, NoneOf}
-use Rattle.cpp_parse.specs.Alternatives.{object_declaration, function_definition, constructor_definition, destructor_definition, single, initialized, listed, with_function_body, named_declarator, single_declaration, initialized_declaration, listed_declaration, member_function, constructor_declared, constructor_defined, destructor_declared, destructor_defined}
+use Rattle.cpp_parse.specs.Alternatives.{object_declaration, function_definition, constructor_definition, destructor_definition, single, initialized}
+use Rattle.cpp_parse.specs.Alternatives.{listed, with_function_body, named_declarator, single_declaration, initialized_declaration}
+use Rattle.cpp_parse.specs.Alternatives.{listed_declaration, member_function, constructor_declared, constructor_defined, destructor_declared}
+use Rattle.cpp_parse.specs.Alternatives.{destructor_defined}
 use Rattle.cpp_parse.specs.declared.functions.Definition.{Definition}
 use Rattle.cpp_parse.specs.declared.functions.Definition.TheVariants as definition
 use Rattle.cpp_parse.specs.declared.members.MemberShape.{MemberShape}
@@ -26,7 +30,8 @@ pub record Reaches (source : Source) (p : Rule) (from next : ℕ) : Type 0 where
 
 -- An attribute stands between two indices.
 pub record IsAttribute (source : Source) (at next : ℕ) : Type 0 where
-  pub long : LongestMatch (lookahead source) kept_apart source attribute no_read at next None (reads_node Attribute (position_at source at) (Some (at + 2)) no_read)
+  pub long : LongestMatch (lookahead source) kept_apart source attribute no_read at next None
+      (reads_node Attribute (position_at source at) (Some (at + 2)) no_read)
   pub end : next ≡ at + 5
   pub inside : next ≤ length source.terminals
 
@@ -38,15 +43,22 @@ AttributeFound source at None = NoneOf source attribute at
 -- What a declarator at an index can be, behind what may stand before it: that of no constructor and no destructor, or
 -- that of one, since T:: stands there.
 abbrev pub NamedDefinition : Source → ℕ → Definition → Type 0
-NamedDefinition source at definition.Ordinary = NoneOf source (form (constructor_declarator qualified)) at × NoneOf source (form (destructor_declarator qualified)) at
-NamedDefinition source at definition.OfConstructor = (is_type_name (terminal_at source at) ≡ true) × (colon_colon (terminal_at source (at + 1)) ≡ true) × NoneOf source (form (destructor_declarator qualified)) at
-NamedDefinition source at definition.OfDestructor = (is_type_name (terminal_at source at) ≡ true) × (colon_colon (terminal_at source (at + 1)) ≡ true) × NoneOf source (form (constructor_declarator qualified)) at
+NamedDefinition source at definition.Ordinary =
+    NoneOf source (form (constructor_declarator qualified)) at × NoneOf source (form (destructor_declarator qualified)) at
+NamedDefinition source at definition.OfConstructor =
+    (is_type_name (terminal_at source at) ≡ true) × (colon_colon (terminal_at source (at + 1)) ≡ true) × NoneOf source
+    (form (destructor_declarator qualified)) at
+NamedDefinition source at definition.OfDestructor =
+    (is_type_name (terminal_at source at) ≡ true) × (colon_colon (terminal_at source (at + 1)) ≡ true) × NoneOf source
+    (form (constructor_declarator qualified)) at
 
 -- What a simple declaration at an index can be, since it is none of the others.
 abbrev pub OneDefinition : Source → ℕ → Definition → Type 0
 OneDefinition source at definition.Ordinary = NoneOf source constructor_definition at × NoneOf source destructor_definition at
-OneDefinition source at definition.OfConstructor = NoneOf source object_declaration at × NoneOf source function_definition at × NoneOf source destructor_definition at
-OneDefinition source at definition.OfDestructor = NoneOf source object_declaration at × NoneOf source function_definition at × NoneOf source constructor_definition at
+OneDefinition source at definition.OfConstructor =
+    NoneOf source object_declaration at × NoneOf source function_definition at × NoneOf source destructor_definition at
+OneDefinition source at definition.OfDestructor =
+    NoneOf source object_declaration at × NoneOf source function_definition at × NoneOf source constructor_definition at
 
 -- What a member can be whose type stands at an index, since it is none of the others.
 abbrev pub OneShape : Source → ℕ → MemberShape → Type 0
@@ -77,5 +89,7 @@ IsConstructor source at false = NoneOf source (constructor_declared ∣ construc
 -- Whether a member at an index begins with no type and is no constructor, since it can be a destructor, or whether it can
 -- be none.
 abbrev pub IsDestructor : Source → ℕ → Bool → Type 0
-IsDestructor source at true = NoneOf source (single_declaration ∣ initialized_declaration ∣ listed_declaration ∣ member_function ∣ constructor_declared ∣ constructor_defined) at
+IsDestructor source at true =
+    NoneOf source (single_declaration ∣ initialized_declaration ∣ listed_declaration ∣ member_function ∣ constructor_declared ∣ constructor_defined)
+    at
 IsDestructor source at false = NoneOf source (destructor_declared ∣ destructor_defined) at

@@ -52,7 +52,8 @@ ReadsBlock source body old new (Err e) = Unit {0}
 pub record BodiesIn (bodies : List OpenBody) (old new : List Node) (added : List LamBody) (trees : List Tree) (all : List Node) : Type 0 where
   pub each : (id : ℕ) → times_a_kid id (drop (length old) new) + times_in id (roots_noted added) ≤ one_from (length old) (length new) id
   pub lams : (id : ℕ) → times_in id (lams_noted added) ≤ times id (lams_of bodies) + one_lambda all (length old) (length new) id
-  pub show : (noted : List LamBody) → AreNoted all noted → ((body : LamBody) → Among body added → Among body noted) → BodiesShow noted all (lams_of bodies) trees
+  pub show : (noted : List LamBody) → AreNoted all noted → ((body : LamBody) → Among body added → Among body noted)
+      → BodiesShow noted all (lams_of bodies) trees
 
 -- Bodies were read, with those in them, and were noted.
 pub record AreRead (source : Source) (bodies : List OpenBody) (old new : List Node) (before now : List LamBody) : Type 0 where

@@ -1,5 +1,6 @@
 -- Bodies that are noted for lambdas.
-use Rattle.std.specs.Prelude.{◌≡◌, ℕ, ◌<◌, ◌≤◌, nat_eq, nat_le, nat_lt, ◌&&◌, Bool, false, if◌then◌else◌, List, [], ◌∷◌, ◌++◌, map, count_by, slice_get, Option, Some, None}
+use Rattle.std.specs.Prelude.{◌≡◌, ℕ, ◌<◌, ◌≤◌, nat_eq, nat_le, nat_lt, ◌&&◌, Bool, false, if◌then◌else◌, List, [], ◌∷◌, ◌++◌, map, count_by}
+use Rattle.std.specs.Prelude.{slice_get, Option, Some, None}
 use Rattle.cpp_ast.specs.declared.arena.Node.{Node}
 use Rattle.cpp_ast.specs.declared.arena.NodeId.{NodeId}
 use Rattle.cpp_ast.specs.declared.units.LamBody.{LamBody}
@@ -50,7 +51,8 @@ abbrev pub BodiesShow : List LamBody → List Node → List ℕ → List Tree �
 BodiesShow bodies nodes [] [] = Unit {0}
 BodiesShow bodies nodes [] (tree ∷ trees) = ⊥
 BodiesShow bodies nodes (lam ∷ lams) [] = ⊥
-BodiesShow bodies nodes (lam ∷ lams) (tree ∷ trees) = (root : NodeId) × Among (noted_for lam root) bodies × ShowsWith bodies nodes root.0 tree × BodiesShow bodies nodes lams trees
+BodiesShow bodies nodes (lam ∷ lams) (tree ∷ trees) =
+    (root : NodeId) × Among (noted_for lam root) bodies × ShowsWith bodies nodes root.0 tree × BodiesShow bodies nodes lams trees
 
 -- The table of bodies by nodes.
 

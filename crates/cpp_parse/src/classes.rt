@@ -4,7 +4,8 @@ ghost use Rattle.std.specs.Prelude.{◌≡◌, ◌≤◌, length, Some, None};
 ghost use Rattle.cpp_syntax.specs.Rules.{form, many, optional, enumerator_definition, member_declaration};
 ghost use Rattle.cpp_syntax.specs.Grammar.{class_key, braced_list};
 ghost use Rattle.cpp_syntax.specs.Parsed.{ParsesLongest, ParsesAlways};
-ghost use Rattle.cpp_parse.specs.Alternatives.{class_declaration, class_specifier, optional_final, optional_access, base_clause, base_specifier, member_specification, enum_specifier, enumerators, enumerator_value};
+ghost use Rattle.cpp_parse.specs.Alternatives.{class_declaration, class_specifier, optional_final, optional_access, base_clause, base_specifier};
+ghost use Rattle.cpp_parse.specs.Alternatives.{member_specification, enum_specifier, enumerators, enumerator_value};
 
 use crate::members::member_declaration;
 use crate::specifiers::node_at_token;
@@ -180,7 +181,12 @@ fn member_specification(
 }
 
 /// Members, as many as follow one another.
-fn members(text: &TypeNames, at: usize, depth_left: u32, out: &mut Builder) -> Result<usize, AllocError>
+fn members(
+    text: &TypeNames,
+    at: usize,
+    depth_left: u32,
+    out: &mut Builder,
+) -> Result<usize, AllocError>
     requires here { at ≤ length text.now.terminals }
     ensures { ParsesAlways text.now (many (form member_declaration)) at None out.old out.new result }
 {

@@ -75,7 +75,14 @@ fn first_deep(
     let Some(depth) = depth_within(node.kind, holder, limit) else {
         return Ok(Some(node.at));
     };
-    if let Some(position) = first_deep_kid(nodes, noted, &node.kids, depth, limit, descend(depth_left)?)? {
+    if let Some(position) = first_deep_kid(
+        nodes,
+        noted,
+        &node.kids,
+        depth,
+        limit,
+        descend(depth_left)?,
+    )? {
         return Ok(Some(position));
     }
     match noted[id.0 as usize] {

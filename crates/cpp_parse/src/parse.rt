@@ -98,7 +98,14 @@ fn read_whole(alloc: Global, types: &TypeNames) -> Result<Reading, AllocError>
     match read_declarations(alloc, types, &mut nodes)? {
         Declarations::Read { decls, bodies } => {
             let mut noted = Vec::new(alloc);
-            match read_bodies(alloc, types, &bodies, MAX_NESTED_BODIES, &mut nodes, &mut noted)? {
+            match read_bodies(
+                alloc,
+                types,
+                &bodies,
+                MAX_NESTED_BODIES,
+                &mut nodes,
+                &mut noted,
+            )? {
                 None => Ok(Reading::Read(Whole {
                     nodes,
                     decls,

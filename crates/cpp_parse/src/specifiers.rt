@@ -14,7 +14,7 @@ ghost use Rattle.cpp_parse.specs.Answers.{AttributeFound, Reaches};
 use crate::terminals::{is_specifier_at, is_virt_at};
 use cpp_ast::NodeKind;
 use cpp_parse_expr::types::type_specifier_seq;
-use cpp_syntax::read::{wrap, leaf, node_at_name};
+use cpp_syntax::read::{leaf, node_at_name, wrap};
 use cpp_syntax::{Builder, Checkpoint, Terminal, TypeNames};
 use std::alloc::AllocError;
 
@@ -31,7 +31,12 @@ pub fn node_at_token(
     ensures read { OnOk result ((before : BuilderState) (got : Read) → IsMark start before → out.old ≡ appended before got → out.new ≡ appended before (reads_node kind (positioned at_token text.now at (Some token) got.trees) (Some token) got)) }
     ensures memory { OnErr result (out.new ≡ out.old) }
 {
-    out.node(start.trees, kind, text.position(token as usize), Some(token))
+    out.node(
+        start.trees,
+        kind,
+        text.position(token as usize),
+        Some(token),
+    )
 }
 
 /// A node of the trees that were read since the start, which has its first token as its own, and its position where the
@@ -135,7 +140,11 @@ pub fn optional_attribute(
     let Some(next) = behind_attribute(text, at) else {
         return Ok(at);
     };
-    out.leaf(NodeKind::Attribute, text.position(at), Some((at + 2) as u32))?;
+    out.leaf(
+        NodeKind::Attribute,
+        text.position(at),
+        Some((at + 2) as u32),
+    )?;
     Ok(next)
 }
 

@@ -16,14 +16,20 @@ use Rattle.cpp_parse_expr.proofs.ReaderAnswers.{reads_to}
 pub before_no_name : (source : Source) (a b : ℕ) → b ≡ a + 1 → is_name (terminal_at source (a + 1)) ≡ false → is_before_no_name source a b ≡ true
 before_no_name source a b e t = ap (λ (n : ℕ). not (is_name (terminal_at source n))) e ∙ ap not t
 
-pub no_default_before : {lookahead : Lookahead → ℕ → Type 0} {bodies : Bodies} {source : Source} {r : Read} {a : ℕ} → is_name (terminal_at source (a + 1)) ≡ true → NoDerivation lookahead bodies source (where_ is_before_no_name (leaf CaptureDefault is_capture_default)) r a
+pub no_default_before : {lookahead : Lookahead → ℕ → Type 0} {bodies : Bodies} {source : Source} {r : Read} {a : ℕ}
+    → is_name (terminal_at source (a + 1)) ≡ true
+    → NoDerivation lookahead bodies source (where_ is_before_no_name (leaf CaptureDefault is_capture_default)) r a
 no_default_before {lookahead = lookahead} {bodies = bodies} {source = source} {r = r} {a = a} t = where_refused only
   where
-    only : (b : ℕ) (k : Option ℕ) (s : Read) → Derives lookahead bodies source (leaf CaptureDefault is_capture_default) r a b k s → is_before_no_name source a b ≡ false
+    only : (b : ℕ) (k : Option ℕ) (s : Read) → Derives lookahead bodies source (leaf CaptureDefault is_capture_default) r a b k s
+        → is_before_no_name source a b ≡ false
     only b k s (is_node (is_mark u e f g) h i) = ap (λ (n : ℕ). not (is_name (terminal_at source n))) e ∙ ap not t
 
 -- & and a name
-pub reference_there : {source : Source} {a : ℕ} {old new : BuilderState} → amp (terminal_at source a) ≡ true → is_name (terminal_at source (a + 1)) ≡ true → a + 1 < length source.terminals → new ≡ appended old (reads_node ReferenceCapture (position_at source a) (Some (a + 1)) no_read) → ReadsLongest source (node ReferenceCapture (word amp · mark is_name)) a (a + 2) None old new
+pub reference_there : {source : Source} {a : ℕ} {old new : BuilderState} → amp (terminal_at source a) ≡ true
+    → is_name (terminal_at source (a + 1)) ≡ true → a + 1 < length source.terminals
+    → new ≡ appended old (reads_node ReferenceCapture (position_at source a) (Some (a + 1)) no_read)
+    → ReadsLongest source (node ReferenceCapture (word amp · mark is_name)) a (a + 2) None old new
 reference_there {source = source} {a = a} {old = old} {new = new} t u i e =
     let x : ReadsLongest source (node ReferenceCapture (word amp · mark is_name)) a (a + 1 + 1) None old new = record {
       got = reads_node ReferenceCapture (position_at source a) (Some (a + 1)) no_read;

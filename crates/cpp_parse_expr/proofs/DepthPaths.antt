@@ -1,5 +1,6 @@
 -- The depths of the nodes below a root, as they are handed down to kids.
-use Rattle.std.proofs.Common.{◌≡◌, ℕ, zero, suc, ◌+◌, ◌-◌, ◌<◌, ◌≤◌, nat_lt, nat_le, nat_eq, Bool, true, false, cond, List, [], ◌∷◌, length, drop, get_or, set, replicate, slice_get, Some, refl, sym, ◌∙◌, ap, subst, arith, inl, inr, eq-eqb}
+use Rattle.std.proofs.Common.{◌≡◌, ℕ, zero, suc, ◌+◌, ◌-◌, ◌<◌, ◌≤◌, nat_lt, nat_le, nat_eq, Bool, true, false, cond, List, [], ◌∷◌, length, drop}
+use Rattle.std.proofs.Common.{get_or, set, replicate, slice_get, Some, refl, sym, ◌∙◌, ap, subst, arith, inl, inr, eq-eqb}
 use Rattle.std.proofs.lemmas.Bool.{cases_lt, cases_eq, and_parts, and_from, ltb-true, leb-true, lt-ltb}
 use Rattle.std.proofs.lemmas.Option.{get_or_from_slice_get, none-some, slice_get_within}
 use Rattle.std.proofs.lemmas.List.{get_or-set_same, get_or-set_other, length-set, length-replicate}
@@ -38,7 +39,8 @@ same_id a b e = ap (λ (k : ℕ). record { 0 = k }) e
 -- Kids that were passed have their depths.
 pub record Handing (nodes : List Node) (first : ℕ) (kids : List NodeId) (i depth : ℕ) (old new : List ℕ) : Type 0 where
   pub many : length new ≡ length old
-  pub given : (k : ℕ) (kid : NodeId) (n : Node) → k < i → slice_get kids k ≡ Some kid → slice_get nodes kid.0 ≡ Some n → get_or new (kid.0 - first) 0 ≡ kid_depth depth n.kind
+  pub given : (k : ℕ) (kid : NodeId) (n : Node) → k < i → slice_get kids k ≡ Some kid → slice_get nodes kid.0 ≡ Some n
+      → get_or new (kid.0 - first) 0 ≡ kid_depth depth n.kind
   pub kept : (j : ℕ) → ((k : ℕ) (kid : NodeId) → slice_get kids k ≡ Some kid → kid.0 - first ≡ j → ⊥) → get_or new j 0 ≡ get_or old j 0
   pub low : (most position : ℕ) → are_below position kids ≡ true → depth + position ≤ most + first → AreLow most old → AreLow most new
 
@@ -57,7 +59,9 @@ by_count_least false = omega arith
 step_least : (n : Node) → step n.kind ≤ 1
 step_least n = by_count_least (counts_one n.kind)
 
-pub handing_more : (nodes : List Node) (first : ℕ) (kids : List NodeId) (i depth : ℕ) (old new : List ℕ) (id : NodeId) (found : Node) → Handing nodes first kids i depth old new → slice_get kids i ≡ Some id → slice_get nodes id.0 ≡ Some found → are_from first kids ≡ true → id.0 - first < length new → Handing nodes first kids (i + 1) depth old (set new (id.0 - first) (depth + step found.kind))
+pub handing_more : (nodes : List Node) (first : ℕ) (kids : List NodeId) (i depth : ℕ) (old new : List ℕ) (id : NodeId) (found : Node)
+    → Handing nodes first kids i depth old new → slice_get kids i ≡ Some id → slice_get nodes id.0 ≡ Some found → are_from first kids ≡ true
+    → id.0 - first < length new → Handing nodes first kids (i + 1) depth old (set new (id.0 - first) (depth + step found.kind))
 handing_more nodes first kids i depth old new id found h at stands own inside =
     let here : first ≤ id.0 = from_at first kids i id own at in
     record {
@@ -67,12 +71,14 @@ handing_more nodes first kids i depth old new id found h at stands own inside =
             let there : first ≤ kid.0 = from_at first kids k kid own e in
             let one : kid.0 ≡ id.0 = omega (arith, same, here, there) in
             let node : found ≡ n = same_found nodes id.0 found n stands (subst (λ (p : ℕ). slice_get nodes p ≡ Some n) one f) in
-            ap (λ (p : ℕ). get_or (set new (id.0 - first) (depth + step found.kind)) p 0) same ∙ get_or-set_same new (id.0 - first) (depth + step found.kind) 0 inside ∙ ap (λ (m : Node). depth + step m.kind) node ∙ sym (kid_step depth n.kind)
+            ap (λ (p : ℕ). get_or (set new (id.0 - first) (depth + step found.kind)) p 0) same ∙ get_or-set_same new (id.0 - first)
+            (depth + step found.kind) 0 inside ∙ ap (λ (m : Node). depth + step m.kind) node ∙ sym (kid_step depth n.kind)
         | inr other ↦ elim (cases_lt k i) [
           | inl before ↦ get_or-set_other new (id.0 - first) (kid.0 - first) (depth + step found.kind) 0 other ∙ h.given k kid n before e f
           | inr now ↦
               let last : k ≡ i = omega (arith, passed, now) in
-              let one : kid ≡ id = let g : slice_get kids i ≡ Some kid = subst (λ (p : ℕ). slice_get kids p ≡ Some kid) last e in let s : Some kid ≡ Some id = sym g ∙ at in cc in
+              let one : kid ≡ id = let g : slice_get kids i ≡ Some kid = subst (λ (p : ℕ). slice_get kids p ≡ Some kid) last e in let s : Some kid ≡
+              Some id = sym g ∙ at in cc in
               absurd (other (ap (λ (p : NodeId). p.0 - first) one))
         ]
       ];
@@ -82,12 +88,15 @@ handing_more nodes first kids i depth old new id found h at stands own inside =
             let longer : length (set new (id.0 - first) (depth + step found.kind)) ≡ length new = length-set new (id.0 - first) (depth + step found.kind) in
             elim (cases_eq j (id.0 - first)) [
               | inl same ↦
-                  let value : get_or (set new (id.0 - first) (depth + step found.kind)) j 0 ≡ depth + step found.kind = ap (λ (p : ℕ). get_or (set new (id.0 - first) (depth + step found.kind)) p 0) same ∙ get_or-set_same new (id.0 - first) (depth + step found.kind) 0 inside in
+                  let value : get_or (set new (id.0 - first) (depth + step found.kind)) j 0 ≡ depth + step found.kind = ap
+                  (λ (p : ℕ). get_or (set new (id.0 - first) (depth + step found.kind)) p 0) same ∙ get_or-set_same new (id.0 - first)
+                  (depth + step found.kind) 0 inside in
                   let least : step found.kind ≤ 1 = step_least found in
                   let lower : id.0 < position = below_at position kids i id below at in
                   omega (arith, value, least, lower, same, depth_left, here)
               | inr other ↦
-                  let value : get_or (set new (id.0 - first) (depth + step found.kind)) j 0 ≡ get_or new j 0 = get_or-set_other new (id.0 - first) j (depth + step found.kind) 0 other in
+                  let value : get_or (set new (id.0 - first) (depth + step found.kind)) j 0 ≡ get_or new j 0 = get_or-set_other new (id.0 - first) j
+                  (depth + step found.kind) 0 other in
                   let before : get_or new j 0 + j ≤ most = (h.low most position below depth_left low).low j (omega (arith, within, longer)) in
                   omega (arith, value, before)
             ];
@@ -97,7 +106,8 @@ handing_more nodes first kids i depth old new id found h at stands own inside =
 -- A node is a root with its depth, or a kid of a node from an index on that lies below the root.
 pub data Given (nodes : List Node) (root depth here : ℕ) : ℕ → ℕ → Type 0 where
   is_root : {id d : ℕ} → id ≡ root → d ≡ depth → Given nodes root depth here id d
-  by_holder : {holder id above d : ℕ} {kid : Node} → here ≤ holder → Path nodes root depth holder above → IsKid nodes holder id → slice_get nodes id ≡ Some kid → d ≡ kid_depth above kid.kind → Given nodes root depth here id d
+  by_holder : {holder id above d : ℕ} {kid : Node} → here ≤ holder → Path nodes root depth holder above → IsKid nodes holder id
+      → slice_get nodes id ≡ Some kid → d ≡ kid_depth above kid.kind → Given nodes root depth here id d
 
 -- the nodes that were given a depth have it
 pub record Handed (nodes : List Node) (root depth first here : ℕ) (depths : List ℕ) : Type 0 where
@@ -116,7 +126,8 @@ path_from : {nodes : List Node} {root depth id d : ℕ} (first : ℕ) → HoldOw
 path_from first o from (at_root e f) = omega (arith, e, from)
 path_from {nodes = nodes} first o from (to_kid {holder = holder} {id = id} p k e f) = kid_own nodes first holder id o (path_from first o from p) k
 
-path_below : {nodes : List Node} {root depth id d : ℕ} (first : ℕ) → HoldOwn first nodes → HoldLower first nodes → first ≤ root → Path nodes root depth id d → id ≤ root
+path_below : {nodes : List Node} {root depth id d : ℕ} (first : ℕ) → HoldOwn first nodes → HoldLower first nodes → first ≤ root
+    → Path nodes root depth id d → id ≤ root
 path_below first own o from (at_root e f) = omega (arith, e)
 path_below {nodes = nodes} first own o from (to_kid {holder = holder} {id = id} p k e f) =
     let lower = kid_lower nodes first holder id o (path_from first own from p) k in
@@ -124,11 +135,14 @@ path_below {nodes = nodes} first own o from (to_kid {holder = holder} {id = id} 
     omega (arith, lower, above)
 
 -- the last step of a path
-last_of : {nodes : List Node} {root depth id d : ℕ} (first : ℕ) → HoldOwn first nodes → HoldLower first nodes → first ≤ root → Path nodes root depth id d → Given nodes root depth (id + 1) id d
+last_of : {nodes : List Node} {root depth id d : ℕ} (first : ℕ) → HoldOwn first nodes → HoldLower first nodes → first ≤ root
+    → Path nodes root depth id d → Given nodes root depth (id + 1) id d
 last_of first own o from (at_root e f) = is_root e f
-last_of {nodes = nodes} first own o from (to_kid {holder = holder} {id = id} p k e f) = let lower = kid_lower nodes first holder id o (path_from first own from p) k in by_holder (omega (arith, lower)) p k e f
+last_of {nodes = nodes} first own o from (to_kid {holder = holder} {id = id} p k e f) =
+    let lower = kid_lower nodes first holder id o (path_from first own from p) k in by_holder (omega (arith, lower)) p k e f
 
-any_of : {nodes : List Node} {root depth id d : ℕ} (first : ℕ) → HoldOwn first nodes → first ≤ root → Path nodes root depth id d → Given nodes root depth first id d
+any_of : {nodes : List Node} {root depth id d : ℕ} (first : ℕ) → HoldOwn first nodes → first ≤ root → Path nodes root depth id d
+    → Given nodes root depth first id d
 any_of first o from (at_root e f) = is_root e f
 any_of first o from (to_kid p k e f) = by_holder (path_from first o from p) p k e f
 
@@ -147,12 +161,14 @@ held ids i id e =
     let least = get_or-le-sum_by (λ (j : NodeId). cond (nat_eq j.0 id) 1 0) ids i (record { 0 = id }) (slice_get_within ids i (record { 0 = id }) e) in
     omega (arith, one, least)
 
-once_in : (nodes : List Node) (a b id : ℕ) (n m : Node) → a < b → slice_get nodes a ≡ Some n → slice_get nodes b ≡ Some m → 1 ≤ times_in id n.kids.items → 1 ≤ times_in id m.kids.items → 2 ≤ times_a_kid id nodes
+once_in : (nodes : List Node) (a b id : ℕ) (n m : Node) → a < b → slice_get nodes a ≡ Some n → slice_get nodes b ≡ Some m
+    → 1 ≤ times_in id n.kids.items → 1 ≤ times_in id m.kids.items → 2 ≤ times_a_kid id nodes
 once_in [] a b id n m lt e f g h = absurd (none-some n e)
 once_in (x ∷ xs) zero zero id n m lt e f g h = absurd (omega (arith, lt))
 once_in (x ∷ xs) zero (suc b) id n m lt e f g h =
     let first : times_in id x.kids.items ≡ times_in id n.kids.items = ap (λ (y : Node). times_in id y.kids.items) (let same : x ≡ n = cc in same) in
-    let found : times_in id (get_or xs b m).kids.items ≡ times_in id m.kids.items = ap (λ (y : Node). times_in id y.kids.items) (get_or_from_slice_get xs b m m f) in
+    let found : times_in id (get_or xs b m).kids.items ≡ times_in id m.kids.items = ap (λ (y : Node). times_in id y.kids.items)
+    (get_or_from_slice_get xs b m m f) in
     let rest = get_or-le-sum_by (λ (y : Node). times_in id y.kids.items) xs b m (slice_get_within xs b m f) in
     let both = sum_by-cons (λ (y : Node). times_in id y.kids.items) x xs in
     omega (arith, first, found, rest, both, g, h)
@@ -167,16 +183,21 @@ get-drop zero i nodes = ap (slice_get nodes) (let e : i ≡ zero + i = omega ari
 get-drop (suc first) i [] = refl
 get-drop (suc first) i (x ∷ xs) = get-drop first i xs ∙ ap (slice_get (x ∷ xs)) (let e : suc (first + i) ≡ suc first + i = omega arith in e)
 
-pub among : (nodes : List Node) (first id : ℕ) (found : Node) → first ≤ id → slice_get nodes id ≡ Some found → slice_get (drop first nodes) (id - first) ≡ Some found
+pub among : (nodes : List Node) (first id : ℕ) (found : Node) → first ≤ id → slice_get nodes id ≡ Some found
+    → slice_get (drop first nodes) (id - first) ≡ Some found
 among nodes first id found from e = get-drop first (id - first) nodes ∙ ap (slice_get nodes) (let s : first + (id - first) ≡ id = omega (arith, from) in s) ∙ e
 
 held_once : (nodes : List Node) (first a b id : ℕ) → HoldOnce first nodes → first ≤ a → a < b → IsKid nodes a id → IsKid nodes b id → ⊥
 held_once nodes first a b id once from lt k l =
-    let twice = once_in (drop first nodes) (a - first) (b - first) id k.found l.found (omega (arith, from, lt)) (among nodes first a k.found from k.stands) (among nodes first b l.found (omega (arith, from, lt)) l.stands) (held k.found.kids.items k.position id k.there) (held l.found.kids.items l.position id l.there) in
+    let twice = once_in (drop first nodes) (a - first) (b - first) id k.found l.found (omega (arith, from, lt))
+    (among nodes first a k.found from k.stands) (among nodes first b l.found (omega (arith, from, lt)) l.stands)
+    (held k.found.kids.items k.position id k.there) (held l.found.kids.items l.position id l.there) in
     let most : times_a_kid id (drop first nodes) ≤ 1 = once.each id in
     omega (arith, twice, most)
 
-module _ (nodes : List Node) (root depth first here : ℕ) (found : Node) (old new : List ℕ) (ordered : HoldLower first nodes) (own : HoldOwn first nodes) (once : HoldOnce first nodes) (from : first ≤ here) (low : here ≤ root) (stands : slice_get nodes here ≡ Some found) (down : HandsDown nodes first found.kids.items (get_or old (here - first) 0) old new) (h : Handed nodes root depth first (here + 1) old) where
+module _ (nodes : List Node) (root depth first here : ℕ) (found : Node) (old new : List ℕ) (ordered : HoldLower first nodes)
+    (own : HoldOwn first nodes) (once : HoldOnce first nodes) (from : first ≤ here) (low : here ≤ root) (stands : slice_get nodes here ≡ Some found)
+    (down : HandsDown nodes first found.kids.items (get_or old (here - first) 0) old new) (h : Handed nodes root depth first (here + 1) old) where
   each_more : (id d : ℕ) → Given nodes root depth here id d → get_or new (id - first) 0 ≡ d
   each_more id d (is_root e f) =
       down.kept (id - first) (λ k kid s t.
@@ -192,17 +213,27 @@ module _ (nodes : List Node) (root depth first here : ℕ) (found : Node) (old n
             down.kept (id - first) (λ j other s t.
             let there : first ≤ other.0 = from_at first found.kids.items j other (own.own here found from stands) s in
             let one : other ≡ record { 0 = id } = same_id other (record { 0 = id }) (omega (arith, there, after, t)) in
-            held_once nodes first here holder id once from past (record { found = found; stands = stands; position = j; there = s ∙ ap (λ (n : NodeId). Some n) one }) k)
+            held_once nodes first here holder id once from past (record {
+              found = found;
+              stands = stands;
+              position = j;
+              there = s ∙ ap
+                  (λ (n : NodeId). Some n) one;
+            }) k)
             ∙ h.each id d (by_holder (omega (arith, past)) p k e f)
         | inr now ↦
             let same : holder ≡ here = omega (arith, le, now) in
             let node : k.found ≡ found = same_found nodes here k.found found (subst (λ (i : ℕ). slice_get nodes i ≡ Some k.found) same k.stands) stands in
-            let value : get_or old (here - first) 0 ≡ above = ap (λ (i : ℕ). get_or old (i - first) 0) (sym same) ∙ h.each holder above (subst (λ (i : ℕ). Given nodes root depth (i + 1) holder above) same (last_of first own ordered (omega (arith, from, low)) p)) in
+            let value : get_or old (here - first) 0 ≡ above = ap (λ (i : ℕ). get_or old (i - first) 0) (sym same) ∙ h.each holder above
+            (subst (λ (i : ℕ). Given nodes root depth (i + 1) holder above) same (last_of first own ordered (omega (arith, from, low)) p)) in
             down.given k.position (record { 0 = id }) kid (subst (λ (n : Node). slice_get n.kids.items k.position ≡ Some (record { 0 = id })) node k.there) e
             ∙ ap (λ (v : ℕ). kid_depth v kid.kind) value ∙ sym f
       ]
 
-  pub handed_more : (here - first < length old) → ((most position : ℕ) → are_below position found.kids.items ≡ true → get_or old (here - first) 0 + position ≤ most + first → AreLow most old → AreLow most new) → Handed nodes root depth first here new
+  pub handed_more : (here - first < length old)
+      → ((most position : ℕ) → are_below position found.kids.items ≡ true → get_or old (here - first) 0 + position ≤ most + first → AreLow most old →
+      AreLow most new)
+      → Handed nodes root depth first here new
   handed_more inside lower =
       let same : length new ≡ length old = down.many in
       let depth_left : get_or old (here - first) 0 + (here - first) ≤ depth + length old = h.low.low (here - first) inside in
@@ -211,13 +242,21 @@ module _ (nodes : List Node) (root depth first here : ℕ) (found : Node) (old n
         from = from;
         many = omega (arith, same, many);
         each = each_more;
-        low = subst (λ (n : ℕ). AreLow (depth + n) new) (sym same) (lower (depth + length old) here (ordered.lower here found from stands) (omega (arith, depth_left, from)) h.low);
+        low =
+            subst (λ (n : ℕ). AreLow (depth + n) new) (sym same) (lower (depth + length old) here (ordered.lower here found from stands)
+            (omega (arith, depth_left, from)) h.low);
       }
 
-pub handed_all : (nodes : List Node) (root depth first here : ℕ) (depths : List ℕ) → HoldOwn first nodes → first ≤ root → here ≤ first → Handed nodes root depth first here depths → AreDepths nodes root depth first depths
+pub handed_all : (nodes : List Node) (root depth first here : ℕ) (depths : List ℕ) → HoldOwn first nodes → first ≤ root → here ≤ first
+    → Handed nodes root depth first here depths → AreDepths nodes root depth first depths
 handed_all nodes root depth first here depths own from over h = record {
   many = h.many;
-  each = λ id d p. (path_from first own from p, h.each id d (subst (λ (n : ℕ). Given nodes root depth n id d) (let e : first ≡ here = let f = h.from in omega (arith, over, f) in e) (any_of first own from p)));
+  each =
+      λ id d p. (
+        path_from first own from p,
+        h.each id d (subst (λ (n : ℕ). Given nodes root depth n id d)
+            (let e : first ≡ here = let f = h.from in omega (arith, over, f) in e) (any_of first own from p)),
+      );
 }
 
 pub below_more : (position more : ℕ) (ids : List NodeId) → position ≤ more → are_below position ids ≡ true → are_below more ids ≡ true
@@ -227,7 +266,8 @@ below_more position more (id ∷ ids) le h =
     let less : id.0 < position = ltb-true id.0 position parts.0 in
     and_from (nat_lt id.0 more) (are_below more ids) (lt-ltb id.0 more (omega (arith, le, less))) (below_more position more ids le parts.1)
 
-pub handing_all : (nodes : List Node) (first : ℕ) (kids : List NodeId) (i depth : ℕ) (old new : List ℕ) → length kids ≤ i → Handing nodes first kids i depth old new → HandsDown nodes first kids depth old new
+pub handing_all : (nodes : List Node) (first : ℕ) (kids : List NodeId) (i depth : ℕ) (old new : List ℕ) → length kids ≤ i
+    → Handing nodes first kids i depth old new → HandsDown nodes first kids depth old new
 handing_all nodes first kids i depth old new past h = record {
   many = h.many;
   given = λ k kid n e f. let within = slice_get_within kids k kid e in h.given k kid n (omega (arith, within, past)) e f;
@@ -237,7 +277,8 @@ handing_all nodes first kids i depth old new past h = record {
 pub record LowerUpTo (first end : ℕ) (nodes : List Node) : Type 0 where
   pub each : (id : ℕ) (n : Node) → first ≤ id → id < end → slice_get nodes id ≡ Some n → are_below id n.kids.items ≡ true
 
-pub lower_more : (first end : ℕ) (nodes : List Node) (found : Node) → slice_get nodes end ≡ Some found → are_below end found.kids.items ≡ true → LowerUpTo first end nodes → LowerUpTo first (end + 1) nodes
+pub lower_more : (first end : ℕ) (nodes : List Node) (found : Node) → slice_get nodes end ≡ Some found → are_below end found.kids.items ≡ true
+    → LowerUpTo first end nodes → LowerUpTo first (end + 1) nodes
 lower_more first end nodes found stands lower l = record {
   each = λ id n from to e. elim (cases_lt id end) [
     | inl before ↦ l.each id n from before e
@@ -249,7 +290,8 @@ lower_more first end nodes found stands lower l = record {
 }
 
 pub lower_all : (first end : ℕ) (nodes : List Node) → length nodes ≤ end → LowerUpTo first end nodes → HoldLower first nodes
-lower_all first end nodes past l = record { lower = λ id n from e. let within = slice_get_within nodes id n e in l.each id n from (omega (arith, within, past)) e }
+lower_all first end nodes past l =
+    record { lower = λ id n from e. let within = slice_get_within nodes id n e in l.each id n from (omega (arith, within, past)) e }
 
 -- all numbers are 0 but that of the root
 zero_at : (n i : ℕ) → ◌≡◌ {A = ℕ} (get_or (replicate n 0) i 0) 0
@@ -257,11 +299,15 @@ zero_at zero i = refl
 zero_at (suc n) zero = refl
 zero_at (suc n) (suc i) = zero_at n i
 
-root_has : (nodes : List Node) (root depth first : ℕ) (zeros : List ℕ) → HoldOwn first nodes → HoldLower first nodes → first ≤ root → root - first < length zeros → (id d : ℕ) → Given nodes root depth (root + 1) id d → get_or (set zeros (root - first) depth) (id - first) 0 ≡ d
-root_has nodes root depth first zeros own ordered from inside id d (is_root e f) = ap (λ (k : ℕ). get_or (set zeros (root - first) depth) (k - first) 0) e ∙ get_or-set_same zeros (root - first) depth 0 inside ∙ sym f
-root_has nodes root depth first zeros own ordered from inside id d (by_holder {holder = holder} le p k e f) = absurd (let most : holder ≤ root = path_below first own ordered from p in omega (arith, le, most))
+root_has : (nodes : List Node) (root depth first : ℕ) (zeros : List ℕ) → HoldOwn first nodes → HoldLower first nodes → first ≤ root
+    → root - first < length zeros → (id d : ℕ) → Given nodes root depth (root + 1) id d → get_or (set zeros (root - first) depth) (id - first) 0 ≡ d
+root_has nodes root depth first zeros own ordered from inside id d (is_root e f) =
+    ap (λ (k : ℕ). get_or (set zeros (root - first) depth) (k - first) 0) e ∙ get_or-set_same zeros (root - first) depth 0 inside ∙ sym f
+root_has nodes root depth first zeros own ordered from inside id d (by_holder {holder = holder} le p k e f) =
+    absurd (let most : holder ≤ root = path_below first own ordered from p in omega (arith, le, most))
 
-pub handed_none : (nodes : List Node) (root depth first : ℕ) (zeros : List ℕ) → HoldOwn first nodes → HoldLower first nodes → first ≤ root → root < length nodes → zeros ≡ replicate (length nodes - first) 0 → Handed nodes root depth first (root + 1) (set zeros (root - first) depth)
+pub handed_none : (nodes : List Node) (root depth first : ℕ) (zeros : List ℕ) → HoldOwn first nodes → HoldLower first nodes → first ≤ root
+    → root < length nodes → zeros ≡ replicate (length nodes - first) 0 → Handed nodes root depth first (root + 1) (set zeros (root - first) depth)
 handed_none nodes root depth first zeros own ordered from inside are =
     let long : length zeros ≡ length nodes - first = ap (λ (xs : List ℕ). length xs) are ∙ length-replicate (length nodes - first) 0 in
     let same : length (set zeros (root - first) depth) ≡ length zeros = length-set zeros (root - first) depth in
@@ -272,17 +318,23 @@ handed_none nodes root depth first zeros own ordered from inside are =
       low = record {
         low = λ i within. elim (cases_eq i (root - first)) [
           | inl at ↦
-              let value : get_or (set zeros (root - first) depth) i 0 ≡ depth = ap (λ (k : ℕ). get_or (set zeros (root - first) depth) k 0) at ∙ get_or-set_same zeros (root - first) depth 0 (omega (arith, from, inside, long)) in
+              let value : get_or (set zeros (root - first) depth) i 0 ≡ depth = ap (λ (k : ℕ). get_or (set zeros (root - first) depth) k 0) at ∙
+              get_or-set_same zeros (root - first) depth 0 (omega (arith, from, inside, long)) in
               omega (arith, value, within)
           | inr other ↦
-              let value : get_or (set zeros (root - first) depth) i 0 ≡ 0 = get_or-set_other zeros (root - first) i depth 0 other ∙ ap (λ (xs : List ℕ). get_or xs i 0) are ∙ zero_at (length nodes - first) i in
+              let value : get_or (set zeros (root - first) depth) i 0 ≡ 0 = get_or-set_other zeros (root - first) i depth 0 other ∙ ap
+              (λ (xs : List ℕ). get_or xs i 0) are ∙ zero_at (length nodes - first) i in
               omega (arith, value, within)
         ];
       };
     }
 
 -- the next node hands down
-pub handed_next : (nodes : List Node) (root depth first id : ℕ) (found : Node) (kids : List NodeId) (value : ℕ) (old new : List ℕ) → HoldLower first nodes → HoldOwn first nodes → HoldOnce first nodes → first < id → id ≤ root + 1 → slice_get nodes (id - 1) ≡ Some found → kids ≡ found.kids.items → value ≡ get_or old (id - 1 - first) 0 → HandsDown nodes first kids value old new → ((most position : ℕ) → are_below position kids ≡ true → value + position ≤ most + first → AreLow most old → AreLow most new) → Handed nodes root depth first id old → Handed nodes root depth first (id - 1) new
+pub handed_next : (nodes : List Node) (root depth first id : ℕ) (found : Node) (kids : List NodeId) (value : ℕ) (old new : List ℕ)
+    → HoldLower first nodes → HoldOwn first nodes → HoldOnce first nodes → first < id → id ≤ root + 1 → slice_get nodes (id - 1) ≡ Some found
+    → kids ≡ found.kids.items → value ≡ get_or old (id - 1 - first) 0 → HandsDown nodes first kids value old new
+    → ((most position : ℕ) → are_below position kids ≡ true → value + position ≤ most + first → AreLow most old → AreLow most new)
+    → Handed nodes root depth first id old → Handed nodes root depth first (id - 1) new
 handed_next nodes root depth first id found kids value old new ordered own once past low stands are is down lower h =
     let before : id ≡ id - 1 + 1 = omega (arith, past) in
     let within : id - 1 < length nodes = slice_get_within nodes (id - 1) found stands in
@@ -291,4 +343,6 @@ handed_next nodes root depth first id found kids value old new ordered own once 
     (subst (λ (v : ℕ). HandsDown nodes first found.kids.items v old new) is (subst (λ (ks : List NodeId). HandsDown nodes first ks value old new) are down))
     (subst (λ (n : ℕ). Handed nodes root depth first n old) before h)
     (omega (arith, past, within, many))
-    (subst (λ (v : ℕ). (most position : ℕ) → are_below position found.kids.items ≡ true → v + position ≤ most + first → AreLow most old → AreLow most new) is (subst (λ (ks : List NodeId). (most position : ℕ) → are_below position ks ≡ true → value + position ≤ most + first → AreLow most old → AreLow most new) are lower))
+    (subst (λ (v : ℕ). (most position : ℕ) → are_below position found.kids.items ≡ true → v + position ≤ most + first → AreLow most old → AreLow most
+    new) is (subst (λ (ks : List NodeId). (most position : ℕ) → are_below position ks ≡ true → value + position ≤ most + first → AreLow most old
+    → AreLow most new) are lower))

@@ -37,7 +37,8 @@ declarator_closed in_block = refl
 pub always_there : (s : Source) (n : Naming) (a : ℕ) → need_not_name n ≡ true → NoneOf s (form (declarator whole n)) a → ⊥
 always_there s n a e x = let o = omits s n no_read a e in x a None o.after o.text
 
-pub no_pointer : (s : Source) (n : Naming) {a m : ℕ} {v w : BuilderState} → ReadsLongest s cv_qualifiers (a + 1) m None v w → NoneOf s (form (declarator whole n)) m → NoneOf s (pointer_declarator whole n) a
+pub no_pointer : (s : Source) (n : Naming) {a m : ℕ} {v w : BuilderState} → ReadsLongest s cv_qualifiers (a + 1) m None v w
+    → NoneOf s (form (declarator whole n)) m → NoneOf s (pointer_declarator whole n) a
 no_pointer s named x y = node_none (none_second_mark (none_behind x y refl refl (qualifiers_apart named)))
 no_pointer s in_block x y = node_none (none_second_mark (none_behind x y refl refl (qualifiers_apart in_block)))
 no_pointer s unnamed {m = m} x y = absurd (always_there s unnamed m refl y)
@@ -45,7 +46,8 @@ no_pointer s either {m = m} x y = absurd (always_there s either m refl y)
 
 -- Declarators in parentheses.
 
-pub nothing_held : {s : Source} {n : Naming} {a b : ℕ} {v w : BuilderState} → ReadsLongest s (form (declarator whole n)) (a + 1) b None v w → b ≡ a + 1 → NoneOf s (parenthesized_declarator whole n) a
+pub nothing_held : {s : Source} {n : Naming} {a b : ℕ} {v w : BuilderState} → ReadsLongest s (form (declarator whole n)) (a + 1) b None v w
+    → b ≡ a + 1 → NoneOf s (parenthesized_declarator whole n) a
 nothing_held {a = a} x e c k t (is_where (is_node (is_both (is_mark u f g h) (is_both {s = s'} {m = m'} {k = k'} y (is_word u' f' g' h') i) j) l m) test) =
     let more : a + 2 < c = grind (arith, test) in
     elim ((x.long).longest m' k' s' (carry f h y)) [
@@ -53,17 +55,22 @@ nothing_held {a = a} x e c k t (is_where (is_node (is_both (is_mark u f g h) (is
       | inr z ↦ let at = z.0 in omega (arith, at, e, f', more)
     ]
 
-pub held_closed : {s : Source} {n : Naming} (a b : ℕ) {v w : BuilderState} → ReadsLongest s (form (declarator whole n)) (a + 1) b None v w → (b ≡ a + 1 → ⊥) → holds_something s a (b + 1) ≡ true
+pub held_closed : {s : Source} {n : Naming} (a b : ℕ) {v w : BuilderState} → ReadsLongest s (form (declarator whole n)) (a + 1) b None v w
+    → (b ≡ a + 1 → ⊥) → holds_something s a (b + 1) ≡ true
 held_closed a b x e = let le = x.ahead in grind (arith, le, e)
 
-pub none_closed : {s : Source} (n : Naming) {a b : ℕ} {v w : BuilderState} → ReadsLongest s (form (declarator whole n)) a b None v w → NoneOf s (word close_paren) b → NoneOf s (form (declarator whole n) · word close_paren) a
+pub none_closed : {s : Source} (n : Naming) {a b : ℕ} {v w : BuilderState} → ReadsLongest s (form (declarator whole n)) a b None v w
+    → NoneOf s (word close_paren) b → NoneOf s (form (declarator whole n) · word close_paren) a
 none_closed n x y = none_behind x y refl refl (declarator_closed n)
 
 -- std::tx_exception<..>
 
-thrown_parts : (s : Source) (a : ℕ) → begins_thrown_at s a ≡ true → (std (terminal_at s a) ≡ true) × (colon_colon (terminal_at s (a + 1)) ≡ true) × (tx_exception_word (terminal_at s (a + 2)) ≡ true) × (less (terminal_at s (a + 3)) ≡ true)
+thrown_parts : (s : Source) (a : ℕ) → begins_thrown_at s a ≡ true
+    → (std (terminal_at s a) ≡ true) × (colon_colon (terminal_at s (a + 1)) ≡ true) × (tx_exception_word (terminal_at s (a + 2)) ≡ true) ×
+    (less (terminal_at s (a + 3)) ≡ true)
 thrown_parts s a e =
-    let h = and_parts (std (terminal_at s a) && colon_colon (terminal_at s (a + 1)) && tx_exception_word (terminal_at s (a + 2))) (less (terminal_at s (a + 3))) e in
+    let h = and_parts (std (terminal_at s a) && colon_colon (terminal_at s (a + 1)) && tx_exception_word (terminal_at s (a + 2)))
+    (less (terminal_at s (a + 3))) e in
     let i = and_parts (std (terminal_at s a) && colon_colon (terminal_at s (a + 1))) (tx_exception_word (terminal_at s (a + 2))) h.0 in
     let j = and_parts (std (terminal_at s a)) (colon_colon (terminal_at s (a + 1))) i.0 in
     (j.0, j.1, i.1, h.1)
@@ -71,7 +78,9 @@ thrown_parts s a e =
 abbrev pub thrown : Rule
 thrown = word std · word colon_colon · mark tx_exception_word · word less · form (type_id whole) · word greater
 
-pub thrown_read : (s : Source) {a b : ℕ} {v w : BuilderState} → begins_thrown_at s a ≡ true → a + 4 ≤ length s.terminals → ReadsLongest s (form (type_id whole)) (a + 4) b None v w → greater (terminal_at s b) ≡ true → b < length s.terminals → ReadsLongest s thrown a (b + 1) (Some (a + 2)) v w
+pub thrown_read : (s : Source) {a b : ℕ} {v w : BuilderState} → begins_thrown_at s a ≡ true → a + 4 ≤ length s.terminals
+    → ReadsLongest s (form (type_id whole)) (a + 4) b None v w → greater (terminal_at s b) ≡ true → b < length s.terminals
+    → ReadsLongest s thrown a (b + 1) (Some (a + 2)) v w
 thrown_read s {a = a} {b = b} {v = v} {w = w} e i x t j =
     let p = thrown_parts s a e in
     let two : a + 1 + 1 ≡ a + 2 = omega arith in
@@ -81,15 +90,19 @@ thrown_read s {a = a} {b = b} {v = v} {w = w} e i x t j =
     reads_seq (reads_to (reads_word p.3 (omega (arith, i))) (back four)) (reads_seq x (reads_word t j) refl refl) refl refl in
     let mid : ReadsLongest s (mark tx_exception_word · word less · form (type_id whole) · word greater) (a + 2) (b + 1) (Some (a + 2)) v w =
     reads_seq (reads_to (reads_mark p.2 (omega (arith, i))) (back three)) last refl refl in
-    let second : ReadsLongest s (word colon_colon · mark tx_exception_word · word less · form (type_id whole) · word greater) (a + 1) (b + 1) (Some (a + 2)) v w =
+    let second : ReadsLongest s (word colon_colon · mark tx_exception_word · word less · form (type_id whole) · word greater) (a + 1) (b + 1)
+    (Some (a + 2)) v w =
     reads_seq (reads_to (reads_word p.1 (omega (arith, i))) (back two)) mid refl refl in
     reads_seq (reads_word p.0 (omega (arith, i))) second refl refl
 
-thrown_begins : {lookahead : Lookahead → ℕ → Type 0} {bodies : Bodies} {source : Source} {r s : Read} {a b : ℕ} {k : Option ℕ} → Derives lookahead bodies source thrown r a b k s → begins_thrown_at source a ≡ true
-thrown_begins {source = source} {a = a} (is_both {m = m1} (is_word t1 e1 f1 g1) (is_both {m = m2} (is_word t2 e2 f2 g2) (is_both {m = m3} (is_mark t3 e3 f3 g3) (is_both (is_word t4 e4 f4 g4) x h4) h3) h2) h1) =
+thrown_begins : {lookahead : Lookahead → ℕ → Type 0} {bodies : Bodies} {source : Source} {r s : Read} {a b : ℕ} {k : Option ℕ}
+    → Derives lookahead bodies source thrown r a b k s → begins_thrown_at source a ≡ true
+thrown_begins {source = source} {a = a} (is_both {m = m1} (is_word t1 e1 f1 g1) (is_both {m = m2} (is_word t2 e2 f2 g2)
+    (is_both {m = m3} (is_mark t3 e3 f3 g3) (is_both (is_word t4 e4 f4 g4) x h4) h3) h2) h1) =
     let at2 : m2 ≡ a + 2 = omega (arith, e1, e2) in
     let at3 : m3 ≡ a + 3 = omega (arith, e1, e2, e3) in
-    and_from (std (terminal_at source a) && colon_colon (terminal_at source (a + 1)) && tx_exception_word (terminal_at source (a + 2))) (less (terminal_at source (a + 3)))
+    and_from (std (terminal_at source a) && colon_colon (terminal_at source (a + 1)) && tx_exception_word (terminal_at source (a + 2)))
+    (less (terminal_at source (a + 3)))
     (and_from (std (terminal_at source a) && colon_colon (terminal_at source (a + 1))) (tx_exception_word (terminal_at source (a + 2)))
     (and_from (std (terminal_at source a)) (colon_colon (terminal_at source (a + 1))) t1 (subst (λ (n : ℕ). colon_colon (terminal_at source n) ≡ true) e1 t2))
     (subst (λ (n : ℕ). tx_exception_word (terminal_at source n) ≡ true) at2 t3))
@@ -105,11 +118,19 @@ thrown_none s a x =
 
 -- Parameters.
 
-pub void_clause : {s : Source} {a b : ℕ} {u v w : BuilderState} → ReadsLongest s (optional (parameter_list whole)) a b None u v → void_word (terminal_at s a) ≡ true → b ≡ a + 1 → w ≡ u → ReadsLongest s (clause whole) a b None u w
+pub void_clause : {s : Source} {a b : ℕ} {u v w : BuilderState} → ReadsLongest s (optional (parameter_list whole)) a b None u v
+    → void_word (terminal_at s a) ≡ true → b ≡ a + 1 → w ≡ u → ReadsLongest s (clause whole) a b None u w
 void_clause {s = s} {a = a} {u = u} {w = w} x t e f =
     let i = x.inside in
-    let y : ReadsLongest s (clause whole) a (a + 1) None u w = record { got = no_read; long = clause_void x.long t e; gained = f ∙ appended_none u; ahead = omega arith; inside = omega (arith, i, e) } in
+    let y : ReadsLongest s (clause whole) a (a + 1) None u w = record {
+      got = no_read;
+      long = clause_void x.long t e;
+      gained = f ∙ appended_none u;
+      ahead = omega arith;
+      inside = omega (arith, i, e);
+    } in
     reads_to y e
 
-pub kept_clause : {s : Source} {a b : ℕ} {v w : BuilderState} → ReadsLongest s (optional (parameter_list whole)) a b None v w → (void_word (terminal_at s a) ≡ true → b ≡ a + 1 → ⊥) → ReadsLongest s (clause whole) a b None v w
+pub kept_clause : {s : Source} {a b : ℕ} {v w : BuilderState} → ReadsLongest s (optional (parameter_list whole)) a b None v w
+    → (void_word (terminal_at s a) ≡ true → b ≡ a + 1 → ⊥) → ReadsLongest s (clause whole) a b None v w
 kept_clause x f = record { got = x.got; long = clause_kept x.long f; gained = x.gained; ahead = x.ahead; inside = x.inside }

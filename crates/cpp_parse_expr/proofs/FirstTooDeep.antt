@@ -1,5 +1,6 @@
 -- Where the first node of a tree stands that lies too deep.
-use Rattle.std.proofs.Common.{◌≡◌, ℕ, ◌+◌, ◌-◌, ◌<◌, ◌≤◌, Bool, true, false, if◌then◌else◌, List, length, drop, get_or, slice_get, Option, Some, None, is_some, refl, sym, ◌∙◌, ap, arith, inl, inr, true≢false}
+use Rattle.std.proofs.Common.{◌≡◌, ℕ, ◌+◌, ◌-◌, ◌<◌, ◌≤◌, Bool, true, false, if◌then◌else◌, List, length, drop, get_or, slice_get, Option, Some, None}
+use Rattle.std.proofs.Common.{is_some, refl, sym, ◌∙◌, ap, arith, inl, inr, true≢false}
 use Rattle.std.proofs.lemmas.Bool.{cases_lt, lt-ltb, le-ltb}
 use Rattle.std.proofs.lemmas.Option.{none-some}
 use Rattle.cpp_ast.specs.declared.arena.At.{At}
@@ -74,7 +75,8 @@ mutual
       let down : kid_depth depth (kind_of t) ≡ depth + step (kind_of t) = kid_step depth (kind_of t) in
       elim (cases_lt limit (kid_depth depth (kind_of t) + height t)) [
         | inl first ↦ some_or (deep_node limit (kid_depth depth (kind_of t)) t) (deep_kid limit depth ts) (beyond limit (kid_depth depth (kind_of t)) t first)
-        | inr low ↦ or_some (deep_node limit (kid_depth depth (kind_of t)) t) (deep_kid limit depth ts) (beyond_kids limit depth ts here (omega (arith, high, low, down)))
+        | inr low ↦ or_some (deep_node limit (kid_depth depth (kind_of t)) t) (deep_kid limit depth ts)
+            (beyond_kids limit depth ts here (omega (arith, high, low, down)))
       ]
 
 -- None of the kids that were passed has one.
@@ -86,31 +88,40 @@ pub record Passing (nodes : List Node) (ids : List NodeId) (i limit depth : ℕ)
 pub passing_none : (nodes : List Node) (ids : List NodeId) (limit depth : ℕ) (trees : Trees) → ShowsAll nodes ids trees → Passing nodes ids 0 limit depth trees
 passing_none nodes ids limit depth trees s = record { rest = trees; shows = s; same = refl }
 
-pub passing_more : (nodes : List Node) (ids : List NodeId) (i reach limit depth : ℕ) (id d : NodeId) (trees : Trees) → i < length ids → id ≡ get_or ids i d → ((tree : Tree) → Shows nodes id.0 tree → reach ≡ step (kind_of tree) + height tree) → depth ≤ limit → reach ≤ limit - depth → Passing nodes ids i limit depth trees → Passing nodes ids (i + 1) limit depth trees
+pub passing_more : (nodes : List Node) (ids : List NodeId) (i reach limit depth : ℕ) (id d : NodeId) (trees : Trees) → i < length ids
+    → id ≡ get_or ids i d → ((tree : Tree) → Shows nodes id.0 tree → reach ≡ step (kind_of tree) + height tree) → depth ≤ limit
+    → reach ≤ limit - depth → Passing nodes ids i limit depth trees → Passing nodes ids (i + 1) limit depth trees
 passing_more nodes ids i reach limit depth id d trees inside at known here low p =
     let f = front_at nodes ids i id d p.rest inside at p.shows in
     let reaches : reach ≡ step (kind_of f.first) + height f.first = known f.first f.shows in
     let down : kid_depth depth (kind_of f.first) ≡ depth + step (kind_of f.first) = kid_step depth (kind_of f.first) in
-    let first : deep_node limit (kid_depth depth (kind_of f.first)) f.first ≡ None = within limit (kid_depth depth (kind_of f.first)) f.first (omega (arith, reaches, down, low, here)) in
+    let first : deep_node limit (kid_depth depth (kind_of f.first)) f.first ≡ None = within limit (kid_depth depth (kind_of f.first)) f.first
+    (omega (arith, reaches, down, low, here)) in
     record {
       rest = f.others;
       shows = f.show;
       same = p.same ∙ ap (deep_kid limit depth) f.are ∙ ap (λ (o : Option At). or_else o (deep_kid limit depth f.others)) first;
     }
 
-pub passing_found : (nodes : List Node) (ids : List NodeId) (i reach limit depth : ℕ) (id d : NodeId) (trees : Trees) → i < length ids → id ≡ get_or ids i d → ((tree : Tree) → Shows nodes id.0 tree → reach ≡ step (kind_of tree) + height tree) → limit - depth < reach → Passing nodes ids i limit depth trees → HasDeep nodes id.0 limit depth trees
+pub passing_found : (nodes : List Node) (ids : List NodeId) (i reach limit depth : ℕ) (id d : NodeId) (trees : Trees) → i < length ids
+    → id ≡ get_or ids i d → ((tree : Tree) → Shows nodes id.0 tree → reach ≡ step (kind_of tree) + height tree) → limit - depth < reach
+    → Passing nodes ids i limit depth trees → HasDeep nodes id.0 limit depth trees
 passing_found nodes ids i reach limit depth id d trees inside at known high p =
     let f = front_at nodes ids i id d p.rest inside at p.shows in
     let reaches : reach ≡ step (kind_of f.first) + height f.first = known f.first f.shows in
     let down : kid_depth depth (kind_of f.first) ≡ depth + step (kind_of f.first) = kid_step depth (kind_of f.first) in
-    let first : is_some (deep_node limit (kid_depth depth (kind_of f.first)) f.first) ≡ true = beyond limit (kid_depth depth (kind_of f.first)) f.first (omega (arith, reaches, down, high)) in
+    let first : is_some (deep_node limit (kid_depth depth (kind_of f.first)) f.first) ≡ true = beyond limit (kid_depth depth (kind_of f.first))
+    f.first (omega (arith, reaches, down, high)) in
     record {
       tree = f.first;
       shows = f.shows;
-      same = p.same ∙ ap (deep_kid limit depth) f.are ∙ or_else_some (deep_node limit (kid_depth depth (kind_of f.first)) f.first) (deep_kid limit depth f.others) first;
+      same =
+          p.same ∙ ap (deep_kid limit depth) f.are ∙ or_else_some (deep_node limit (kid_depth depth (kind_of f.first)) f.first)
+          (deep_kid limit depth f.others) first;
     }
 
-pub passing_all : (nodes : List Node) (ids : List NodeId) (i limit depth : ℕ) (trees : Trees) → length ids ≤ i → Passing nodes ids i limit depth trees → deep_kid limit depth trees ≡ None
+pub passing_all : (nodes : List Node) (ids : List NodeId) (i limit depth : ℕ) (trees : Trees) → length ids ≤ i → Passing nodes ids i limit depth trees
+    → deep_kid limit depth trees ≡ None
 passing_all nodes ids i limit depth trees past p = p.same ∙ ap (deep_kid limit depth) (none_past nodes ids i p.rest past p.shows)
 
 -- The node that is sought is that of a tree, whose root has a depth.
@@ -123,21 +134,28 @@ pub down_none : (nodes : List Node) (id limit depth : ℕ) (tree : Tree) → Sho
 down_none nodes id limit depth tree s = record { tree = tree; shows = s; same = refl }
 
 -- in a node that does not lie too deep
-below_node : (limit depth : ℕ) (found : Node) (kids : Trees) (tree : Tree) → tree ≡ node found.kind found.at found.token kids → depth ≤ limit → deep_node limit depth tree ≡ deep_kid limit depth kids
-below_node limit depth found kids tree e here = ap (deep_node limit depth) e ∙ ap (λ (b : Bool). by_test b found.at (deep_kid limit depth kids)) (le-ltb limit depth here)
+below_node : (limit depth : ℕ) (found : Node) (kids : Trees) (tree : Tree) → tree ≡ node found.kind found.at found.token kids → depth ≤ limit
+    → deep_node limit depth tree ≡ deep_kid limit depth kids
+below_node limit depth found kids tree e here =
+    ap (deep_node limit depth) e ∙ ap (λ (b : Bool). by_test b found.at (deep_kid limit depth kids)) (le-ltb limit depth here)
 
-pub down_more : (nodes : List Node) (id kid limit depth : ℕ) (found below : Node) (deep : Option At) → slice_get nodes id ≡ Some found → slice_get nodes kid ≡ Some below → depth ≤ limit → ((trees : Trees) → ShowsAll nodes found.kids.items trees → HasDeep nodes kid limit depth trees) → Down nodes id limit depth deep → Down nodes kid limit (depth + step below.kind) deep
+pub down_more : (nodes : List Node) (id kid limit depth : ℕ) (found below : Node) (deep : Option At) → slice_get nodes id ≡ Some found
+    → slice_get nodes kid ≡ Some below → depth ≤ limit
+    → ((trees : Trees) → ShowsAll nodes found.kids.items trees → HasDeep nodes kid limit depth trees) → Down nodes id limit depth deep
+    → Down nodes kid limit (depth + step below.kind) deep
 down_more nodes id kid limit depth found below deep stands there here has d =
     let p = parts_of nodes id found d.tree stands d.shows in
     let k = has p.kids p.shows in
-    let deeper : kid_depth depth (kind_of k.tree) ≡ depth + step below.kind = kid_step depth (kind_of k.tree) ∙ ap (λ (kind : NodeKind). depth + step kind) (kind_is nodes kid below k.tree there k.shows) in
+    let deeper : kid_depth depth (kind_of k.tree) ≡ depth + step below.kind = kid_step depth (kind_of k.tree) ∙ ap
+    (λ (kind : NodeKind). depth + step kind) (kind_is nodes kid below k.tree there k.shows) in
     record {
       tree = k.tree;
       shows = k.shows;
       same = d.same ∙ below_node limit depth found p.kids d.tree p.is here ∙ k.same ∙ ap (λ (n : ℕ). deep_node limit n k.tree) deeper;
     }
 
-pub down_over : (nodes : List Node) (id limit depth : ℕ) (found : Node) (deep : Option At) → slice_get nodes id ≡ Some found → depth ≤ limit → ((trees : Trees) → ShowsAll nodes found.kids.items trees → deep_kid limit depth trees ≡ None) → Down nodes id limit depth deep → deep ≡ None
+pub down_over : (nodes : List Node) (id limit depth : ℕ) (found : Node) (deep : Option At) → slice_get nodes id ≡ Some found → depth ≤ limit
+    → ((trees : Trees) → ShowsAll nodes found.kids.items trees → deep_kid limit depth trees ≡ None) → Down nodes id limit depth deep → deep ≡ None
 down_over nodes id limit depth found deep stands here has d =
     let p = parts_of nodes id found d.tree stands d.shows in
     d.same ∙ below_node limit depth found p.kids d.tree p.is here ∙ has p.kids p.shows
@@ -157,7 +175,8 @@ pub none_low : (limit depth : ℕ) (tree : Tree) → deep_node limit depth tree 
 none_low limit depth tree e =
     let high = deepest_height depth tree in
     elim (cases_lt limit (depth + height tree)) [
-      | inl over ↦ absurd (let some : is_some (deep_node limit depth tree) ≡ true = beyond limit depth tree over in let f : is_some (deep_node limit depth tree) ≡ false = ap (λ (o : Option At). is_some o) e in true≢false (sym some ∙ f))
+      | inl over ↦ absurd (let some : is_some (deep_node limit depth tree) ≡ true = beyond limit depth tree over in let f : is_some
+          (deep_node limit depth tree) ≡ false = ap (λ (o : Option At). is_some o) e in true≢false (sym some ∙ f))
       | inr low ↦ omega (arith, high, low)
     ]
 

@@ -1,5 +1,6 @@
 -- What readers of lambdas answer.
-use Rattle.std.proofs.Common.{◌≡◌, ℕ, ◌+◌, ◌<◌, ◌≤◌, true, false, inl, inr, refl, sym as back, ◌∙◌, subst, ap, length, Option, Some, None, Result, Ok, Err, true≢false}
+use Rattle.std.proofs.Common.{◌≡◌, ℕ, ◌+◌, ◌<◌, ◌≤◌, true, false, inl, inr, refl, sym as back, ◌∙◌, subst, ap, length, Option, Some, None, Result, Ok}
+use Rattle.std.proofs.Common.{Err, true≢false}
 use Rattle.std.specs.declared.alloc.AllocError.{AllocError}
 use Rattle.cpp_ast.specs.declared.arena.At.{At}
 use Rattle.cpp_ast.specs.declared.kinds.NodeKind.TheVariants.{Lambda, LambdaDeclarator}
@@ -42,14 +43,19 @@ pub partner_inside : (s : Source) (m n : ℕ) → open_brace (terminal_at s m) �
 partner_inside s m n t p = within s n close_brace refl (partner_shut s m n t p)
 
 -- a lambda with its body
-pub body_there : (s : Source) (position : At) {a m n : ℕ} {old now new : BuilderState} (x : ReadsLongest s before_body a m (Some a) old now) → open_brace (terminal_at s m) ≡ true → Partners s.terminals m n → position ≡ position_at s a → new ≡ appended old (with_body_apart Lambda position a (m + 1) n x.got) → ReadsLongest s (form lambda_expression) a (n + 1) None old new
-body_there s position {a = a} {m = m} {n = n} {old = old} x t p e f = reads_form (reads_body x refl t (balanced_long p no_read) (partner_shut s m n t p) (f ∙ ap (λ (z : At). appended old (with_body_apart Lambda z a (m + 1) n x.got)) e))
+pub body_there : (s : Source) (position : At) {a m n : ℕ} {old now new : BuilderState} (x : ReadsLongest s before_body a m (Some a) old now)
+    → open_brace (terminal_at s m) ≡ true → Partners s.terminals m n → position ≡ position_at s a
+    → new ≡ appended old (with_body_apart Lambda position a (m + 1) n x.got) → ReadsLongest s (form lambda_expression) a (n + 1) None old new
+body_there s position {a = a} {m = m} {n = n} {old = old} x t p e f =
+    reads_form (reads_body x refl t (balanced_long p no_read) (partner_shut s m n t p)
+    (f ∙ ap (λ (z : At). appended old (with_body_apart Lambda z a (m + 1) n x.got)) e))
 
 no_tree_here : kept_apart ≡ in_trees → ⊥
 no_tree_here e = cc
 
 -- no body begins behind the captures and parameters
-pub no_body : (s : Source) {a m : ℕ} {k : Option ℕ} {old now : BuilderState} → ReadsLongest s before_body a m k old now → open_brace (terminal_at s m) ≡ false → NoneOf s (form lambda_expression) a
+pub no_body : (s : Source) {a m : ℕ} {k : Option ℕ} {old now : BuilderState} → ReadsLongest s before_body a m k old now
+    → open_brace (terminal_at s m) ≡ false → NoneOf s (form lambda_expression) a
 no_body s x t b j o (is_form (is_kept_apart {t = t'} {m = m'} {l = l'} e x' el f y g eb ek es) h i) = elim ((x.long).longest m' l' t' x') [
   | inl z ↦ never_both (lookahead s) s before_body (word open_brace) m' refl z.1 (λ seen w. f)
   | inr z ↦ true≢false (back f ∙ ap (λ (n : ℕ). open_brace (terminal_at s n)) z.0 ∙ t)
@@ -57,21 +63,29 @@ no_body s x t b j o (is_form (is_kept_apart {t = t'} {m = m'} {l = l'} e x' el f
 no_body s x t b j o (is_form (is_in_tree e x' y' f g) h i) = no_tree_here e
 
 -- none ends
-pub no_partner : (s : Source) {a m : ℕ} {k : Option ℕ} {old now : BuilderState} → ReadsLongest s before_body a m k old now → ((n : ℕ) → Partners s.terminals m n → ⊥) → NoneOf s (form lambda_expression) a
-no_partner s {m = m} x p b j o (is_form (is_kept_apart {t = t'} {m = m'} {n = n'} {l = l'} e x' el f (is_form y c d) g eb ek es) h i) = elim ((x.long).longest m' l' t' x') [
-  | inl z ↦ never_both (lookahead s) s before_body (word open_brace) m' refl z.1 (λ seen w. f)
-  | inr z ↦ p n' (subst (λ (v : ℕ). Partners s.terminals v n') z.0 (record { closes = braces_close (terminal_at s m') (terminal_at s n') f g; between = (text_run y).tokens }))
-]
+pub no_partner : (s : Source) {a m : ℕ} {k : Option ℕ} {old now : BuilderState} → ReadsLongest s before_body a m k old now
+    → ((n : ℕ) → Partners s.terminals m n → ⊥) → NoneOf s (form lambda_expression) a
+no_partner s {m = m} x p b j o (is_form (is_kept_apart {t = t'} {m = m'} {n = n'} {l = l'} e x' el f (is_form y c d) g eb ek es) h i) =
+    elim ((x.long).longest m' l' t' x') [
+      | inl z ↦ never_both (lookahead s) s before_body (word open_brace) m' refl z.1 (λ seen w. f)
+      | inr z ↦ p n' (subst (λ (v : ℕ). Partners s.terminals v n') z.0 (record {
+        closes = braces_close (terminal_at s m') (terminal_at s n') f g;
+        between
+            = (text_run y).tokens;
+      }))
+    ]
 no_partner s x p b j o (is_form (is_in_tree e x' y' f g) h i) = no_tree_here e
 
 -- Declarators of lambdas.
 
-pub safety_taken : (s : Source) (a : ℕ) (v w : BuilderState) (r : Result ℕ AllocError) → is_safety (terminal_at s a) ≡ true → ParsesAlways s (node LambdaDeclarator tx_qualifier) a None v w r → ParsesAlways s (optional (form lambda_declarator)) a None v w r
+pub safety_taken : (s : Source) (a : ℕ) (v w : BuilderState) (r : Result ℕ AllocError) → is_safety (terminal_at s a) ≡ true
+    → ParsesAlways s (node LambdaDeclarator tx_qualifier) a None v w r → ParsesAlways s (optional (form lambda_declarator)) a None v w r
 safety_taken s a v w (Ok next) t h = reads_taken (reads_form (reads_right (none_unlike is_safety t refl refl) h)) refl
 safety_taken s a v w (Err e) t h = h
 
 -- captures, and a declarator or none
-pub captured : {s : Source} {a m n : ℕ} {u v w : BuilderState} → a ≤ length s.terminals → ReadsLongest s (form lambda_introducer) a m None u v → ReadsLongest s (optional (form lambda_declarator)) m n None v w → ReadsLongest s before_body a n (Some a) u w
+pub captured : {s : Source} {a m n : ℕ} {u v w : BuilderState} → a ≤ length s.terminals → ReadsLongest s (form lambda_introducer) a m None u v
+    → ReadsLongest s (optional (form lambda_declarator)) m n None v w → ReadsLongest s before_body a n (Some a) u w
 captured h x y = reads_seq (reads_mark_next h) (reads_seq x y refl refl) refl refl
 
 pub no_introducer : {s : Source} {a : ℕ} → NoneOf s (form lambda_introducer) a → NoneOf s (form lambda_expression) a

@@ -1,5 +1,6 @@
 -- From what readers answer to what the call does.
-use Rattle.std.proofs.Common.{◌≡◌, ℕ, suc, ◌+◌, ◌-◌, ◌<◌, ◌≤◌, nat_lt, nat_le, ◌&&◌, Bool, true, false, if◌then◌else◌, List, [], ◌∷◌, length, map, take, drop, get_or, slice_get, Some, None, refl, sym, ◌∙◌, ap, subst, arith, length-take-le, Vec, Global}
+use Rattle.std.proofs.Common.{◌≡◌, ℕ, suc, ◌+◌, ◌-◌, ◌<◌, ◌≤◌, nat_lt, nat_le, ◌&&◌, Bool, true, false, if◌then◌else◌, List, [], ◌∷◌, length, map}
+use Rattle.std.proofs.Common.{take, drop, get_or, slice_get, Some, None, refl, sym, ◌∙◌, ap, subst, arith, length-take-le, Vec, Global}
 use Rattle.std.proofs.lemmas.Bool.{and_from, leb-true, ltb-true}
 use Rattle.std.proofs.lemmas.List.Sums.{get_or-le-sum_by}
 use Rattle.std.proofs.lemmas.Option.{get_or_from_slice_get, slice_get_within}
@@ -54,7 +55,9 @@ leaves_base built new old b l = base_kept built new l.extra old b l.gained
 pub grown_from : (built new : BuilderState) (old grown : List Node) → new.base ≡ old → Extends new.base grown → Extends old grown
 grown_from built new old grown e x = subst (λ (ns : List Node). Extends ns grown) e x
 
-module _ (source : Source) (f : Nonterminal) (from next : ℕ) (built new : BuilderState) (grown : List Node) (roots : List NodeId) (open_ : List OpenBody) (single : is_single f ≡ true) (empty : built.read ≡ no_read) (reads : ReadsLongest source (form f) from next None built new) (parts : new ≡ builder_state (length new.base) grown roots open_) where
+module _ (source : Source) (f : Nonterminal) (from next : ℕ) (built new : BuilderState) (grown : List Node) (roots : List NodeId)
+    (open_ : List OpenBody) (single : is_single f ≡ true) (empty : built.read ≡ no_read)
+    (reads : ReadsLongest source (form f) from next None built new) (parts : new ≡ builder_state (length new.base) grown roots open_) where
   got_trees : trees_at grown roots ≡ reads.got.trees
   got_trees = sym (ap (λ (z : BuilderState). z.read.trees) parts) ∙ ap (λ (z : Read). z.trees) (read_is built new reads.got empty reads.gained)
 
@@ -73,13 +76,15 @@ module _ (source : Source) (f : Nonterminal) (from next : ℕ) (built new : Buil
   one_root (id ∷ []) root e f = ap (λ (z : NodeId). z ∷ []) (sym f)
   one_root (id ∷ other ∷ ids) root e f = absurd (omega (arith, e))
 
-  pub is_read : (old : List Node) (root : NodeId) → built.base ≡ old → root ≡ get_or roots 0 root → Extends new.base grown → BuiltTrees (length new.base) grown roots open_ → IsRead source f from old grown root next open_
+  pub is_read : (old : List Node) (root : NodeId) → built.base ≡ old → root ≡ get_or roots 0 root → Extends new.base grown
+      → BuiltTrees (length new.base) grown roots open_ → IsRead source f from old grown root next open_
   is_read old root base at x shown =
       let one = one_tree_of reads.long.derives single in
       let trees : trees_at grown roots ≡ one_tree one.0 = got_trees ∙ one.1 in
       let kept : new.base ≡ old = base_kept built new reads.got old base reads.gained in
       let only : roots ≡ root ∷ [] = one_root roots root roots_one at in
-      let whole : reads.got ≡ tree_read one.0 reads.got.bodies = ap (λ (ts : Trees). let z : Read = record { trees = ts; bodies = reads.got.bodies } in z) one.1 in
+      let whole : reads.got ≡ tree_read one.0 reads.got.bodies = ap (λ (ts : Trees). let z : Read = record { trees = ts; bodies = reads.got.bodies }
+      in z) one.1 in
       let here = front_of grown roots [] root (one_tree one.0) only (subst (λ (ts : Trees). ShowsAll grown roots ts) trees shown.shows) in
       let first : one.0 ≡ here.first = let e : more one.0 none ≡ more here.first here.others = here.are in cc in
       record {
@@ -89,7 +94,9 @@ module _ (source : Source) (f : Nonterminal) (from next : ℕ) (built new : Buil
         inside = reads.inside;
         shows = subst (λ (t : Tree). Shows grown root.0 t) (sym first) here.shows;
         grown = grown_from built new old grown kept x;
-        shown = subst (λ (ns : List Node). BuiltTrees (length ns) grown (root ∷ []) open_) kept (subst (λ (is : List NodeId). BuiltTrees (length new.base) grown is open_) only shown);
+        shown =
+            subst (λ (ns : List Node). BuiltTrees (length ns) grown (root ∷ []) open_) kept
+            (subst (λ (is : List NodeId). BuiltTrees (length new.base) grown is open_) only shown);
         ranges = got_bodies;
       }
 
@@ -100,7 +107,8 @@ one_at_most true n m h = omega (arith, h)
 one_at_most false n m h = omega (arith, h)
 
 pub hold_once : (base : ℕ) (nodes : List Node) (ids : List NodeId) (open_ : List OpenBody) → BuiltTrees base nodes ids open_ → HoldOnce base nodes
-hold_once base nodes ids open_ s = record { each = λ id. one_at_most (nat_le base id && nat_lt id (length nodes)) (times_a_kid id (drop base nodes)) (times_in id ids) (s.apart id) }
+hold_once base nodes ids open_ s =
+    record { each = λ id. one_at_most (nat_le base id && nat_lt id (length nodes)) (times_a_kid id (drop base nodes)) (times_in id ids) (s.apart id) }
 
 held_new : (b c : Bool) (n m : ℕ) → n + m ≤ (if b && c then 1 else 0) → 1 ≤ n → b ≡ true
 held_new true c n m h k = refl
@@ -119,11 +127,14 @@ hold_own base nodes ids open_ s = record {
       held_new (nat_le base kid.0) (nat_lt kid.0 (length nodes)) (times_a_kid kid.0 (drop base nodes)) (times_in kid.0 ids) (s.apart kid.0) whole);
 }
   where
-    kids_held : (base : ℕ) (nodes : List Node) (id : ℕ) (n : Node) (kid : ℕ) → base ≤ id → slice_get nodes id ≡ Some n → 1 ≤ times_in kid n.kids.items → 1 ≤ times_a_kid kid (drop base nodes)
+    kids_held : (base : ℕ) (nodes : List Node) (id : ℕ) (n : Node) (kid : ℕ) → base ≤ id → slice_get nodes id ≡ Some n → 1 ≤ times_in kid n.kids.items
+        → 1 ≤ times_a_kid kid (drop base nodes)
     kids_held base nodes id n kid from e once =
         let there = among nodes base id n from e in
-        let found : times_in kid (get_or (drop base nodes) (id - base) n).kids.items ≡ times_in kid n.kids.items = ap (λ (m : Node). times_in kid m.kids.items) (get_or_from_slice_get (drop base nodes) (id - base) n n there) in
-        let least = get_or-le-sum_by (λ (m : Node). times_in kid m.kids.items) (drop base nodes) (id - base) n (slice_get_within (drop base nodes) (id - base) n there) in
+        let found : times_in kid (get_or (drop base nodes) (id - base) n).kids.items ≡ times_in kid n.kids.items = ap
+        (λ (m : Node). times_in kid m.kids.items) (get_or_from_slice_get (drop base nodes) (id - base) n n there) in
+        let least = get_or-le-sum_by (λ (m : Node). times_in kid m.kids.items) (drop base nodes) (id - base) n
+        (slice_get_within (drop base nodes) (id - base) n there) in
         omega (arith, once, found, least)
 
 pub cut_old : (old new : List Node) (n : ℕ) → Extends old new → n ≡ length old → take n new ≡ old
@@ -144,7 +155,8 @@ both_true false c n m h k = absurd (omega (arith, h, k))
 ready_from : (base : ℕ) (nodes : List Node) (root : NodeId) (open_ : List OpenBody) → BuiltTrees base nodes (root ∷ []) open_ → Ready nodes base root.0
 ready_from base nodes root open_ s =
     let one = held (root ∷ []) 0 root.0 refl in
-    let inside = both_true (nat_le base root.0) (nat_lt root.0 (length nodes)) (times_a_kid root.0 (drop base nodes)) (times_in root.0 (root ∷ [])) (s.apart root.0) one in
+    let inside = both_true (nat_le base root.0) (nat_lt root.0 (length nodes)) (times_a_kid root.0 (drop base nodes)) (times_in root.0 (root ∷ []))
+    (s.apart root.0) one in
     record {
       own = hold_own base nodes (root ∷ []) open_ s;
       once = hold_once base nodes (root ∷ []) open_ s;
@@ -152,11 +164,15 @@ ready_from base nodes root open_ s =
       within = ltb-true root.0 (length nodes) inside.1;
     }
 
-module _ (source : Source) (f : Nonterminal) (from next first : ℕ) (nodes : List Node) (root : NodeId) (open_ : List OpenBody) (few : first ≤ length nodes) (r : IsRead source f from (take first nodes) nodes root next open_) where
+module _ (source : Source) (f : Nonterminal) (from next first : ℕ) (nodes : List Node) (root : NodeId) (open_ : List OpenBody)
+    (few : first ≤ length nodes) (r : IsRead source f from (take first nodes) nodes root next open_) where
   pub ready : Ready nodes first root.0
   ready = subst (λ (n : ℕ). Ready nodes n root.0) (length-take-le first nodes few) (ready_from (length (take first nodes)) nodes root open_ r.shown)
 
-  pub too_deep : (depth limit token id : ℕ) (found : Node) → (limit < deepest depth r.tree) × IsDeep nodes id (deep_node limit depth r.tree) → slice_get nodes id ≡ Some found → token ≤ length source.terminals → ((k : ℕ) → k ≤ length source.terminals → position_at source k ≡ found.at → position_at source token ≡ found.at) → IsTooDeep source f from depth limit token
+  pub too_deep : (depth limit token id : ℕ) (found : Node) → (limit < deepest depth r.tree) × IsDeep nodes id (deep_node limit depth r.tree)
+      → slice_get nodes id ≡ Some found → token ≤ length source.terminals
+      → ((k : ℕ) → k ≤ length source.terminals → position_at source k ≡ found.at → position_at source token ≡ found.at)
+      → IsTooDeep source f from depth limit token
   too_deep depth limit token id found deep stands inside at =
       let same : deep.1.found ≡ found = let e : Some deep.1.found ≡ Some found = sym deep.1.stands ∙ stands in cc in
       let is : deep_node limit depth r.tree ≡ Some found.at = deep.1.is ∙ ap (λ (n : Node). Some n.at) same in
@@ -174,12 +190,16 @@ module _ (source : Source) (f : Nonterminal) (from next first : ℕ) (nodes : Li
 
   module _ (depth : ℕ) (depths : List ℕ) (lower : HoldLower first nodes) (are : AreDepths nodes root.0 depth first depths) where
     pairs : Pairs nodes root.0 depth (lams_of open_) (lambda_depths depth r.tree)
-    pairs = subst (λ (ids : List ℕ). Pairs nodes root.0 depth ids (lambda_depths depth r.tree)) (sym r.shown.lambdas) (lambda_pairs nodes root.0 depth first ready.own lower root r.tree ready.from refl r.shows)
+    pairs =
+        subst (λ (ids : List ℕ). Pairs nodes root.0 depth ids (lambda_depths depth r.tree)) (sym r.shown.lambdas)
+        (lambda_pairs nodes root.0 depth first ready.own lower root r.tree ready.from refl r.shows)
 
     pub each_body : (k : ℕ) (body : OpenBody) → slice_get open_ k ≡ Some body → BodyAt nodes first (deepest depth r.tree) depths body.lam.0
     each_body k body e = body_at nodes root.0 depth first depths r.tree open_ (lambda_depths depth r.tree) k body ready.within r.shows are pairs e
 
-    pub parsed : (limit : ℕ) (bodies : Vec BodyRange Global) → deepest depth r.tree ≤ limit → open_bodies bodies.items ≡ open_ → map (λ (b : BodyRange). b.depth) bodies.items ≡ map (λ (b : OpenBody). get_or depths (b.lam.0 - first) 0) open_ → IsParsed source f from depth limit (take first nodes) nodes (record { root = root; next = next; bodies = bodies })
+    pub parsed : (limit : ℕ) (bodies : Vec BodyRange Global) → deepest depth r.tree ≤ limit → open_bodies bodies.items ≡ open_
+        → map (λ (b : BodyRange). b.depth) bodies.items ≡ map (λ (b : OpenBody). get_or depths (b.lam.0 - first) 0) open_
+        → IsParsed source f from depth limit (take first nodes) nodes (record { root = root; next = next; bodies = bodies })
     parsed limit bodies low opens values = record {
       tree = r.tree;
       bodies = r.bodies;

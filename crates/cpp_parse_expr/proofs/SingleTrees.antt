@@ -3,9 +3,15 @@ use Rattle.std.proofs.Common.{◌≡◌, ℕ, zero, suc, ◌+◌, nat_eq, Bool, 
 use Rattle.std.proofs.lemmas.Bool.{eqb-true}
 use Rattle.cpp_ast.specs.Trees.{Tree, node, Trees, none, more}
 use Rattle.cpp_syntax.specs.Source.{Source, position_at}
-use Rattle.cpp_syntax.specs.Rules.{named, unnamed, either, in_block, Nonterminal, primary_expression, lambda_expression, postfix_expression, unary_expression, cast_expression, binary_expression, conditional_expression, assignment_expression, expression, type_specifier_seq, type_id, declarator, direct_declarator, parameter_declaration, parameter_declaration_clause, function_qualifiers, Lookahead, Rule, nothing, word, mark, mark_next, mark_name, ◌·◌, ◌∣◌, many, form, node_at, wrap, with_body, where_, before_no, if_, unless}
+use Rattle.cpp_syntax.specs.Rules.{named, unnamed, either, in_block, Nonterminal, primary_expression, lambda_expression, postfix_expression}
+use Rattle.cpp_syntax.specs.Rules.{unary_expression, cast_expression, binary_expression, conditional_expression, assignment_expression, expression}
+use Rattle.cpp_syntax.specs.Rules.{type_specifier_seq, type_id, declarator, direct_declarator, parameter_declaration, parameter_declaration_clause}
+use Rattle.cpp_syntax.specs.Rules.{function_qualifiers, Lookahead, Rule, nothing, word, mark, mark_next, mark_name, ◌·◌, ◌∣◌, many, form, node_at}
+use Rattle.cpp_syntax.specs.Rules.{wrap, with_body, where_, before_no, if_, unless}
 use Rattle.cpp_syntax.specs.Grammar.{production}
-use Rattle.cpp_syntax.specs.Derivations.{Read, no_read, join, one_tree, positioned, Bodies, Derives, is_nothing, is_word, is_mark, is_mark_next, is_mark_name, is_both, is_left, is_right, is_last, is_more, is_form, is_node, is_wrap, is_kept_apart, is_in_tree, is_where, is_before, is_if, is_unless}
+use Rattle.cpp_syntax.specs.Derivations.{Read, no_read, join, one_tree, positioned, Bodies, Derives, is_nothing, is_word, is_mark, is_mark_next}
+use Rattle.cpp_syntax.specs.Derivations.{is_mark_name, is_both, is_left, is_right, is_last, is_more, is_form, is_node, is_wrap, is_kept_apart}
+use Rattle.cpp_syntax.specs.Derivations.{is_in_tree, is_where, is_before, is_if, is_unless}
 use Rattle.cpp_syntax.specs.View.{count_trees}
 
 -- forms that are one node, or around one
@@ -107,22 +113,26 @@ count_join none us = omega arith
 count_join (more t ts) us = let rest = count_join ts us in omega (arith, rest)
 
 joined : (before after got : Trees) (n m : ℕ) → count_trees before ≡ n → count_trees got ≡ 1 → n + 1 ≡ m → after ≡ join before got → count_trees after ≡ m
-joined before after got n m e f g h = let c : count_trees after ≡ count_trees before + count_trees got = ap count_trees h ∙ count_join before got in omega (arith, c, e, f, g)
+joined before after got n m e f g h =
+    let c : count_trees after ≡ count_trees before + count_trees got = ap count_trees h ∙ count_join before got in omega (arith, c, e, f, g)
 
 -- one tree more
-one_more : (before after : Trees) (t : Tree) (n m : ℕ) → count_trees before ≡ n → Some (n + 1) ≡ Some m → after ≡ join before (one_tree t) → count_trees after ≡ m
+one_more : (before after : Trees) (t : Tree) (n m : ℕ) → count_trees before ≡ n → Some (n + 1) ≡ Some m → after ≡ join before (one_tree t)
+    → count_trees after ≡ m
 one_more before after t n m e f g = joined before after (one_tree t) n m e (let c : count_trees (one_tree t) ≡ 1 = refl in c) (same_some f) g
 
 trees_are : {r s : Read} → s ≡ r → s.trees ≡ r.trees
 trees_are e = ap (λ (z : Read). z.trees) e
 
-counted : {lookahead : Lookahead → ℕ → Type 0} {bodies : Bodies} {source : Source} {p : Rule} {r s : Read} {a b : ℕ} {k : Option ℕ} (n m : ℕ) → Derives lookahead bodies source p r a b k s → count_trees r.trees ≡ n → trees_behind p n ≡ Some m → count_trees s.trees ≡ m
+counted : {lookahead : Lookahead → ℕ → Type 0} {bodies : Bodies} {source : Source} {p : Rule} {r s : Read} {a b : ℕ} {k : Option ℕ} (n m : ℕ)
+    → Derives lookahead bodies source p r a b k s → count_trees r.trees ≡ n → trees_behind p n ≡ Some m → count_trees s.trees ≡ m
 counted {source = source} n m (is_nothing e f g) c t = ap count_trees (trees_are g) ∙ c ∙ same_some t
 counted {source = source} n m (is_word u e f g) c t = ap count_trees (trees_are g) ∙ c ∙ same_some t
 counted {source = source} n m (is_mark u e f g) c t = ap count_trees (trees_are g) ∙ c ∙ same_some t
 counted {source = source} n m (is_mark_next e f g) c t = ap count_trees (trees_are g) ∙ c ∙ same_some t
 counted {source = source} n m (is_mark_name e f g) c t = ap count_trees (trees_are g) ∙ c ∙ same_some t
-counted {source = source} n m (is_both {p = p} {q = q} x y e) c t = let parts = and_so_parts (trees_behind p n) (trees_behind q) m t in counted parts.0 m y (counted n parts.0 x c parts.1) parts.2
+counted {source = source} n m (is_both {p = p} {q = q} x y e) c t =
+    let parts = and_so_parts (trees_behind p n) (trees_behind q) m t in counted parts.0 m y (counted n parts.0 x c parts.1) parts.2
 counted {source = source} n m (is_left {p = p} {q = q} x) c t = counted n m x c (both_parts (trees_behind p n) (trees_behind q n) m t).0
 counted {source = source} n m (is_right {p = p} {q = q} x) c t = counted n m x c (both_parts (trees_behind p n) (trees_behind q n) m t).1
 counted {source = source} n m (is_last {p = p} e f g) c t = ap count_trees (trees_are g) ∙ c ∙ same_some (both_parts (trees_behind p n) (Some n) m t).1
@@ -132,10 +142,13 @@ counted {source = source} n m (is_more {p = p} x y e) c t =
 counted {source = source} n m (is_form {f = f} {r = r} {s = s} {t = u} x e g) c t =
     let parts = if_parts (is_single f) (n + 1) m t in
     joined r.trees s.trees u.trees n m c (counted 0 1 x refl (one_behind f parts.0)) parts.1 (trees_are g)
-counted {source = source} n m (is_node {positioning = positioning} {kind = kind} {r = r} {s = s} {t = u} {a = a} {l = l} x e g) c t = one_more r.trees s.trees (node kind (positioned positioning source a l u.trees) l u.trees) n m c t (trees_are g)
+counted {source = source} n m (is_node {positioning = positioning} {kind = kind} {r = r} {s = s} {t = u} {a = a} {l = l} x e g) c t =
+    one_more r.trees s.trees (node kind (positioned positioning source a l u.trees) l u.trees) n m c t (trees_are g)
 counted {source = source} n m (is_wrap x e g) c t = ap count_trees (trees_are g) ∙ same_some t
-counted {source = source} n m (is_kept_apart {kind = kind} {r = r} {s = s} {t = u} {a = a} {lambda = lambda} e x f o y i g h j) c t = one_more r.trees s.trees (node kind (position_at source a) (Some lambda) u.trees) n m c t (trees_are j)
-counted {source = source} n m (is_in_tree {kind = kind} {r = r} {s = s} {u = u} {a = a} {l = l} e x y f g) c t = one_more r.trees s.trees (node kind (position_at source a) l u.trees) n m c t (trees_are g)
+counted {source = source} n m (is_kept_apart {kind = kind} {r = r} {s = s} {t = u} {a = a} {lambda = lambda} e x f o y i g h j) c t =
+    one_more r.trees s.trees (node kind (position_at source a) (Some lambda) u.trees) n m c t (trees_are j)
+counted {source = source} n m (is_in_tree {kind = kind} {r = r} {s = s} {u = u} {a = a} {l = l} e x y f g) c t =
+    one_more r.trees s.trees (node kind (position_at source a) l u.trees) n m c t (trees_are g)
 counted {source = source} n m (is_where x e) c t = counted n m x c t
 counted {source = source} n m (is_before x e) c t = counted n m x c t
 counted {source = source} n m (is_if l x) c t = counted n m x c t
@@ -149,5 +162,6 @@ one_of (more t (more u us)) e = absurd (omega (arith, e))
 abbrev one_if : Bool → Option ℕ
 one_if b = if b then Some (0 + 1) else None
 
-pub one_tree_of : {lookahead : Lookahead → ℕ → Type 0} {bodies : Bodies} {source : Source} {f : Nonterminal} {r : Read} {a b : ℕ} {k : Option ℕ} → Derives lookahead bodies source (form f) no_read a b k r → is_single f ≡ true → (t : Tree) × (r.trees ≡ one_tree t)
+pub one_tree_of : {lookahead : Lookahead → ℕ → Type 0} {bodies : Bodies} {source : Source} {f : Nonterminal} {r : Read} {a b : ℕ} {k : Option ℕ}
+    → Derives lookahead bodies source (form f) no_read a b k r → is_single f ≡ true → (t : Tree) × (r.trees ≡ one_tree t)
 one_tree_of {f = f} {r = r} x e = one_of r.trees (counted 0 1 x refl (ap one_if e))

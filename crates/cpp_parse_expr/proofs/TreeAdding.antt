@@ -3,9 +3,13 @@ use Rattle.std.proofs.Common.{◌≡◌, ℕ, zero, suc, inl, inr, Bool, true, f
 use Rattle.std.proofs.lemmas.Bool.{and_parts, or_cases}
 use Rattle.cpp_ast.specs.Trees.{Trees, none, more}
 use Rattle.cpp_syntax.specs.Source.{Source}
-use Rattle.cpp_syntax.specs.Rules.{Nonterminal, primary_expression, lambda_expression, postfix_expression, unary_expression, cast_expression, binary_expression, conditional_expression, assignment_expression, expression, Lookahead, Rule, nothing, word, mark, mark_next, mark_name, ◌·◌, ◌∣◌, many, form, node_at, wrap, with_body, where_, before_no, if_, unless}
+use Rattle.cpp_syntax.specs.Rules.{Nonterminal, primary_expression, lambda_expression, postfix_expression, unary_expression, cast_expression}
+use Rattle.cpp_syntax.specs.Rules.{binary_expression, conditional_expression, assignment_expression, expression, Lookahead, Rule, nothing, word, mark}
+use Rattle.cpp_syntax.specs.Rules.{mark_next, mark_name, ◌·◌, ◌∣◌, many, form, node_at, wrap, with_body, where_, before_no, if_, unless}
 use Rattle.cpp_syntax.specs.Grammar.{production}
-use Rattle.cpp_syntax.specs.Derivations.{Read, join, position_of_first, Bodies, Derives, is_nothing, is_word, is_mark, is_mark_next, is_mark_name, is_both, is_left, is_right, is_last, is_more, is_form, is_node, is_wrap, is_kept_apart, is_in_tree, is_where, is_before, is_if, is_unless}
+use Rattle.cpp_syntax.specs.Derivations.{Read, join, position_of_first, Bodies, Derives, is_nothing, is_word, is_mark, is_mark_next, is_mark_name}
+use Rattle.cpp_syntax.specs.Derivations.{is_both, is_left, is_right, is_last, is_more, is_form, is_node, is_wrap, is_kept_apart, is_in_tree, is_where}
+use Rattle.cpp_syntax.specs.Derivations.{is_before, is_if, is_unless}
 use Rattle.cpp_syntax.specs.Parsed.{has_trees}
 
 -- forms of which each text adds a tree
@@ -69,7 +73,8 @@ same_trees : {s r : Read} → s ≡ r → has_trees r.trees ≡ true → has_tre
 same_trees e h = ap (λ (z : Read). has_trees z.trees) e ∙ h
 
 -- what was read before stays read
-pub keeps_trees : {lookahead : Lookahead → ℕ → Type 0} {bodies : Bodies} {source : Source} {p : Rule} {r s : Read} {a b : ℕ} {k : Option ℕ} → Derives lookahead bodies source p r a b k s → has_trees r.trees ≡ true → has_trees s.trees ≡ true
+pub keeps_trees : {lookahead : Lookahead → ℕ → Type 0} {bodies : Bodies} {source : Source} {p : Rule} {r s : Read} {a b : ℕ} {k : Option ℕ}
+    → Derives lookahead bodies source p r a b k s → has_trees r.trees ≡ true → has_trees s.trees ≡ true
 keeps_trees (is_nothing e f g) h = same_trees g h
 keeps_trees (is_word t e f g) h = same_trees g h
 keeps_trees (is_mark t e f g) h = same_trees g h
@@ -90,7 +95,8 @@ keeps_trees (is_before x e) h = keeps_trees x h
 keeps_trees (is_if l x) h = keeps_trees x h
 keeps_trees (is_unless l x) h = keeps_trees x h
 
-pub filled : {lookahead : Lookahead → ℕ → Type 0} {bodies : Bodies} {source : Source} {p : Rule} {r s : Read} {a b : ℕ} {k : Option ℕ} → Derives lookahead bodies source p r a b k s → adds_tree p ≡ true → has_trees s.trees ≡ true
+pub filled : {lookahead : Lookahead → ℕ → Type 0} {bodies : Bodies} {source : Source} {p : Rule} {r s : Read} {a b : ℕ} {k : Option ℕ}
+    → Derives lookahead bodies source p r a b k s → adds_tree p ≡ true → has_trees s.trees ≡ true
 filled (is_nothing e f g) i = absurd (true≢false (back i))
 filled (is_word t e f g) i = absurd (true≢false (back i))
 filled (is_mark t e f g) i = absurd (true≢false (back i))

@@ -1,5 +1,6 @@
 -- The heights of trees, kid by kid.
-use Rattle.std.proofs.Common.{◌≡◌, ℕ, ◌+◌, ◌-◌, ◌<◌, ◌≤◌, max, List, [], ◌∷◌, ◌++◌, length, drop, get_or, slice_get, Some, sym, ◌∙◌, ap, subst, arith, inl, inr, length-append}
+use Rattle.std.proofs.Common.{◌≡◌, ℕ, ◌+◌, ◌-◌, ◌<◌, ◌≤◌, max, List, [], ◌∷◌, ◌++◌, length, drop, get_or, slice_get, Some, sym, ◌∙◌, ap, subst, arith}
+use Rattle.std.proofs.Common.{inl, inr, length-append}
 use Rattle.std.proofs.lemmas.Bool.{cases_lt}
 use Rattle.std.proofs.lemmas.List.{get_or_append_left, get_or_push, get_or_past}
 use Rattle.std.proofs.Common.{Less, Equal, Greater, nat_cmp, cond}
@@ -21,7 +22,9 @@ pub record Reaching (nodes : List Node) (ids : List NodeId) (i reached : ℕ) (t
 pub reaching_none : (nodes : List Node) (ids : List NodeId) (trees : Trees) → ShowsAll nodes ids trees → Reaching nodes ids 0 0 trees
 reaching_none nodes ids trees s = record { rest = trees; shows = s; same = omega arith }
 
-pub reaching_more : (nodes : List Node) (ids : List NodeId) (i reached reach : ℕ) (id d : NodeId) (trees : Trees) → i < length ids → id ≡ get_or ids i d → ((tree : Tree) → Shows nodes id.0 tree → reach ≡ step (kind_of tree) + height tree) → Reaching nodes ids i reached trees → Reaching nodes ids (i + 1) (max reached reach) trees
+pub reaching_more : (nodes : List Node) (ids : List NodeId) (i reached reach : ℕ) (id d : NodeId) (trees : Trees) → i < length ids
+    → id ≡ get_or ids i d → ((tree : Tree) → Shows nodes id.0 tree → reach ≡ step (kind_of tree) + height tree) → Reaching nodes ids i reached trees
+    → Reaching nodes ids (i + 1) (max reached reach) trees
 reaching_more nodes ids i reached reach id d trees inside at known r =
     let f = front_at nodes ids i id d r.rest inside at r.shows in
     let here : reach ≡ step (kind_of f.first) + height f.first = known f.first f.shows in
@@ -33,18 +36,24 @@ reaching_more nodes ids i reached reach id d trees inside at known r =
       same = omega (arith, here, whole, before);
     }
 
-pub reaching_all : (nodes : List Node) (ids : List NodeId) (i reached : ℕ) (trees : Trees) → length ids ≤ i → Reaching nodes ids i reached trees → reached ≡ height_in trees
+pub reaching_all : (nodes : List Node) (ids : List NodeId) (i reached : ℕ) (trees : Trees) → length ids ≤ i → Reaching nodes ids i reached trees
+    → reached ≡ height_in trees
 reaching_all nodes ids i reached trees past r =
     let over : height_in r.rest ≡ 0 = ap height_in (none_past nodes ids i r.rest past r.shows) in
     let before : height_in trees ≡ max reached (height_in r.rest) = r.same in
     omega (arith, over, before)
 
-pub reach_of : (nodes : List Node) (first : ℕ) (heights : List ℕ) (id : ℕ) (found : Node) (tree : Tree) → AreHeights nodes first heights → first ≤ id → id < first + length heights → Shows nodes id tree → get_or heights (id - first) 0 ≡ height tree
+pub reach_of : (nodes : List Node) (first : ℕ) (heights : List ℕ) (id : ℕ) (found : Node) (tree : Tree) → AreHeights nodes first heights → first ≤ id
+    → id < first + length heights → Shows nodes id tree → get_or heights (id - first) 0 ≡ height tree
 reach_of nodes first heights id found tree known from below s =
-    known.each (id - first) tree (omega (arith, from, below)) (subst (λ (k : ℕ). Shows nodes k tree) (let e : id ≡ first + (id - first) = omega (arith, from) in e) s)
+    known.each (id - first) tree (omega (arith, from, below)) (subst (λ (k : ℕ). Shows nodes k tree)
+    (let e : id ≡ first + (id - first) = omega (arith, from) in e) s)
 
 -- the height of one node more
-pub heights_more : (nodes : List Node) (first : ℕ) (heights : List ℕ) (found : Node) (more : ℕ) → AreHeights nodes first heights → slice_get nodes (first + length heights) ≡ Some found → first + length heights < length nodes → ((trees : Trees) → ShowsAll nodes found.kids.items trees → more ≡ height_in trees) → more ≤ length heights → AreHeights nodes first (heights ++ more ∷ [])
+pub heights_more : (nodes : List Node) (first : ℕ) (heights : List ℕ) (found : Node) (more : ℕ) → AreHeights nodes first heights
+    → slice_get nodes (first + length heights) ≡ Some found → first + length heights < length nodes
+    → ((trees : Trees) → ShowsAll nodes found.kids.items trees → more ≡ height_in trees) → more ≤ length heights
+    → AreHeights nodes first (heights ++ more ∷ [])
 heights_more nodes first heights found new known stands inside greatest least =
     let longer : length (heights ++ new ∷ []) ≡ length heights + 1 = length-append heights (new ∷ []) in
     record {

@@ -2,8 +2,11 @@
 use Rattle.std.proofs.Common.{◌≡◌, ℕ, Bool, true, false, ◌&&◌, sym as back, ◌∙◌, ap₂, subst, Option, None, true≢false}
 use Rattle.std.proofs.lemmas.Bool.{and_parts}
 use Rattle.cpp_syntax.specs.Source.{Source}
-use Rattle.cpp_syntax.specs.Rules.{Lookahead, Rule, nothing, word, mark, mark_next, mark_name, ◌·◌, ◌∣◌, many, form, node_at, wrap, with_body, where_, before_no, if_, unless}
-use Rattle.cpp_syntax.specs.Derivations.{Read, first_or, Bodies, Derives, is_nothing, is_word, is_mark, is_mark_next, is_mark_name, is_both, is_left, is_right, is_last, is_more, is_form, is_node, is_wrap, is_kept_apart, is_in_tree, is_where, is_before, is_if, is_unless}
+use Rattle.cpp_syntax.specs.Rules.{Lookahead, Rule, nothing, word, mark, mark_next, mark_name, ◌·◌, ◌∣◌, many, form, node_at, wrap, with_body, where_}
+use Rattle.cpp_syntax.specs.Rules.{before_no, if_, unless}
+use Rattle.cpp_syntax.specs.Derivations.{Read, first_or, Bodies, Derives, is_nothing, is_word, is_mark, is_mark_next, is_mark_name, is_both, is_left}
+use Rattle.cpp_syntax.specs.Derivations.{is_right, is_last, is_more, is_form, is_node, is_wrap, is_kept_apart, is_in_tree, is_where, is_before, is_if}
+use Rattle.cpp_syntax.specs.Derivations.{is_unless}
 use Rattle.cpp_syntax.specs.View.{BuilderState}
 use Rattle.cpp_syntax.specs.Parsed.{ReadsLongest}
 
@@ -28,7 +31,8 @@ marks_none (with_body kind p) = true
 both_none : {j k l : Option ℕ} → k ≡ None → l ≡ None → j ≡ first_or k l → j ≡ None
 both_none e f g = g ∙ ap₂ first_or e f
 
-pub unmarked : {lookahead : Lookahead → ℕ → Type 0} {bodies : Bodies} {source : Source} {p : Rule} {r s : Read} {a b : ℕ} {k : Option ℕ} → Derives lookahead bodies source p r a b k s → marks_none p ≡ true → k ≡ None
+pub unmarked : {lookahead : Lookahead → ℕ → Type 0} {bodies : Bodies} {source : Source} {p : Rule} {r s : Read} {a b : ℕ} {k : Option ℕ}
+    → Derives lookahead bodies source p r a b k s → marks_none p ≡ true → k ≡ None
 unmarked (is_nothing e f g) i = f
 unmarked (is_word t e f g) i = f
 unmarked (is_mark t e f g) i = absurd (true≢false (back i))
@@ -50,5 +54,6 @@ unmarked (is_if l x) i = unmarked x i
 unmarked (is_unless l x) i = unmarked x i
 
 -- what was read of such a rule
-pub reads_unmarked : {s : Source} {p : Rule} {a b : ℕ} {k : Option ℕ} {v w : BuilderState} → ReadsLongest s p a b k v w → marks_none p ≡ true → ReadsLongest s p a b None v w
+pub reads_unmarked : {s : Source} {p : Rule} {a b : ℕ} {k : Option ℕ} {v w : BuilderState} → ReadsLongest s p a b k v w → marks_none p ≡ true
+    → ReadsLongest s p a b None v w
 reads_unmarked {s = s} {p = p} {a = a} {b = b} {v = v} {w = w} x e = subst (λ (k : Option ℕ). ReadsLongest s p a b k v w) (unmarked (x.long).derives e) x

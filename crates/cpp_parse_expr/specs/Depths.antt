@@ -1,5 +1,6 @@
 -- How deep the nodes of a tree lie.
-use Rattle.std.specs.Prelude.{◌≡◌, ℕ, ◌+◌, ◌-◌, Bool, ◌<◌, ◌≤◌, max, nat_lt, nat_le, true, if◌then◌else◌, List, length, drop, slice_get, slice_index, Option, Some, None}
+use Rattle.std.specs.Prelude.{◌≡◌, ℕ, ◌+◌, ◌-◌, Bool, ◌<◌, ◌≤◌, max, nat_lt, nat_le, true, if◌then◌else◌, List, length, drop, slice_get, slice_index}
+use Rattle.std.specs.Prelude.{Option, Some, None}
 use Rattle.std.specs.List.{list_all}
 use Rattle.cpp_ast.specs.declared.kinds.NodeKind.{NodeKind}
 use Rattle.cpp_ast.specs.declared.arena.At.{At}
@@ -48,7 +49,8 @@ pub record IsKid (nodes : List Node) (holder id : ℕ) : Type 0 where
 -- A node lies below a root, and this is its depth where the root has a depth.
 pub data Path (nodes : List Node) (root depth : ℕ) : ℕ → ℕ → Type 0 where
   at_root : {id d : ℕ} → id ≡ root → d ≡ depth → Path nodes root depth id d
-  to_kid : {holder id above d : ℕ} {kid : Node} → Path nodes root depth holder above → IsKid nodes holder id → slice_get nodes id ≡ Some kid → d ≡ kid_depth above kid.kind → Path nodes root depth id d
+  to_kid : {holder id above d : ℕ} {kid : Node} → Path nodes root depth holder above → IsKid nodes holder id → slice_get nodes id ≡ Some kid
+      → d ≡ kid_depth above kid.kind → Path nodes root depth id d
 
 -- each of these ids is an index or stands behind it
 abbrev pub are_from : ℕ → List NodeId → Bool
@@ -87,7 +89,8 @@ pub record HasDeep (nodes : List Node) (id limit depth : ℕ) (trees : Trees) : 
 -- Kids were given their depths, in a node of a depth, and no other number was changed.
 pub record HandsDown (nodes : List Node) (first : ℕ) (kids : List NodeId) (depth : ℕ) (old new : List ℕ) : Type 0 where
   pub many : length new ≡ length old
-  pub given : (k : ℕ) (kid : NodeId) (n : Node) → slice_get kids k ≡ Some kid → slice_get nodes kid.0 ≡ Some n → slice_index new (kid.0 - first) ≡ kid_depth depth n.kind
+  pub given : (k : ℕ) (kid : NodeId) (n : Node) → slice_get kids k ≡ Some kid → slice_get nodes kid.0 ≡ Some n
+      → slice_index new (kid.0 - first) ≡ kid_depth depth n.kind
   pub kept : (i : ℕ) → ((k : ℕ) (kid : NodeId) → slice_get kids k ≡ Some kid → kid.0 - first ≡ i → ⊥) → slice_index new i ≡ slice_index old i
 
 -- the numbers are so low that they may grow on the way down from each index

@@ -5,15 +5,18 @@ ghost use Rattle.cpp_ast.specs.declared.kinds.NodeKind.TheVariants.{CvQualifier}
 ghost use Rattle.cpp_syntax.specs.Source.{terminal_at};
 ghost use Rattle.cpp_syntax.specs.Terminals.{star, amp, open_bracket, const_word};
 ghost use Rattle.cpp_syntax.specs.Names.{naming_of};
-ghost use Rattle.cpp_syntax.specs.Rules.{◌·◌, form, many, optional, whole, type_id, declarator, direct_declarator, conditional_expression, function_qualifiers, parameter_declaration_clause, parameter_declaration};
-ghost use Rattle.cpp_syntax.specs.Grammar.{leaf, omitted_id, array_suffix, pointer_declarator, reference_declarator, declarator_head, declarator_id, parenthesized_declarator, array_bound, tx_qualifier, noexcept_specification, parameter_list, parameters_behind, suffix};
+ghost use Rattle.cpp_syntax.specs.Rules.{◌·◌, form, many, optional, whole, type_id, declarator, direct_declarator, conditional_expression};
+ghost use Rattle.cpp_syntax.specs.Rules.{function_qualifiers, parameter_declaration_clause, parameter_declaration};
+ghost use Rattle.cpp_syntax.specs.Grammar.{leaf, omitted_id, array_suffix, pointer_declarator, reference_declarator, declarator_head, declarator_id};
+ghost use Rattle.cpp_syntax.specs.Grammar.{parenthesized_declarator, array_bound, tx_qualifier, noexcept_specification, parameter_list};
+ghost use Rattle.cpp_syntax.specs.Grammar.{parameters_behind, suffix};
 ghost use Rattle.cpp_syntax.specs.Parsed.{ParsesLongest, ParsesAlways, ParsesAlwaysBehind};
 ghost use Rattle.cpp_syntax.specs.declared.limits.TheConstants.{MAX_TOKENS};
 
 use crate::expressions::conditional_expression;
 use crate::types::{cv_qualifiers, type_name, type_specifier_seq};
 use cpp_ast::NodeKind;
-use cpp_syntax::read::{wrap, leaf, node, node_at_name};
+use cpp_syntax::read::{leaf, node, node_at_name, wrap};
 use cpp_syntax::shapes::descend;
 use cpp_syntax::{Builder, Checkpoint, Naming, Terminal, TypeNames};
 use std::alloc::AllocError;

@@ -21,7 +21,10 @@ fn faults_stand_at_slips(rt: HostRuntime) -> Result<(), Fail> {
         ("int f(int); int main() { int y = f(1", "; return 0; }"),
         ("int main() { const int x ", "3; }"),
         ("int main() { int x = 1, ", "2; }"),
-        ("int g(int); int main() { auto f = [](int a) { return g(a", "; }; return f(1); }"),
+        (
+            "int g(int); int main() { auto f = [](int a) { return g(a",
+            "; }; return f(1); }",
+        ),
         ("int main() { int ", "= 1; }"),
         ("int main() { int x = ", "= 1; }"),
         ("int main() { int x ", "y; }"),

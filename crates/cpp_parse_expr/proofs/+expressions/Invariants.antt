@@ -157,7 +157,9 @@ abbrev pub decreases-types::type_specifier_seq : goal.decreases-types::type_spec
 decreases-types::type_specifier_seq l = l.depth_left * 64 + 12
 
 abbrev pub invariant-expressions::expression-operands : goal.invariant-expressions::expression-operands
-invariant-expressions::expression-operands l = IsMark l.start l.fn.out × ReadsChain l.text (form assignment_expression) (wrap CommaExpression (mark comma · form assignment_expression)) l.at l.next l.fn.out l.out
+invariant-expressions::expression-operands l =
+    IsMark l.start l.fn.out × ReadsChain l.text (form assignment_expression) (wrap CommaExpression (mark comma · form assignment_expression)) l.at
+    l.next l.fn.out l.out
 
 abbrev pub decreases-expressions::expression-operands : goal.decreases-expressions::expression-operands
 decreases-expressions::expression-operands l = length l.text.terminals - l.next
@@ -178,19 +180,24 @@ abbrev pub invariant-expressions::binary_expression-levels : goal.invariant-expr
 invariant-expressions::binary_expression-levels l = IsMark l.start l.fn.out × ReadsForm l.text (binary_expression l.below) l.at l.next l.fn.out l.out
 
 abbrev pub invariant-expressions::binary_expression-operands : goal.invariant-expressions::binary_expression-operands
-invariant-expressions::binary_expression-operands l = IsMark l.start l.fn.out × ReadsChain l.text (form (binary_expression l.below)) (operated l.below) l.at l.next l.fn.out l.out
+invariant-expressions::binary_expression-operands l =
+    IsMark l.start l.fn.out × ReadsChain l.text (form (binary_expression l.below)) (operated l.below) l.at l.next l.fn.out l.out
 
 abbrev pub decreases-expressions::binary_expression-operands : goal.decreases-expressions::binary_expression-operands
 decreases-expressions::binary_expression-operands l = length l.text.terminals - l.next
 
 abbrev pub invariant-declarators::parameters-items : goal.invariant-declarators::parameters-items
-invariant-declarators::parameters-items l = (x : ReadsChain l.text (form (parameter_declaration whole)) (word comma · form (parameter_declaration whole)) l.at l.next l.fn.out l.out) × (x.marked ≡ None)
+invariant-declarators::parameters-items l =
+    (x : ReadsChain l.text (form (parameter_declaration whole)) (word comma · form (parameter_declaration whole)) l.at l.next l.fn.out l.out) ×
+    (x.marked ≡ None)
 
 abbrev pub decreases-declarators::parameters-items : goal.decreases-declarators::parameters-items
 decreases-declarators::parameters-items l = length l.text.terminals - l.next
 
 abbrev pub invariant-declarators::suffixes-suffixes : goal.invariant-declarators::suffixes-suffixes
-invariant-declarators::suffixes-suffixes l = (l.next ≤ length l.text.terminals) × ((before : BuilderState) (read : Read) → IsMark l.start before → l.fn.out ≡ appended before read → has_trees read.trees ≡ true → (x : ReadsMany l.text (suffix whole (naming_of l.naming)) before read l.at l.next l.out) × (has_trees (x.got).trees ≡ true))
+invariant-declarators::suffixes-suffixes l =
+    (l.next ≤ length l.text.terminals) × ((before : BuilderState) (read : Read) → IsMark l.start before → l.fn.out ≡ appended before read → has_trees
+    read.trees ≡ true → (x : ReadsMany l.text (suffix whole (naming_of l.naming)) before read l.at l.next l.out) × (has_trees (x.got).trees ≡ true))
 
 abbrev pub decreases-declarators::suffixes-suffixes : goal.decreases-declarators::suffixes-suffixes
 decreases-declarators::suffixes-suffixes l = length l.text.terminals - l.next

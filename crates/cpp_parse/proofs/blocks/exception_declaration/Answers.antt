@@ -16,4 +16,6 @@ returns-then-is_at c =
     reads_right (none_unlike ellipsis u refl refl) (leaf_there u (c.if-is_at.ensures.inside refl refl) c.in_ok-leaf.ensures)
 
 pub returns : goal.returns
-returns c = parsed_left _ _ _ _ _ _ _ c.parameter_declaration.result (none_node (mark_none (refused ellipsis terminal.Ellipsis refl _ (c.if-is_at.ensures.no refl)))) c.parameter_declaration.ensures
+returns c =
+    parsed_left _ _ _ _ _ _ _ c.parameter_declaration.result (none_node (mark_none (refused ellipsis terminal.Ellipsis refl _
+    (c.if-is_at.ensures.no refl)))) c.parameter_declaration.ensures

@@ -8,10 +8,19 @@ use Rattle.cpp_parse_expr.proofs.ReaderAnswers.{word_and, none_second}
 use Rattle.cpp_parse.proofs.classes.braced_enumerators.Goals as goal
 
 pub returns-then-not-is_at : goal.returns-then-not-is_at
-returns-then-not-is_at c = (leaves_same c.expected_at.ensures, seq_none (word_none (refused open_brace terminal.OpenBrace refl _ (c.if-not-is_at.ensures.no refl))))
+returns-then-not-is_at c =
+    (leaves_same c.expected_at.ensures, seq_none (word_none (refused open_brace terminal.OpenBrace refl _ (c.if-not-is_at.ensures.no refl))))
 
 pub returns-then-not-is_at-2 : goal.returns-then-not-is_at-2
-returns-then-not-is_at-2 c = (leaves_both (leaves_read c.in_ok-close.ensures) (leaves_same c.expected_at-then-not-is_at-2.ensures), none_second (none_behind c.in_ok-close.ensures (word_none (refused close_brace terminal.CloseBrace refl _ (c.if-not-is_at-2.ensures.no refl))) refl refl refl))
+returns-then-not-is_at-2 c = (
+  leaves_both (leaves_read c.in_ok-close.ensures) (leaves_same c.expected_at-then-not-is_at-2.ensures),
+  none_second
+      (none_behind c.in_ok-close.ensures (word_none (refused close_brace terminal.CloseBrace refl _ (c.if-not-is_at-2.ensures.no refl))) refl refl
+      refl),
+)
 
 pub returns : goal.returns
-returns c = word_and (passed open_brace terminal.OpenBrace refl _ (c.if-not-is_at.ensures.yes refl)) (c.if-not-is_at.ensures.inside refl refl) (reads_seq c.in_ok-close.ensures (reads_word (passed close_brace terminal.CloseBrace refl _ (c.if-not-is_at-2.ensures.yes refl)) (c.if-not-is_at-2.ensures.inside refl refl)) refl refl) refl refl
+returns c =
+    word_and (passed open_brace terminal.OpenBrace refl _ (c.if-not-is_at.ensures.yes refl)) (c.if-not-is_at.ensures.inside refl refl)
+    (reads_seq c.in_ok-close.ensures (reads_word (passed close_brace terminal.CloseBrace refl _ (c.if-not-is_at-2.ensures.yes refl))
+    (c.if-not-is_at-2.ensures.inside refl refl)) refl refl) refl refl

@@ -9,7 +9,11 @@ pub returns-then-not-is_name_at : goal.returns-then-not-is_name_at
 returns-then-not-is_name_at c = (leaves_same c.expected_at.ensures, form_none (node_none (seq_none (mark_none (back c.if-not-is_name_at.ensures.test)))))
 
 pub returns-in_err-node_at_token : goal.returns-in_err-node_at_token
-returns-in_err-node_at_token c = parsed_err _ _ _ _ c.from_residual-in_err-node_at_token.result c.from_residual-in_err-node_at_token.ensures.0 (leaves_both (leaves_read c.in_ok-next.ensures) (leaves_same c.in_err-node_at_token.ensures.memory))
+returns-in_err-node_at_token c =
+    parsed_err _ _ _ _ c.from_residual-in_err-node_at_token.result c.from_residual-in_err-node_at_token.ensures.0
+    (leaves_both (leaves_read c.in_ok-next.ensures) (leaves_same c.in_err-node_at_token.ensures.memory))
 
 pub returns : goal.returns
-returns c = reads_form (made_at_token (mark_and (back c.if-not-is_name_at.ensures.test) (c.if-not-is_name_at.ensures.inside refl) (c.in_ok-next.ensures) refl refl) c.checkpoint-start.ensures c.in_ok-node_at_token.ensures.read)
+returns c =
+    reads_form (made_at_token (mark_and (back c.if-not-is_name_at.ensures.test) (c.if-not-is_name_at.ensures.inside refl) (c.in_ok-next.ensures) refl
+    refl) c.checkpoint-start.ensures c.in_ok-node_at_token.ensures.read)

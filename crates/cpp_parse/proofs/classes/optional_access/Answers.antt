@@ -10,4 +10,6 @@ pub returns-then-not-is_access_at : goal.returns-then-not-is_access_at
 returns-then-not-is_access_at c = reads_left_out (none_node (mark_none (back c.if-not-is_access_at.ensures.test))) c.requires.here refl
 
 pub returns : goal.returns
-returns c = always_taken _ _ _ _ _ _ _ refl (always_leaf _ AccessSpecifier is_access _ _ _ _ (back c.if-not-is_access_at.ensures.test) (c.if-not-is_access_at.ensures.inside refl) c.leaf.ensures)
+returns c =
+    always_taken _ _ _ _ _ _ _ refl (always_leaf _ AccessSpecifier is_access _ _ _ _ (back c.if-not-is_access_at.ensures.test)
+    (c.if-not-is_access_at.ensures.inside refl) c.leaf.ensures)

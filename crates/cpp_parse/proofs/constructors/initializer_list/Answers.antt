@@ -18,7 +18,9 @@ pub items-init : goal.items-init
 items-init c = (loop_begins (rw c.in-Some.is at c.in_ok-first.ensures) refl, refl)
 
 pub returns-in_err-behind : goal.returns-in_err-behind
-returns-in_err-behind c = parsed_err _ _ _ _ c.from_residual-in_err-behind.result c.from_residual-in_err-behind.ensures.0 (leaves_both (leaves_chain c.items.invariant.0) c.in_err-behind.ensures)
+returns-in_err-behind c =
+    parsed_err _ _ _ _ c.from_residual-in_err-behind.result c.from_residual-in_err-behind.ensures.0
+    (leaves_both (leaves_chain c.items.invariant.0) c.in_err-behind.ensures)
 
 pub returns-in_default-2 : goal.returns-in_default-2
 returns-in_default-2 c =
@@ -26,7 +28,14 @@ returns-in_default-2 c =
     chain_done c.items.invariant.0 c.items.invariant.1 (none_second y.1) refl (c.cut.ensures _ _ c.checkpoint-mark.ensures (y.0).gained)
 
 pub items-preserved : goal.items-preserved
-items-preserved c = (loop_more c.items.invariant.0 (word_and (passed comma terminal.Comma refl _ (c.items-test.ensures.yes refl)) (c.items-test.ensures.inside refl refl) (rw c.in-Some-2.is at c.in_ok-behind.ensures) refl refl) refl refl refl, ap (λ (k : Option ℕ). first_or k None) c.items.invariant.1)
+items-preserved c = (
+  loop_more c.items.invariant.0 (word_and (passed comma terminal.Comma refl _ (c.items-test.ensures.yes refl))
+      (c.items-test.ensures.inside refl refl) (rw c.in-Some-2.is at c.in_ok-behind.ensures) refl refl) refl refl refl,
+  ap
+      (λ (k : Option ℕ). first_or k None) c.items.invariant.1,
+)
 
 pub returns : goal.returns
-returns c = chain_done c.items.invariant.0 c.items.invariant.1 (seq_none (word_none (refused comma terminal.Comma refl _ (c.items-test.ensures.no refl)))) refl refl
+returns c =
+    chain_done c.items.invariant.0 c.items.invariant.1 (seq_none (word_none (refused comma terminal.Comma refl _ (c.items-test.ensures.no refl))))
+    refl refl

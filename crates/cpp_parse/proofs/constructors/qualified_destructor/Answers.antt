@@ -12,7 +12,9 @@ returns-in_default c =
     (x.0, none_form (seq_none x.1))
 
 pub returns-in_err-next : goal.returns-in_err-next
-returns-in_err-next c = parsed_err _ _ _ _ c.from_residual-in_err-next.result c.from_residual-in_err-next.ensures.0 (leaves_both (leaves_read (rw c.in-Some.is at c.in_ok-behind.ensures)) c.in_err-next.ensures)
+returns-in_err-next c =
+    parsed_err _ _ _ _ c.from_residual-in_err-next.result c.from_residual-in_err-next.ensures.0
+    (leaves_both (leaves_read (rw c.in-Some.is at c.in_ok-behind.ensures)) c.in_err-next.ensures)
 
 pub returns-in_default-2 : goal.returns-in_default-2
 returns-in_default-2 c =
@@ -23,7 +25,9 @@ returns-in_default-2 c =
 pub returns-in_err-wrap_parameters : goal.returns-in_err-wrap_parameters
 returns-in_err-wrap_parameters c =
     let read_behind = rw c.in-Some.is at c.in_ok-behind.ensures in
-    parsed_err _ _ _ _ c.from_residual-in_err-wrap_parameters.result c.from_residual-in_err-wrap_parameters.ensures.0 (leaves_both (leaves_read read_behind) (leaves_both (leaves_read (rw c.in-Some-2.is at c.in_ok-next.ensures)) (leaves_same c.in_err-wrap_parameters.ensures.memory)))
+    parsed_err _ _ _ _ c.from_residual-in_err-wrap_parameters.result c.from_residual-in_err-wrap_parameters.ensures.0
+    (leaves_both (leaves_read read_behind) (leaves_both (leaves_read (rw c.in-Some-2.is at c.in_ok-next.ensures))
+    (leaves_same c.in_err-wrap_parameters.ensures.memory)))
 
 pub returns : goal.returns
 returns c =

@@ -10,4 +10,6 @@ pub returns-then-not-is_at : goal.returns-then-not-is_at
 returns-then-not-is_at c = seq_none (word_none (refused extern_word terminal.Extern refl _ (c.if-not-is_at.ensures.no refl)))
 
 pub returns : goal.returns
-returns c = linkage_seen c.args.text.now c.args.at c.is_at-2.result (passed extern_word terminal.Extern refl _ (c.if-not-is_at.ensures.yes refl)) c.is_at-2.ensures.yes c.is_at-2.ensures.no
+returns c =
+    linkage_seen c.args.text.now c.args.at c.is_at-2.result (passed extern_word terminal.Extern refl _ (c.if-not-is_at.ensures.yes refl))
+    c.is_at-2.ensures.yes c.is_at-2.ensures.no

@@ -12,7 +12,8 @@ pub declarations-init : goal.declarations-init
 declarations-init c = (any_begins (appended_none c.args.out.now) c.requires.here, refl)
 
 pub returns-in_err-behind : goal.returns-in_err-behind
-returns-in_err-behind c = always_err _ _ _ _ c.from_residual.result c.from_residual.ensures.0 (leaves_both (leaves_any c.declarations.invariant.0) c.in_err-behind.ensures)
+returns-in_err-behind c =
+    always_err _ _ _ _ c.from_residual.result c.from_residual.ensures.0 (leaves_both (leaves_any c.declarations.invariant.0) c.in_err-behind.ensures)
 
 pub returns-in_default : goal.returns-in_default
 returns-in_default c =

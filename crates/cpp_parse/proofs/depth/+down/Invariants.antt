@@ -13,4 +13,6 @@ abbrev pub decreases-first_deep_kid : goal.decreases-first_deep_kid
 decreases-first_deep_kid l = l.depth_left * 2 + 1
 
 abbrev pub invariant-first_deep_kid-kids : goal.invariant-first_deep_kid-kids
-invariant-first_deep_kid-kids l = (bodies : List LamBody) (trees : Trees) → IsNotedIn bodies l.noted → ShowsAllWith bodies l.nodes l.kids trees → Passing bodies l.nodes l.kids l.kid-index l.limit l.depth trees
+invariant-first_deep_kid-kids l =
+    (bodies : List LamBody) (trees : Trees) → IsNotedIn bodies l.noted → ShowsAllWith bodies l.nodes l.kids trees → Passing bodies l.nodes l.kids
+    l.kid-index l.limit l.depth trees

@@ -17,7 +17,11 @@ returns-in_default c =
     (x.0, none_node (none_second_mark x.1))
 
 pub returns-in_err-node : goal.returns-in_err-node
-returns-in_err-node c = parsed_err _ _ _ _ c.from_residual-in_err-node.result c.from_residual-in_err-node.ensures.0 (leaves_both (leaves_read (rw c.in-Some.is at c.in_ok-next.ensures)) (leaves_same c.in_err-node.ensures.memory))
+returns-in_err-node c =
+    parsed_err _ _ _ _ c.from_residual-in_err-node.result c.from_residual-in_err-node.ensures.0
+    (leaves_both (leaves_read (rw c.in-Some.is at c.in_ok-next.ensures)) (leaves_same c.in_err-node.ensures.memory))
 
 pub returns : goal.returns
-returns c = made (mark_and c.requires.begins (within c.args.text.now c.args.at equal refl c.requires.begins) (rw c.in-Some.is at c.in_ok-next.ensures) refl refl) c.checkpoint-start.ensures c.in_ok-node.ensures.read
+returns c =
+    made (mark_and c.requires.begins (within c.args.text.now c.args.at equal refl c.requires.begins) (rw c.in-Some.is at c.in_ok-next.ensures) refl
+    refl) c.checkpoint-start.ensures c.in_ok-node.ensures.read

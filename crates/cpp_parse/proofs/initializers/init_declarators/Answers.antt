@@ -22,7 +22,9 @@ pub items-init : goal.items-init
 items-init c = loop_begins (rw c.in-Some.is at c.in_ok-first.ensures) (declared_apart (naming_of c.args.naming) c.requires.named)
 
 pub returns-in_err-behind : goal.returns-in_err-behind
-returns-in_err-behind c = parsed_err _ _ _ _ c.from_residual-in_err-behind.result c.from_residual-in_err-behind.ensures.0 (leaves_both (leaves_chain c.items.invariant) c.in_err-behind.ensures)
+returns-in_err-behind c =
+    parsed_err _ _ _ _ c.from_residual-in_err-behind.result c.from_residual-in_err-behind.ensures.0
+    (leaves_both (leaves_chain c.items.invariant) c.in_err-behind.ensures)
 
 pub returns-in_default-2 : goal.returns-in_default-2
 returns-in_default-2 c =
@@ -33,7 +35,8 @@ pub items-preserved : goal.items-preserved
 items-preserved c =
     let x = rw c.in-Some-2.is at c.in_ok-behind.ensures in
     let u = passed comma terminal.Comma refl _ (c.items-test.ensures.yes refl) in
-    loop_more c.items.invariant (word_and u (c.items-test.ensures.inside refl refl) x refl refl) refl refl (more_apart (naming_of c.args.naming) c.requires.named)
+    loop_more c.items.invariant (word_and u (c.items-test.ensures.inside refl refl) x refl refl) refl refl
+    (more_apart (naming_of c.args.naming) c.requires.named)
 
 pub returns : goal.returns
 returns c = reads_unmarked (ended c.items.invariant (λ r. seq_none (word_none (refused comma terminal.Comma refl _ (c.items-test.ensures.no refl)))) refl) refl

@@ -13,8 +13,11 @@ returns-in_default c =
 
 pub returns-then-not-is_at : goal.returns-then-not-is_at
 returns-then-not-is_at c =
-    let x = rw c.in-Some.is at c.in_ok-close.ensures in
-    (leaves_both (leaves_read x) (leaves_same c.expected_at.ensures), none_behind x (word_none (refused semicolon terminal.Semicolon refl _ (c.if-not-is_at.ensures.no refl))) refl refl refl)
+    let x = rw c.in-Some.is at c.in_ok-close.ensures in (
+      leaves_both (leaves_read x) (leaves_same c.expected_at.ensures),
+      none_behind x (word_none
+          (refused semicolon terminal.Semicolon refl _ (c.if-not-is_at.ensures.no refl))) refl refl refl,
+    )
 
 pub returns : goal.returns
 returns c =

@@ -11,7 +11,8 @@ use Rattle.cpp_parse.proofs.loops.optional_expression.Goals as goal
 pub returns-in_err-leaf : goal.returns-in_err-leaf
 returns-in_err-leaf c =
     let x = rw c.in_default.is at c.in_ok-next.ensures in
-    always_err _ _ _ _ c.from_residual-in_err-leaf.result c.from_residual-in_err-leaf.ensures.0 (leaves_both (leaves_same (c.cut.ensures _ _ c.checkpoint-mark.ensures (x.0).gained)) (leaves_same c.in_err-leaf.ensures.memory))
+    always_err _ _ _ _ c.from_residual-in_err-leaf.result c.from_residual-in_err-leaf.ensures.0
+    (leaves_both (leaves_same (c.cut.ensures _ _ c.checkpoint-mark.ensures (x.0).gained)) (leaves_same c.in_err-leaf.ensures.memory))
 
 pub returns-in_default : goal.returns-in_default
 returns-in_default c =

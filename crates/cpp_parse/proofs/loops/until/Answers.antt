@@ -29,4 +29,5 @@ pub returns : goal.returns
 returns c =
     let u = passed while_word terminal.While refl _ (c.if-not-is_at.ensures.yes refl) in
     let v = passed semicolon terminal.Semicolon refl _ (c.if-not-is_at-2.ensures.yes refl) in
-    word_and u (c.if-not-is_at.ensures.inside refl refl) (reads_seq (rw c.in-Some.is at c.in_ok-close.ensures) (reads_word v (c.if-not-is_at-2.ensures.inside refl refl)) refl refl) refl refl
+    word_and u (c.if-not-is_at.ensures.inside refl refl) (reads_seq (rw c.in-Some.is at c.in_ok-close.ensures)
+    (reads_word v (c.if-not-is_at-2.ensures.inside refl refl)) refl refl) refl refl

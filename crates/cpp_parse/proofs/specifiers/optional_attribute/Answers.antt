@@ -17,4 +17,5 @@ returns-in_err-leaf c = always_err _ _ _ _ c.from_residual.result c.from_residua
 pub returns : goal.returns
 returns c =
     let x = rw c.in-Some.is at c.behind_attribute.ensures in
-    reads_taken (attribute_read x (c.in_ok-leaf.ensures.added ∙ ap (λ (z : At). appended c.args.out.now (reads_node Attribute z (Some (c.args.at + 2)) no_read)) c.position.ensures.position)) refl
+    reads_taken (attribute_read x (c.in_ok-leaf.ensures.added ∙ ap (λ (z : At). appended c.args.out.now
+    (reads_node Attribute z (Some (c.args.at + 2)) no_read)) c.position.ensures.position)) refl

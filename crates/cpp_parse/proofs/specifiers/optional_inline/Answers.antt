@@ -9,7 +9,10 @@ use Rattle.cpp_syntax.proofs.LeafReaders.{always_leaf, always_taken}
 use Rattle.cpp_parse.proofs.specifiers.optional_inline.Goals as goal
 
 pub returns-then-not-is_at : goal.returns-then-not-is_at
-returns-then-not-is_at c = reads_left_out (none_node (mark_none (refused inline_word terminal.Inline refl _ (c.if-not-is_at.ensures.no refl)))) c.requires.here refl
+returns-then-not-is_at c =
+    reads_left_out (none_node (mark_none (refused inline_word terminal.Inline refl _ (c.if-not-is_at.ensures.no refl)))) c.requires.here refl
 
 pub returns : goal.returns
-returns c = always_taken _ _ _ _ _ _ _ refl (always_leaf _ DeclSpecifier inline_word _ _ _ _ (passed inline_word terminal.Inline refl _ (c.if-not-is_at.ensures.yes refl)) (c.if-not-is_at.ensures.inside refl refl) c.leaf.ensures)
+returns c =
+    always_taken _ _ _ _ _ _ _ refl (always_leaf _ DeclSpecifier inline_word _ _ _ _ (passed inline_word terminal.Inline refl _
+    (c.if-not-is_at.ensures.yes refl)) (c.if-not-is_at.ensures.inside refl refl) c.leaf.ensures)

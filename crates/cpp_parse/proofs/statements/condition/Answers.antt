@@ -8,7 +8,8 @@ use Rattle.cpp_parse_expr.proofs.ReaderAnswers.{word_and, none_second}
 use Rattle.cpp_parse.proofs.statements.condition.Goals as goal
 
 pub returns-then-not-is_at : goal.returns-then-not-is_at
-returns-then-not-is_at c = (leaves_same c.expected_at.ensures, none_seq (word_none (refused open_paren terminal.OpenParen refl _ (c.if-not-is_at.ensures.no refl))))
+returns-then-not-is_at c =
+    (leaves_same c.expected_at.ensures, none_seq (word_none (refused open_paren terminal.OpenParen refl _ (c.if-not-is_at.ensures.no refl))))
 
 pub expression-requires : goal.expression-requires
 expression-requires c = let i = c.if-not-is_at.ensures.inside refl refl in omega (arith, i)
@@ -29,4 +30,5 @@ pub returns : goal.returns
 returns c =
     let u = passed open_paren terminal.OpenParen refl _ (c.if-not-is_at.ensures.yes refl) in
     let v = passed close_paren terminal.CloseParen refl _ (c.if-not-is_at-2.ensures.yes refl) in
-    word_and u (c.if-not-is_at.ensures.inside refl refl) (reads_seq (rw c.in-Some.is at c.in_ok-close.ensures) (reads_word v (c.if-not-is_at-2.ensures.inside refl refl)) refl refl) refl refl
+    word_and u (c.if-not-is_at.ensures.inside refl refl) (reads_seq (rw c.in-Some.is at c.in_ok-close.ensures)
+    (reads_word v (c.if-not-is_at-2.ensures.inside refl refl)) refl refl) refl refl

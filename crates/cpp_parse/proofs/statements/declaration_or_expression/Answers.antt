@@ -19,7 +19,8 @@ returns-in_err-next c = parsed_err _ _ _ _ c.from_residual-in_err-next.result c.
 pub returns-in_err-note_declaration : goal.returns-in_err-note_declaration
 returns-in_err-note_declaration c =
     let x = rw c.in_default.is at c.in_ok-next.ensures in
-    parsed_err _ _ _ _ c.from_residual-in_err-note_declaration.result c.from_residual-in_err-note_declaration.ensures.0 (leaves_both x.0 c.note_declaration.ensures)
+    parsed_err _ _ _ _ c.from_residual-in_err-note_declaration.result c.from_residual-in_err-note_declaration.ensures.0
+    (leaves_both x.0 c.note_declaration.ensures)
 
 pub returns-in_default : goal.returns-in_default
 returns-in_default c =

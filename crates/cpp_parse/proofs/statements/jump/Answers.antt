@@ -12,7 +12,12 @@ use Rattle.cpp_parse.proofs.StatementParts.{jump_there}
 use Rattle.cpp_parse.proofs.statements.jump.Goals as goal
 
 pub returns-then-not-is_at : goal.returns-then-not-is_at
-returns-then-not-is_at c = λ w t. (leaves_same c.expected_at.ensures, none_node (none_second_mark (word_none (refused semicolon terminal.Semicolon refl _ (c.if-not-is_at.ensures.no refl)))))
+returns-then-not-is_at c =
+    λ w t. (
+      leaves_same c.expected_at.ensures,
+      none_node (none_second_mark (word_none
+          (refused semicolon terminal.Semicolon refl _ (c.if-not-is_at.ensures.no refl)))),
+    )
 
 pub returns-in_err-leaf : goal.returns-in_err-leaf
 returns-in_err-leaf c = λ w t. parsed_err _ _ _ _ c.from_residual.result c.from_residual.ensures.0 (leaves_same c.in_err-leaf.ensures.memory)

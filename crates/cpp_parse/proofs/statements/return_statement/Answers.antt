@@ -19,9 +19,13 @@ returns-then-not-is_at c =
     )
 
 pub returns-in_err-node : goal.returns-in_err-node
-returns-in_err-node c = parsed_err _ _ _ _ c.from_residual-in_err-node.result c.from_residual-in_err-node.ensures.0 (leaves_both (leaves_read c.in_ok-close.ensures) (leaves_same c.in_err-node.ensures.memory))
+returns-in_err-node c =
+    parsed_err _ _ _ _ c.from_residual-in_err-node.result c.from_residual-in_err-node.ensures.0
+    (leaves_both (leaves_read c.in_ok-close.ensures) (leaves_same c.in_err-node.ensures.memory))
 
 pub returns : goal.returns
 returns c =
     let v = passed semicolon terminal.Semicolon refl _ (c.if-not-is_at.ensures.yes refl) in
-    made (mark_and c.requires.begins (within c.args.text.now c.args.at return_word refl c.requires.begins) (reads_seq c.in_ok-close.ensures (reads_word v (c.if-not-is_at.ensures.inside refl refl)) refl refl) refl refl) c.checkpoint-start.ensures c.in_ok-node.ensures.read
+    made (mark_and c.requires.begins (within c.args.text.now c.args.at return_word refl c.requires.begins)
+    (reads_seq c.in_ok-close.ensures (reads_word v (c.if-not-is_at.ensures.inside refl refl)) refl refl) refl refl) c.checkpoint-start.ensures
+    c.in_ok-node.ensures.read

@@ -41,5 +41,6 @@ pub returns : goal.returns
 returns c =
     let t = passed is_type_name terminal.TypeName refl _ (c.if-not-is_at.ensures.yes refl) in
     let u = passed colon_colon terminal.ColonColon refl _ (c.if-not-is_at-2.ensures.yes refl) in
-    let x = qualified_there c.in_ok-type_name.ensures u (c.if-not-is_at-2.ensures.inside refl refl) (back c.if-not-is_name_at.ensures.test) (c.if-not-is_name_at.ensures.inside refl) in
+    let x = qualified_there c.in_ok-type_name.ensures u (c.if-not-is_at-2.ensures.inside refl refl) (back c.if-not-is_name_at.ensures.test)
+    (c.if-not-is_name_at.ensures.inside refl) in
     reads_right (node_none (mark_none (back c.if-is_name_at.ensures.test))) (made x c.checkpoint-start.ensures c.in_ok-node.ensures.read)

@@ -26,7 +26,8 @@ returns-in_err-leaf-2 c = search (rules, leaves_same)
 pub returns-then-is_at : goal.returns-then-is_at
 returns-then-is_at c =
     let t = passed this_word terminal.This refl _ (c.if-is_at.ensures.yes refl) in
-    reads_right (none_unlike this_word t refl refl) (reads_right (none_unlike this_word t refl refl) (leaf_there t (c.if-is_at.ensures.inside refl refl) c.in_ok-leaf-2.ensures))
+    reads_right (none_unlike this_word t refl refl) (reads_right (none_unlike this_word t refl refl)
+    (leaf_there t (c.if-is_at.ensures.inside refl refl) c.in_ok-leaf-2.ensures))
 
 pub returns-then-not-is_at : goal.returns-then-not-is_at
 returns-then-not-is_at c = (
@@ -52,6 +53,7 @@ returns-in_err-leaf-3 c = search (rules, leaves_same)
 pub returns : goal.returns
 returns c =
     let t = passed amp terminal.Amp refl _ (c.if-not-is_at.ensures.yes refl) in
-    let e = c.in_ok-leaf-3.ensures.added ∙ ap (λ (z : At). appended c.args.out.now (reads_node ReferenceCapture z (Some (c.args.at + 1)) no_read)) c.position.ensures.position in
+    let e = c.in_ok-leaf-3.ensures.added ∙ ap (λ (z : At). appended c.args.out.now (reads_node ReferenceCapture z (Some (c.args.at + 1)) no_read))
+    c.position.ensures.position in
     reads_right (node_none (mark_none (back c.if-is_name_at.ensures.test)))
     (reads_left (reference_there t (back c.if-not-is_name_at.ensures.test) (c.if-not-is_name_at.ensures.inside refl) e) (none_unlike amp t refl refl))

@@ -18,18 +18,26 @@ pub captures-init : goal.captures-init
 captures-init c = (loop_begins (rw c.in-Some.is at c.in_ok-first.ensures) refl, refl)
 
 pub returns-in_err-behind : goal.returns-in_err-behind
-returns-in_err-behind c = always_err _ _ _ _ c.from_residual-in_err-behind.result c.from_residual-in_err-behind.ensures.0 (leaves_both (leaves_chain c.captures-2.invariant.0) c.in_err-behind.ensures)
+returns-in_err-behind c =
+    always_err _ _ _ _ c.from_residual-in_err-behind.result c.from_residual-in_err-behind.ensures.0
+    (leaves_both (leaves_chain c.captures-2.invariant.0) c.in_err-behind.ensures)
 
 pub returns-in_default-2 : goal.returns-in_default-2
 returns-in_default-2 c =
     let x = rw c.in_default-2.is at c.in_ok-behind.ensures in
-    reads_taken (chain_done c.captures-2.invariant.0 c.captures-2.invariant.1 (none_second x.1) refl (c.cut-in_default-2.ensures _ _ c.checkpoint-mark-in-captures.ensures (x.0).gained)) refl
+    reads_taken (chain_done c.captures-2.invariant.0 c.captures-2.invariant.1 (none_second x.1) refl
+    (c.cut-in_default-2.ensures _ _ c.checkpoint-mark-in-captures.ensures (x.0).gained)) refl
 
 pub captures-preserved : goal.captures-preserved
 captures-preserved c =
     let x = rw c.in-Some-2.is at c.in_ok-behind.ensures in
-    let t = passed comma terminal.Comma refl _ (c.captures-test.ensures.yes refl) in
-    (loop_more c.captures-2.invariant.0 (word_and t (c.captures-test.ensures.inside refl refl) x refl refl) refl refl refl, ap (λ (k : Option ℕ). first_or k None) c.captures-2.invariant.1)
+    let t = passed comma terminal.Comma refl _ (c.captures-test.ensures.yes refl) in (
+      loop_more c.captures-2.invariant.0 (word_and t (c.captures-test.ensures.inside refl refl) x refl refl) refl refl refl,
+      ap
+          (λ (k : Option ℕ). first_or k None) c.captures-2.invariant.1,
+    )
 
 pub returns : goal.returns
-returns c = reads_taken (chain_done c.captures-2.invariant.0 c.captures-2.invariant.1 (seq_none (word_none (refused comma terminal.Comma refl _ (c.captures-test.ensures.no refl)))) refl refl) refl
+returns c =
+    reads_taken (chain_done c.captures-2.invariant.0 c.captures-2.invariant.1 (seq_none
+    (word_none (refused comma terminal.Comma refl _ (c.captures-test.ensures.no refl)))) refl refl) refl

@@ -10,7 +10,11 @@ pub words-init : goal.words-init
 words-init c = (any_begins (appended_none c.args.out.now) c.requires.here, refl)
 
 pub words-preserved : goal.words-preserved
-words-preserved c = (any_more c.words.invariant.0 (leaf_there (back c.words-test.ensures.test) (c.words-test.ensures.inside refl) c.in_ok-next.ensures) refl refl refl, ap (λ (k : Option ℕ). first_or k None) c.words.invariant.1)
+words-preserved c = (
+  any_more c.words.invariant.0 (leaf_there (back c.words-test.ensures.test) (c.words-test.ensures.inside refl) c.in_ok-next.ensures) refl refl
+      refl,
+  ap (λ (k : Option ℕ). first_or k None) c.words.invariant.1,
+)
 
 pub returns : goal.returns
 returns c = many_done c.words.invariant.0 c.words.invariant.1 (node_none (mark_none (back c.words-test.ensures.test))) refl

@@ -6,7 +6,9 @@ use Rattle.cpp_syntax.proofs.ReaderLoops.{ReadsChain}
 use Rattle.cpp_parse_expr.proofs.types.type_words.Given as goal
 
 abbrev pub invariant-words : goal.invariant-words
-invariant-words l = (x : ReadsChain l.text (leaf SimpleTypeSpecifier is_type_word) (leaf SimpleTypeSpecifier is_type_word) l.at l.next l.fn.out l.out) × (x.marked ≡ None) × (l.next ≤ l.end)
+invariant-words l =
+    (x : ReadsChain l.text (leaf SimpleTypeSpecifier is_type_word) (leaf SimpleTypeSpecifier is_type_word) l.at l.next l.fn.out l.out) ×
+    (x.marked ≡ None) × (l.next ≤ l.end)
 
 abbrev pub decreases-words : goal.decreases-words
 decreases-words l = l.end - l.next
