@@ -85,7 +85,7 @@ impl Nodes {
         self.items.len() == MAX_NODES as usize
     }
 
-    /// The node at an index, whose kids stand at lower ones.
+    /// The node with an id, whose kids have lower ones.
     pub fn node(&self, id: NodeId) -> &Node
         requires { id.0 < length self.now }
         ensures node { slice_get self.now id.0 ≡ Some result.now }
@@ -94,7 +94,7 @@ impl Nodes {
         &self.items[id.0 as usize]
     }
 
-    /// Adds a node behind the others, and answers its index.
+    /// Adds a node behind the others, and answers its id.
     pub fn add(&mut self, node: Node) -> Result<NodeId, AllocError>
         requires capacity { length self.old < MAX_NODES }
         requires kids { are_below (length self.old) node.kids.items ≡ true }

@@ -1,14 +1,10 @@
 -- What a simple declaration can be: T:: begins a constructor or a destructor, and nothing else.
-use Rattle.std.proofs.Common.{◌≡◌, ℕ, zero, suc, ◌+◌, ◌<◌, ◌≤◌, ◌⊎◌, inl, inr, nat_eq, Bool, true, false, not, ◌&&◌, refl, sym as back, ◌∙◌, ap}
-use Rattle.std.proofs.Common.{subst, arith, length, Option, Some, None, Result, Ok, Err, true≢false}
+use Rattle.std.proofs.Common.{◌≡◌, ℕ, zero, suc, ◌+◌, ◌<◌, ◌≤◌, ◌⊎◌, inl, inr, nat_eq, Bool, true, false, not, ◌&&◌, refl, sym as back, ◌∙◌, ap, subst, arith, length, Option, Some, None, Result, Ok, Err, true≢false}
 use Rattle.std.proofs.lemmas.Bool.{not-true}
 use Rattle.cpp_syntax.specs.declared.terminal.Terminal.{Terminal}
 use Rattle.cpp_syntax.specs.Source.{Source, terminal_at}
-use Rattle.cpp_syntax.specs.Terminals.{is_type_name, is_cv, is_specifier, is_string, inline_word, extern_word, colon_colon, open_bracket, open_brace}
-use Rattle.cpp_syntax.specs.Terminals.{semicolon, comma, is_class_key, tilde, ReadsAs}
-use Rattle.cpp_syntax.specs.Rules.{whole, named, type_specifier, declaration_head, simple_declaration, constructor_declarator, destructor_declarator}
-use Rattle.cpp_syntax.specs.Rules.{init_declarator, compound_statement, qualified, Nonterminal, Rule, word, mark, mark_next, ◌·◌, ◌∣◌, many, form}
-use Rattle.cpp_syntax.specs.Rules.{optional}
+use Rattle.cpp_syntax.specs.Terminals.{is_type_name, is_cv, is_specifier, is_string, inline_word, extern_word, colon_colon, open_bracket, open_brace, semicolon, comma, is_class_key, tilde, ReadsAs}
+use Rattle.cpp_syntax.specs.Rules.{whole, named, type_specifier, declaration_head, simple_declaration, constructor_declarator, destructor_declarator, init_declarator, compound_statement, qualified, Nonterminal, Rule, word, mark, mark_next, ◌·◌, ◌∣◌, many, form, optional}
 use Rattle.cpp_syntax.specs.Grammar.{production, list, leaf}
 use Rattle.cpp_syntax.specs.Lookahead.{lookahead}
 use Rattle.cpp_syntax.specs.Derivations.{Read, Derives, kept_apart, no_read, is_nothing, is_word, is_mark, is_both, is_left, is_right, is_node}
@@ -21,15 +17,12 @@ use Rattle.cpp_syntax.specs.declared.terminal.Terminal.TheVariants as terminal
 use Rattle.cpp_syntax.proofs.SingleTerminals.{passed, refused, passed_not}
 use Rattle.cpp_syntax.proofs.TerminalTables.{at_each, implies, implied}
 use Rattle.cpp_syntax.proofs.IndependentDerivations.{free_long, free_none}
-use Rattle.cpp_syntax.proofs.LongestMatches.{seq, seq_none, seq_ends, neither, left, right, left_out, taken, form_long, form_none, node_long}
-use Rattle.cpp_syntax.proofs.LongestMatches.{node_none, mark_long, mark_name_long, mark_none, word_none, many_begins, many_more, many_ends}
+use Rattle.cpp_syntax.proofs.LongestMatches.{seq, seq_none, seq_ends, neither, left, right, left_out, taken, form_long, form_none, node_long, node_none, mark_long, mark_name_long, mark_none, word_none, many_begins, many_more, many_ends}
 use Rattle.cpp_syntax.proofs.Readers.{none_seq, none_node, none_form}
 use Rattle.cpp_syntax.proofs.ReaderLoops.{within}
 use Rattle.cpp_syntax.proofs.DeclaratorForms.{unlike}
 use Rattle.cpp_parse_expr.proofs.ReaderAnswers.{none_unlike, none_second, none_second_mark}
-use Rattle.cpp_parse.specs.Alternatives.{specifiers, optional_attribute, optional_inline, types, named_declarator, object_declaration}
-use Rattle.cpp_parse.specs.Alternatives.{function_definition, constructor_definition, destructor_definition, constructor_body, class_declaration}
-use Rattle.cpp_parse.specs.Alternatives.{class_specifier, linkage_specification, linkage_block}
+use Rattle.cpp_parse.specs.Alternatives.{specifiers, optional_attribute, optional_inline, types, named_declarator, object_declaration, function_definition, constructor_definition, destructor_definition, constructor_body, class_declaration, class_specifier, linkage_specification, linkage_block}
 use Rattle.cpp_parse.specs.Answers.{Reaches, NamedDefinition, OneDefinition, LinkageSeen}
 use Rattle.cpp_parse.specs.declared.functions.Definition.{Definition}
 use Rattle.cpp_parse.specs.declared.functions.Definition.TheVariants as definition

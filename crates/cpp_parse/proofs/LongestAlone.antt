@@ -1,6 +1,5 @@
 -- What is known of a rule's longest text alone, and what readers answer from it.
-use Rattle.std.proofs.Common.{◌≡◌, ℕ, ◌+◌, ◌<◌, ◌≤◌, ◌⊎◌, inl, inr, Bool, true, false, refl, sym as back, ◌∙◌, ap, subst, arith, length, Option, Some}
-use Rattle.std.proofs.Common.{None, Result, Ok, Err, true≢false}
+use Rattle.std.proofs.Common.{◌≡◌, ℕ, ◌+◌, ◌<◌, ◌≤◌, ◌⊎◌, inl, inr, Bool, true, false, refl, sym as back, ◌∙◌, ap, subst, arith, length, Option, Some, None, Result, Ok, Err, true≢false}
 use Rattle.std.specs.Result.{IsErr}
 use Rattle.std.specs.declared.alloc.AllocError.{AllocError}
 use Rattle.cpp_ast.specs.declared.kinds.NodeKind.{NodeKind}

@@ -4,8 +4,7 @@ ghost use Rattle.std.specs.Prelude.{◌≡◌, ◌≤◌, length, Some, None};
 ghost use Rattle.cpp_syntax.specs.Rules.{form, many, optional, enumerator_definition, member_declaration};
 ghost use Rattle.cpp_syntax.specs.Grammar.{class_key, braced_list};
 ghost use Rattle.cpp_syntax.specs.Parsed.{ParsesLongest, ParsesAlways};
-ghost use Rattle.cpp_parse.specs.Alternatives.{class_declaration, class_specifier, optional_final, optional_access, base_clause, base_specifier};
-ghost use Rattle.cpp_parse.specs.Alternatives.{member_specification, enum_specifier, enumerators, enumerator_value};
+ghost use Rattle.cpp_parse.specs.Alternatives.{class_declaration, class_specifier, optional_final, optional_access, base_clause, base_specifier, member_specification, enum_specifier, enumerators, enumerator_value};
 
 use crate::members::member_declaration;
 use crate::specifiers::node_at_token;

@@ -30,7 +30,7 @@ pub fn bodies_by_node(
     Ok(noted)
 }
 
-/// The index of the first node that lies deeper than a limit, among the trees of the kids of a node of a depth: a node
+/// The position of the first node that lies deeper than a limit, among the trees of the kids of a node of a depth: a node
 /// comes before its kids, these come in their order, and the body of a lambda comes after its kids.
 #[cycle(down)]
 pub fn first_deep_kid(
@@ -55,7 +55,7 @@ pub fn first_deep_kid(
     Ok(None)
 }
 
-/// The index of the first node of a tree that lies deeper than a limit, where the node that holds the tree has a depth.
+/// The position of the first node of a tree that lies deeper than a limit, where the node that holds the tree has a depth.
 #[cycle(down)]
 fn first_deep(
     nodes: &Nodes,

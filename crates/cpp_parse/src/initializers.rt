@@ -4,8 +4,7 @@ ghost use Rattle.std.specs.Prelude.{◌≡◌, ◌≤◌, true, false, length, S
 ghost use Rattle.cpp_ast.specs.declared.kinds.NodeKind.TheVariants.{EqualInitializer, ParenthesizedInitializer};
 ghost use Rattle.cpp_syntax.specs.Source.{terminal_at};
 ghost use Rattle.cpp_syntax.specs.Terminals.{equal, open_paren, close_paren, comma};
-ghost use Rattle.cpp_syntax.specs.Rules.{◌·◌, form, word, mark, node, optional, unless, parameters, block_declaration, init_declarator, initializer};
-ghost use Rattle.cpp_syntax.specs.Rules.{braced_init_list, assignment_expression};
+ghost use Rattle.cpp_syntax.specs.Rules.{◌·◌, form, word, mark, node, optional, unless, parameters, block_declaration, init_declarator, initializer, braced_init_list, assignment_expression};
 ghost use Rattle.cpp_syntax.specs.Grammar.{list, initializers};
 ghost use Rattle.cpp_syntax.specs.FirstSets.{need_not_name};
 ghost use Rattle.cpp_syntax.specs.Names.{naming_of};

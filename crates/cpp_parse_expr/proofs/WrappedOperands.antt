@@ -40,7 +40,7 @@ pub no_wrap : {s : Source} {kind : NodeKind} {p : Rule} {a : ℕ} → NoneOf s p
     → NoDerivation (lookahead s) kept_apart s (wrap kind p) r a
 no_wrap x e r = wrap_none (free_none e x r)
 
--- what `around` makes of all that was read since a mark
+-- what `wrap` makes of all that was read since a mark
 abbrev pub Rounds : Source → NodeKind → ℕ → ℕ → Checkpoint → BuilderState → BuilderState → Type 0
 Rounds s kind m t start now new =
     (before : BuilderState) (got : Read) → IsMark start before → now ≡ appended before got → new ≡ appended before

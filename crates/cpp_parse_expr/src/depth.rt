@@ -3,8 +3,7 @@
 ghost use Rattle.std.specs.Prelude.{◌≡◌, ◌≤◌, ◌<◌, ◌+◌, ◌-◌, ◌^◌, ℕ, length, IfOk, IfSome, MatchOption, None, Some, true, slice_get, slice_index};
 ghost use Rattle.cpp_ast.specs.Orders.{are_below};
 ghost use Rattle.cpp_ast.specs.Trees.{Tree, Trees, Shows, ShowsAll, kind_of, deepest};
-ghost use Rattle.cpp_parse_expr.specs.Depths.{step, height, height_in, deep_node, deep_kid, are_from, HoldOwn, HoldLower, HoldOnce, AreHeights};
-ghost use Rattle.cpp_parse_expr.specs.Depths.{IsDeep, HasDeep, HandsDown, AreLow, AreDepths};
+ghost use Rattle.cpp_parse_expr.specs.Depths.{step, height, height_in, deep_node, deep_kid, are_from, HoldOwn, HoldLower, HoldOnce, AreHeights, IsDeep, HasDeep, HandsDown, AreLow, AreDepths};
 
 use cpp_ast::{NodeId, NodeKind, Nodes};
 use std::alloc::{AllocError, Global};

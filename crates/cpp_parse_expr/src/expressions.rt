@@ -2,12 +2,9 @@
 
 ghost use Rattle.std.specs.Prelude.{◌≡◌, ◌≤◌, true, length, Ok, Some, None};
 ghost use Rattle.cpp_syntax.specs.Source.{terminal_at};
-ghost use Rattle.cpp_syntax.specs.Terminals.{question, throw_word, sizeof_word, open_paren, static_cast_word, is_type_name, is_literal, std, dot};
-ghost use Rattle.cpp_syntax.specs.Terminals.{arrow, open_bracket};
-ghost use Rattle.cpp_syntax.specs.Rules.{◌∣◌, form, optional, expression, assignment_expression, conditional_expression, binary_expression};
-ghost use Rattle.cpp_syntax.specs.Rules.{cast_expression, unary_expression, postfix_expression, expression_list, primary_expression, functional_type};
-ghost use Rattle.cpp_syntax.specs.Grammar.{list, throw_expression, choice, sizeof_expression, arguments, parenthesized_expression, static_cast};
-ghost use Rattle.cpp_syntax.specs.Grammar.{qualified_id, std_abort, functional_cast, literal};
+ghost use Rattle.cpp_syntax.specs.Terminals.{question, throw_word, sizeof_word, open_paren, static_cast_word, is_type_name, is_literal, std, dot, arrow, open_bracket};
+ghost use Rattle.cpp_syntax.specs.Rules.{◌∣◌, form, optional, expression, assignment_expression, conditional_expression, binary_expression, cast_expression, unary_expression, postfix_expression, expression_list, primary_expression, functional_type};
+ghost use Rattle.cpp_syntax.specs.Grammar.{list, throw_expression, choice, sizeof_expression, arguments, parenthesized_expression, static_cast, qualified_id, std_abort, functional_cast, literal};
 ghost use Rattle.cpp_syntax.specs.View.{BuilderState};
 ghost use Rattle.cpp_syntax.specs.Parsed.{ParsesLongest, ParsesAlways};
 ghost use Rattle.cpp_parse_expr.specs.Suffixes.{ParsedSuffix, literal_kind};

@@ -40,7 +40,8 @@ data Nested (xs : List Terminal) : List Bracket → ℕ → ℕ → List Bracket
   closes_one : {st st' : List Bracket} {a b : ℕ} (k : Bracket) → closed_by k (terminal_in xs a) ≡ true → Nested xs st (a + 1) b st' → Nested xs (k ∷ st) a b st'
 
 nested_then : {xs : List Terminal} {st st' st'' : List Bracket} {a m b : ℕ} → Nested xs st a m st' → Nested xs st' m b st'' → Nested xs st a b st''
-nested_then {xs = xs} {st'' = st''} {b = b} (no_more {st = st} {b = m} e f) y = subst (λ (z : ℕ). Nested xs st z b st'') e (subst (λ (z : List Bracket). Nested xs z m b st'') f y)
+nested_then {xs = xs} {st'' = st''} {b = b} (no_more {st = st} {b = m} e f) y =
+    subst (λ (z : ℕ). Nested xs st z b st'') e (subst (λ (z : List Bracket). Nested xs z m b st'') f y)
 nested_then (passes_by t x) y = passes_by t (nested_then x y)
 nested_then (opens_one k t x) y = opens_one k t (nested_then x y)
 nested_then (closes_one k t x) y = closes_one k t (nested_then x y)
@@ -72,13 +73,17 @@ before_ends xs (k ∷ st) a m b f x = (x.0, f x.0 x.1, x.2, x.3)
 nested_ends : (xs : List Terminal) {st : List Bracket} {a b : ℕ} → Nested xs st a b [] → EndsWith xs st a b
 nested_ends xs {a = a} {b = b} (no_more {st = st} e f) = subst (λ (z : List Bracket). EndsWith xs z a b) f (is_empty e)
 nested_ends xs {a = a} {b = b} (passes_by {st = st} t x) = before_ends xs st a (a + 1) b (λ c y. is_token t y) (nested_ends xs x)
-nested_ends xs {a = a} {b = b} (opens_one {st = st} k t x) = let h = nested_ends xs x in before_ends xs st a (h.0 + 1) b (λ c y. is_bracket h.1 (bracket_closes k (terminal_in xs a) (terminal_in xs h.0) t h.2) y) h.3
+nested_ends xs {a = a} {b = b} (opens_one {st = st} k t x) =
+    let h = nested_ends xs x in before_ends xs st a (h.0 + 1) b (λ c y. is_bracket h.1
+    (bracket_closes k (terminal_in xs a) (terminal_in xs h.0) t h.2) y) h.3
 nested_ends xs {a = a} (closes_one k t x) = (a, is_empty refl, t, nested_ends xs x)
 
 balanced_nested : {xs : List Terminal} {a b : ℕ} → Balanced xs a b → (st : List Bracket) → Nested xs st a b st
 balanced_nested (is_empty e) st = no_more e refl
 balanced_nested (is_token t x) st = passes_by t (balanced_nested x st)
-balanced_nested {xs = xs} {a = a} (is_bracket {m = m} x t y) st = let h = shut (terminal_in xs a) (terminal_in xs m) t in opens_one h.0 h.1 (nested_then (balanced_nested x (h.0 ∷ st)) (closes_one h.0 h.2 (balanced_nested y st)))
+balanced_nested {xs = xs} {a = a} (is_bracket {m = m} x t y) st =
+    let h = shut (terminal_in xs a) (terminal_in xs m) t in opens_one h.0 h.1 (nested_then (balanced_nested x (h.0 ∷ st))
+    (closes_one h.0 h.2 (balanced_nested y st)))
   where
     shut : (x y : Terminal) → closes x y ≡ true → (k : Bracket) × (opened_by k x ≡ true) × (closed_by k y ≡ true)
     shut terminal.OpenParen terminal.CloseParen e = (a_paren, refl, refl)
@@ -139,7 +144,9 @@ plain_within n s = by (is_unbracketed s) (level_of s) (at_each (λ z. is_unbrack
     by false l e = let h : nat_eq l (suc n) ≡ false = grind (arith, e) in ap (λ (b : Bool). implies b false) h
 
 level_effect : (n : ℕ) → token_effect (λ s. nat_eq (level_of s) (suc n)) [] ≡ Some []
-level_effect n = cond-true (all_within (λ s. nat_eq (level_of s) (suc n)) is_unbracketed) (Some []) _ (each_passes (λ s. implies (nat_eq (level_of s) (suc n)) (is_unbracketed s)) (plain_within n))
+level_effect n =
+    cond-true (all_within (λ s. nat_eq (level_of s) (suc n)) is_unbracketed) (Some []) _
+    (each_passes (λ s. implies (nat_eq (level_of s) (suc n)) (is_unbracketed s)) (plain_within n))
 
 even_holds : (f : Nonterminal) → effect (production f) [] ≡ Some []
 even_holds primary_expression = refl
@@ -152,7 +159,8 @@ even_holds postfix_expression = refl
 even_holds unary_expression = refl
 even_holds cast_expression = refl
 even_holds (binary_expression zero) = refl
-even_holds (binary_expression (suc n)) = ap (λ (o : Option (List Bracket)). if leaves_even (option_and_then (λ z. Some z) o) then Some [] else None) (level_effect n)
+even_holds (binary_expression (suc n)) =
+    ap (λ (o : Option (List Bracket)). if leaves_even (option_and_then (λ z. Some z) o) then Some [] else None) (level_effect n)
 even_holds conditional_expression = refl
 even_holds assignment_expression = refl
 even_holds expression = refl
@@ -221,29 +229,36 @@ within_at test other e s t = implied (test s) (other s) (at_each (λ z. implies 
 some_is : {A : Type 0} {x y : A} → Some x ≡ Some y → y ≡ x
 some_is e = cc
 
-shuts_nested : (xs : List Terminal) (test : Terminal → Bool) (st st' : List Bracket) (a b : ℕ) → shuts test st ≡ Some st' → test (terminal_in xs a) ≡ true → b ≡ a + 1 → Nested xs st a b st'
+shuts_nested : (xs : List Terminal) (test : Terminal → Bool) (st st' : List Bracket) (a b : ℕ) → shuts test st ≡ Some st'
+    → test (terminal_in xs a) ≡ true → b ≡ a + 1 → Nested xs st a b st'
 shuts_nested xs test [] st' a b e t f = absurd cc
 shuts_nested xs test (k ∷ st) st' a b e t f = elim (cases_Bool (all_within test (closed_by k))) [
-  | inl h ↦ closes_one k (within_at test (closed_by k) h (terminal_in xs a) t) (no_more f (some_is (back (cond-true (all_within test (closed_by k)) (Some st) None h) ∙ e)))
+  | inl h ↦ closes_one k (within_at test (closed_by k) h (terminal_in xs a) t) (no_more f
+      (some_is (back (cond-true (all_within test (closed_by k)) (Some st) None h) ∙ e)))
   | inr h ↦ absurd (let g = back (cond-false (all_within test (closed_by k)) (Some st) None h) ∙ e in cc)
 ]
 
-token_nested : (xs : List Terminal) (test : Terminal → Bool) (st st' : List Bracket) (a b : ℕ) → token_effect test st ≡ Some st' → test (terminal_in xs a) ≡ true → b ≡ a + 1 → Nested xs st a b st'
+token_nested : (xs : List Terminal) (test : Terminal → Bool) (st st' : List Bracket) (a b : ℕ) → token_effect test st ≡ Some st'
+    → test (terminal_in xs a) ≡ true → b ≡ a + 1 → Nested xs st a b st'
 token_nested xs test st st' a b e t f = elim (cases_Bool (all_within test is_unbracketed)) [
   | inl h ↦ passes_by (within_at test is_unbracketed h (terminal_in xs a) t) (no_more f (some_is (back (cond-true (all_within test is_unbracketed) _ _ h) ∙ e)))
   | inr h ↦ let e1 = back (cond-false (all_within test is_unbracketed) _ _ h) ∙ e in elim (cases_Bool (all_within test open_paren)) [
-    | inl i ↦ opens_one a_paren (within_at test open_paren i (terminal_in xs a) t) (no_more f (some_is (back (cond-true (all_within test open_paren) _ _ i) ∙ e1)))
+    | inl i ↦ opens_one a_paren (within_at test open_paren i (terminal_in xs a) t) (no_more f
+        (some_is (back (cond-true (all_within test open_paren) _ _ i) ∙ e1)))
     | inr i ↦ let e2 = back (cond-false (all_within test open_paren) _ _ i) ∙ e1 in elim (cases_Bool (all_within test open_bracket)) [
-      | inl j ↦ opens_one a_bracket (within_at test open_bracket j (terminal_in xs a) t) (no_more f (some_is (back (cond-true (all_within test open_bracket) _ _ j) ∙ e2)))
+      | inl j ↦ opens_one a_bracket (within_at test open_bracket j (terminal_in xs a) t)
+          (no_more f (some_is (back (cond-true (all_within test open_bracket) _ _ j) ∙ e2)))
       | inr j ↦ let e3 = back (cond-false (all_within test open_bracket) _ _ j) ∙ e2 in elim (cases_Bool (all_within test open_brace)) [
-        | inl k ↦ opens_one a_brace (within_at test open_brace k (terminal_in xs a) t) (no_more f (some_is (back (cond-true (all_within test open_brace) _ _ k) ∙ e3)))
+        | inl k ↦ opens_one a_brace (within_at test open_brace k (terminal_in xs a) t) (no_more f
+            (some_is (back (cond-true (all_within test open_brace) _ _ k) ∙ e3)))
         | inr k ↦ shuts_nested xs test st st' a b (back (cond-false (all_within test open_brace) _ _ k) ∙ e3) t f
       ]
     ]
   ]
 ]
 
-then_parts : (o : Option (List Bracket)) (f : List Bracket → Option (List Bracket)) (z : List Bracket) → option_and_then f o ≡ Some z → (y : List Bracket) × (o ≡ Some y) × (f y ≡ Some z)
+then_parts : (o : Option (List Bracket)) (f : List Bracket → Option (List Bracket)) (z : List Bracket) → option_and_then f o ≡ Some z
+    → (y : List Bracket) × (o ≡ Some y) × (f y ≡ Some z)
 then_parts None f z e = absurd cc
 then_parts (Some y) f z e = (y, refl, e)
 
@@ -259,23 +274,29 @@ if_some false st st' e = absurd cc
 even_under : {xs : List Terminal} {a b : ℕ} (st st' : List Bracket) → st' ≡ st → Nested xs [] a b [] → Nested xs st a b st'
 even_under {xs = xs} {a = a} {b = b} st st' e x = subst (λ (z : List Bracket). Nested xs st a b z) (back e) (nested_under st x)
 
-text_nested : {lookahead : Lookahead → ℕ → Type 0} {bodies : Bodies} {source : Source} {p : Rule} {r s : Read} {a b : ℕ} {k : Option ℕ} → Derives lookahead bodies source p r a b k s → (st st' : List Bracket) → effect p st ≡ Some st' → Nested source.terminals st a b st'
+text_nested : {lookahead : Lookahead → ℕ → Type 0} {bodies : Bodies} {source : Source} {p : Rule} {r s : Read} {a b : ℕ} {k : Option ℕ}
+    → Derives lookahead bodies source p r a b k s → (st st' : List Bracket) → effect p st ≡ Some st' → Nested source.terminals st a b st'
 text_nested (is_nothing e f g) st st' h = no_more e (some_is h)
 text_nested {source = source} (is_word {test = test} {a = a} {b = b} t e f g) st st' h = token_nested source.terminals test st st' a b h t e
 text_nested {source = source} (is_mark {test = test} {a = a} {b = b} t e f g) st st' h = token_nested source.terminals test st st' a b h t e
 text_nested (is_mark_next e f g) st st' h = no_more e (some_is h)
 text_nested (is_mark_name e f g) st st' h = no_more e (some_is h)
-text_nested (is_both {p = p} {q = q} x y e) st st' h = let z = then_parts (effect p st) (λ z. effect q z) st' h in nested_then (text_nested x st z.0 z.1) (text_nested y z.0 st' z.2)
+text_nested (is_both {p = p} {q = q} x y e) st st' h =
+    let z = then_parts (effect p st) (λ z. effect q z) st' h in nested_then (text_nested x st z.0 z.1) (text_nested y z.0 st' z.2)
 text_nested (is_left {p = p} {q = q} x) st st' h = let z = if_some (leaves_even (effect p []) && leaves_even (effect q [])) st st' h in
     even_under st st' z.1 (text_nested x [] [] (even_is (effect p []) (and_parts (leaves_even (effect p [])) (leaves_even (effect q [])) z.0).0))
 text_nested (is_right {p = p} {q = q} x) st st' h = let z = if_some (leaves_even (effect p []) && leaves_even (effect q [])) st st' h in
     even_under st st' z.1 (text_nested x [] [] (even_is (effect q []) (and_parts (leaves_even (effect p [])) (leaves_even (effect q [])) z.0).1))
 text_nested (is_last {p = p} e f g) st st' h = no_more e (if_some (leaves_even (effect p [])) st st' h).1
-text_nested (is_more {p = p} x y e) st st' h = let z = if_some (leaves_even (effect p [])) st st' h in nested_then (even_under st st refl (text_nested x [] [] (even_is (effect p []) z.0))) (text_nested y st st' h)
+text_nested (is_more {p = p} x y e) st st' h =
+    let z = if_some (leaves_even (effect p [])) st st' h in nested_then (even_under st st refl (text_nested x [] [] (even_is (effect p []) z.0)))
+    (text_nested y st st' h)
 text_nested (is_form {f = f} x e g) st st' h = even_under st st' (some_is h) (text_nested x [] [] (even_holds f))
 text_nested (is_node x e f) st st' h = text_nested x st st' h
 text_nested (is_wrap x e f) st st' h = text_nested x st st' h
-text_nested {source = source} (is_kept_apart {b = b} e x f o y c g i j) st st' h = nested_then (text_nested x st st' h) (opens_one a_brace o (nested_then (text_nested y (a_brace ∷ st') (a_brace ∷ st') refl) (closes_one a_brace c (no_more g refl))))
+text_nested {source = source} (is_kept_apart {b = b} e x f o y c g i j) st st' h =
+    nested_then (text_nested x st st' h) (opens_one a_brace o (nested_then (text_nested y (a_brace ∷ st') (a_brace ∷ st') refl)
+    (closes_one a_brace c (no_more g refl))))
 text_nested (is_in_tree e x y f g) st st' h = nested_then (text_nested x st st' h) (text_nested y st' st' refl)
 text_nested (is_where x e) st st' h = text_nested x st st' h
 text_nested (is_before x e) st st' h = text_nested x st st' h
@@ -283,8 +304,10 @@ text_nested (is_if l x) st st' h = text_nested x st st' h
 text_nested (is_unless l x) st st' h = text_nested x st st' h
 
 -- a text is balanced
-pub text_balanced : {lookahead : Lookahead → ℕ → Type 0} {bodies : Bodies} {source : Source} {p : Rule} {r s : Read} {a b : ℕ} {k : Option ℕ} → Derives lookahead bodies source p r a b k s → effect p [] ≡ Some [] → Balanced source.terminals a b
+pub text_balanced : {lookahead : Lookahead → ℕ → Type 0} {bodies : Bodies} {source : Source} {p : Rule} {r s : Read} {a b : ℕ} {k : Option ℕ}
+    → Derives lookahead bodies source p r a b k s → effect p [] ≡ Some [] → Balanced source.terminals a b
 text_balanced {source = source} x e = nested_ends source.terminals (text_nested x [] [] e)
 
-pub form_balanced : {lookahead : Lookahead → ℕ → Type 0} {bodies : Bodies} {source : Source} {f : Nonterminal} {r s : Read} {a b : ℕ} {k : Option ℕ} → Derives lookahead bodies source (form f) r a b k s → Balanced source.terminals a b
+pub form_balanced : {lookahead : Lookahead → ℕ → Type 0} {bodies : Bodies} {source : Source} {f : Nonterminal} {r s : Read} {a b : ℕ} {k : Option ℕ}
+    → Derives lookahead bodies source (form f) r a b k s → Balanced source.terminals a b
 form_balanced x = text_balanced x refl

@@ -65,19 +65,27 @@ at_same : (xs : List Terminal) {a b : ℕ} → b ≡ a → goes_inside (terminal
 at_same xs e f g = true≢false (back g ∙ back (ap (λ (z : ℕ). goes_inside (terminal_in xs z)) e) ∙ f)
 
 -- Balanced tokens before a closing bracket are the longest from their index.
-pub shorter : (xs : List Terminal) {a b c : ℕ} → Balanced xs a b → goes_inside (terminal_in xs b) ≡ false → Balanced xs a c → ((c < b) × (goes_inside (terminal_in xs c) ≡ true)) ⊎ (c ≡ b)
+pub shorter : (xs : List Terminal) {a b c : ℕ} → Balanced xs a b → goes_inside (terminal_in xs b) ≡ false → Balanced xs a c
+    → ((c < b) × (goes_inside (terminal_in xs c) ≡ true)) ⊎ (c ≡ b)
 shorter xs (is_empty e) f (is_empty g) = inr (g ∙ back e)
 shorter xs {a = a} (is_empty e) f (is_token t z) = absurd (at_same xs e f (unbracketed_goes (terminal_in xs a) t))
 shorter xs {a = a} (is_empty e) f (is_bracket {m = m} z t w) = absurd (at_same xs e f (opening_goes (terminal_in xs a) (terminal_in xs m) t))
-shorter xs {a = a} (is_token t y) f (is_empty g) = inl (let l = behind_start y in omega (arith, g, l), ap (λ (z : ℕ). goes_inside (terminal_in xs z)) g ∙ unbracketed_goes (terminal_in xs a) t)
+shorter xs {a = a} (is_token t y) f (is_empty g) =
+    inl (let l = behind_start y in omega (arith, g, l), ap (λ (z : ℕ). goes_inside (terminal_in xs z)) g ∙ unbracketed_goes (terminal_in xs a) t)
 shorter xs (is_token t y) f (is_token u z) = shorter xs y f z
 shorter xs {a = a} (is_token t y) f (is_bracket {m = m} z u w) = absurd (true≢false (back t ∙ opening (terminal_in xs a) (terminal_in xs m) u))
-shorter xs {a = a} (is_bracket {m = m} y t z) f (is_empty g) = inl (let l = behind_start y in let n = behind_start z in omega (arith, g, l, n), ap (λ (v : ℕ). goes_inside (terminal_in xs v)) g ∙ opening_goes (terminal_in xs a) (terminal_in xs m) t)
+shorter xs {a = a} (is_bracket {m = m} y t z) f (is_empty g) =
+    inl (
+      let l = behind_start y in let n = behind_start z in omega (arith, g, l, n),
+      ap (λ (v : ℕ). goes_inside (terminal_in xs v)) g ∙ opening_goes
+          (terminal_in xs a) (terminal_in xs m) t,
+    )
 shorter xs {a = a} (is_bracket {m = m} y t z) f (is_token u w) = absurd (true≢false (back u ∙ opening (terminal_in xs a) (terminal_in xs m) t))
-shorter xs {a = a} {c = c} (is_bracket {m = m} y t z) f (is_bracket {m = n} v u w) = elim (shorter xs y (closing_stops (terminal_in xs a) (terminal_in xs m) t) v) [
-  | inl h ↦ absurd (true≢false (back h.1 ∙ closing_stops (terminal_in xs a) (terminal_in xs n) u))
-  | inr h ↦ shorter xs z f (subst (λ (q : ℕ). Balanced xs (q + 1) c) h w)
-]
+shorter xs {a = a} {c = c} (is_bracket {m = m} y t z) f (is_bracket {m = n} v u w) =
+    elim (shorter xs y (closing_stops (terminal_in xs a) (terminal_in xs m) t) v) [
+      | inl h ↦ absurd (true≢false (back h.1 ∙ closing_stops (terminal_in xs a) (terminal_in xs n) u))
+      | inr h ↦ shorter xs z f (subst (λ (q : ℕ). Balanced xs (q + 1) c) h w)
+    ]
 
 -- As texts.
 
@@ -87,15 +95,25 @@ run = many (word is_unbracketed ∣ bracketed)
 unread : (r : Read) → r ≡ and_then r no_read
 unread r = back (and_then_none r)
 
-bracket_text : {lookahead : Lookahead → ℕ → Type 0} {bodies : Bodies} {source : Source} {r : Read} {a m : ℕ} → Pair (terminal_at source a) (terminal_at source m) → Derives lookahead bodies source run no_read (a + 1) m None no_read → Derives lookahead bodies source bracketed r a (m + 1) None r
-bracket_text {r = r} (parens e f) x = is_left (is_both (is_word (ap open_paren e) refl refl refl) (is_both (is_form x refl (unread r)) (is_word (ap close_paren f) refl refl refl) refl) refl)
-bracket_text {r = r} (brackets e f) x = is_right (is_left (is_both (is_word (ap open_bracket e) refl refl refl) (is_both (is_form x refl (unread r)) (is_word (ap close_bracket f) refl refl refl) refl) refl))
-bracket_text {r = r} (braces e f) x = is_right (is_right (is_both (is_word (ap open_brace e) refl refl refl) (is_both (is_form x refl (unread r)) (is_word (ap close_brace f) refl refl refl) refl) refl))
+bracket_text : {lookahead : Lookahead → ℕ → Type 0} {bodies : Bodies} {source : Source} {r : Read} {a m : ℕ}
+    → Pair (terminal_at source a) (terminal_at source m) → Derives lookahead bodies source run no_read (a + 1) m None no_read
+    → Derives lookahead bodies source bracketed r a (m + 1) None r
+bracket_text {r = r} (parens e f) x =
+    is_left (is_both (is_word (ap open_paren e) refl refl refl) (is_both (is_form x refl (unread r)) (is_word (ap close_paren f) refl refl refl)
+    refl) refl)
+bracket_text {r = r} (brackets e f) x =
+    is_right (is_left (is_both (is_word (ap open_bracket e) refl refl refl) (is_both (is_form x refl (unread r))
+    (is_word (ap close_bracket f) refl refl refl) refl) refl))
+bracket_text {r = r} (braces e f) x =
+    is_right (is_right (is_both (is_word (ap open_brace e) refl refl refl) (is_both (is_form x refl (unread r))
+    (is_word (ap close_brace f) refl refl refl) refl) refl))
 
-pub run_text : {lookahead : Lookahead → ℕ → Type 0} {bodies : Bodies} {source : Source} {a b : ℕ} → Balanced source.terminals a b → (r : Read) → Derives lookahead bodies source run r a b None r
+pub run_text : {lookahead : Lookahead → ℕ → Type 0} {bodies : Bodies} {source : Source} {a b : ℕ} → Balanced source.terminals a b → (r : Read)
+    → Derives lookahead bodies source run r a b None r
 run_text (is_empty e) r = is_last e refl refl
 run_text (is_token t y) r = is_more (is_left (is_word t refl refl refl)) (run_text y r) refl
-run_text {source = source} {a = a} (is_bracket {m = m} y e z) r = is_more (is_right (bracket_text (pair (terminal_at source a) (terminal_at source m) e) (run_text y no_read))) (run_text z r) refl
+run_text {source = source} {a = a} (is_bracket {m = m} y e z) r =
+    is_more (is_right (bracket_text (pair (terminal_at source a) (terminal_at source m) e) (run_text y no_read))) (run_text z r) refl
 
 pub record IsRun (source : Source) (r : Read) (a b : ℕ) (k : Option ℕ) (s : Read) : Type 0 where
   pub tokens : Balanced source.terminals a b
@@ -145,7 +163,8 @@ record Closed (source : Source) (r : Read) (a b : ℕ) (k : Option ℕ) (s : Rea
   unmarked : k ≡ None
   same : s ≡ r
 
-bracket_closed : {source : Source} {r s t u : Read} {a m n b : ℕ} {k l : Option ℕ} → m ≡ a + 1 → Pair (terminal_at source a) (terminal_at source n) → IsRun source no_read m n l t → u ≡ and_then s t → s ≡ r → k ≡ None → b ≡ n + 1 → Closed source r a b k u
+bracket_closed : {source : Source} {r s t u : Read} {a m n b : ℕ} {k l : Option ℕ} → m ≡ a + 1 → Pair (terminal_at source a) (terminal_at source n)
+    → IsRun source no_read m n l t → u ≡ and_then s t → s ≡ r → k ≡ None → b ≡ n + 1 → Closed source r a b k u
 bracket_closed {source = source} {r = r} {s = s} {n = n} e p x f g h i = record {
   end = n;
   pair_of = p;
@@ -168,25 +187,43 @@ remarked {l = l} e x f = record { tokens = x.tokens; unmarked = f ∙ ap (λ (z 
 unmarked_both : {j k l : Option ℕ} → k ≡ None → l ≡ None → j ≡ first_or k l → j ≡ None
 unmarked_both {l = l} e f g = g ∙ ap (λ (z : Option ℕ). first_or z l) e ∙ f
 
-pub text_run : {lookahead : Lookahead → ℕ → Type 0} {bodies : Bodies} {source : Source} {r s : Read} {a b : ℕ} {k : Option ℕ} → Derives lookahead bodies source run r a b k s → IsRun source r a b k s
+pub text_run : {lookahead : Lookahead → ℕ → Type 0} {bodies : Bodies} {source : Source} {r s : Read} {a b : ℕ} {k : Option ℕ}
+    → Derives lookahead bodies source run r a b k s → IsRun source r a b k s
 text_run (is_last e f g) = record { tokens = is_empty e; unmarked = f; same = g }
-text_run {source = source} (is_more (is_left (is_word t e f g)) y h) = let x = text_run y in remarked f (record { tokens = is_token t (moved_to source.terminals e refl x.tokens); unmarked = x.unmarked; same = x.same ∙ g }) h
-text_run {source = source} (is_more (is_right (is_left (is_both {a = a} (is_word t0 e0 f0 g0) (is_both (is_form x f1 g1) (is_word {a = n} t2 e2 f2 g2) h1) h0))) y h) =
+text_run {source = source} (is_more (is_left (is_word t e f g)) y h) =
+    let x = text_run y in remarked f (record {
+      tokens = is_token t (moved_to source.terminals e refl x.tokens);
+      unmarked = x.unmarked;
+      same = x.same
+          ∙ g;
+    }) h
+text_run {source = source} (is_more (is_right (is_left (is_both {a = a} (is_word t0 e0 f0 g0)
+    (is_both (is_form x f1 g1) (is_word {a = n} t2 e2 f2 g2) h1) h0))) y h) =
     let k0 = unmarked_both f0 (unmarked_both f1 f2 h1) h0 in
-    remarked k0 (run_more (bracket_closed e0 (parens (open_is (terminal_at source a) t0) (close_is (terminal_at source n) t2)) (text_run x) (g2 ∙ g1) g0 k0 e2) (text_run y)) h
-text_run {source = source} (is_more (is_right (is_right (is_left (is_both {a = a} (is_word t0 e0 f0 g0) (is_both (is_form x f1 g1) (is_word {a = n} t2 e2 f2 g2) h1) h0)))) y h) =
+    remarked k0 (run_more (bracket_closed e0 (parens (open_is (terminal_at source a) t0) (close_is (terminal_at source n) t2)) (text_run x) (g2 ∙ g1)
+    g0 k0 e2) (text_run y)) h
+text_run {source = source} (is_more (is_right (is_right (is_left (is_both {a = a} (is_word t0 e0 f0 g0)
+    (is_both (is_form x f1 g1) (is_word {a = n} t2 e2 f2 g2) h1) h0)))) y h) =
     let k0 = unmarked_both f0 (unmarked_both f1 f2 h1) h0 in
-    remarked k0 (run_more (bracket_closed e0 (brackets (open_bracket_is (terminal_at source a) t0) (close_bracket_is (terminal_at source n) t2)) (text_run x) (g2 ∙ g1) g0 k0 e2) (text_run y)) h
-text_run {source = source} (is_more (is_right (is_right (is_right (is_both {a = a} (is_word t0 e0 f0 g0) (is_both (is_form x f1 g1) (is_word {a = n} t2 e2 f2 g2) h1) h0)))) y h) =
+    remarked k0 (run_more (bracket_closed e0 (brackets (open_bracket_is (terminal_at source a) t0) (close_bracket_is (terminal_at source n) t2))
+    (text_run x) (g2 ∙ g1) g0 k0 e2) (text_run y)) h
+text_run {source = source} (is_more (is_right (is_right (is_right (is_both {a = a} (is_word t0 e0 f0 g0)
+    (is_both (is_form x f1 g1) (is_word {a = n} t2 e2 f2 g2) h1) h0)))) y h) =
     let k0 = unmarked_both f0 (unmarked_both f1 f2 h1) h0 in
-    remarked k0 (run_more (bracket_closed e0 (braces (open_brace_is (terminal_at source a) t0) (close_brace_is (terminal_at source n) t2)) (text_run x) (g2 ∙ g1) g0 k0 e2) (text_run y)) h
+    remarked k0 (run_more (bracket_closed e0 (braces (open_brace_is (terminal_at source a) t0) (close_brace_is (terminal_at source n) t2))
+    (text_run x) (g2 ∙ g1) g0 k0 e2) (text_run y)) h
 
 -- The tokens between a bracket and the one that closes it are the longest balanced ones.
-pub balanced_long : {lookahead : Lookahead → ℕ → Type 0} {bodies : Bodies} {source : Source} {a b : ℕ} → Partners source.terminals a b → (r : Read) → LongestMatch lookahead bodies source (form balanced) r (a + 1) b None r
-balanced_long {lookahead = lookahead} {bodies = bodies} {source = source} {a = a} {b = b} p r = record { derives = is_form (run_text p.between no_read) refl (unread r); longest = only }
+pub balanced_long : {lookahead : Lookahead → ℕ → Type 0} {bodies : Bodies} {source : Source} {a b : ℕ} → Partners source.terminals a b → (r : Read)
+    → LongestMatch lookahead bodies source (form balanced) r (a + 1) b None r
+balanced_long {lookahead = lookahead} {bodies = bodies} {source = source} {a = a} {b = b} p r =
+    record { derives = is_form (run_text p.between no_read) refl (unread r); longest = only }
   where
-    only : (c : ℕ) (l : Option ℕ) (o : Read) → Derives lookahead bodies source (form balanced) r (a + 1) c l o → IsNoLonger lookahead source (form balanced) b None r c l o
-    only c l o (is_form x e f) = let y = text_run x in elim (shorter source.terminals p.between (closing_stops (terminal_at source a) (terminal_at source b) p.closes) y.tokens) [
-      | inl h ↦ inl (h.0, λ seen w. h.1)
-      | inr h ↦ inr (h, e, f ∙ ap (λ (z : Read). and_then r z) y.same ∙ and_then_none r)
-    ]
+    only : (c : ℕ) (l : Option ℕ) (o : Read) → Derives lookahead bodies source (form balanced) r (a + 1) c l o
+        → IsNoLonger lookahead source (form balanced) b None r c l o
+    only c l o (is_form x e f) =
+        let y = text_run x in elim (shorter source.terminals p.between (closing_stops (terminal_at source a) (terminal_at source b) p.closes)
+        y.tokens) [
+          | inl h ↦ inl (h.0, λ seen w. h.1)
+          | inr h ↦ inr (h, e, f ∙ ap (λ (z : Read). and_then r z) y.same ∙ and_then_none r)
+        ]

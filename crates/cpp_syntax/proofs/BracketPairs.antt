@@ -65,19 +65,22 @@ clash : (xs : List Terminal) (i j : ℕ) → i ≡ j → goes_inside (terminal_i
 clash xs i j e f g = true≢false (sym g ∙ sym (ap (λ (k : ℕ). goes_inside (terminal_in xs k)) e) ∙ f)
 
 -- Where balanced tokens go on behind a bracket, it is closed.
-through : (xs : List Terminal) {a b m : ℕ} → Balanced xs a b → goes_inside (terminal_in xs b) ≡ false → Balanced xs a m → opens (terminal_in xs m) ≡ true → (n : ℕ) × Partners xs m n
+through : (xs : List Terminal) {a b m : ℕ} → Balanced xs a b → goes_inside (terminal_in xs b) ≡ false → Balanced xs a m
+    → opens (terminal_in xs m) ≡ true → (n : ℕ) × Partners xs m n
 through xs {b = b} {m = m} (is_empty e) f (is_empty g) o = absurd (clash xs b m (e ∙ sym g) f (opens_goes (terminal_in xs m) o))
 through xs {a = a} {b = b} (is_empty e) f (is_token t z) o = absurd (clash xs b a e f (unbracketed_goes (terminal_in xs a) t))
 through xs {a = a} {b = b} (is_empty e) f (is_bracket {m = n} v d w) o = absurd (clash xs b a e f (opening_goes (terminal_in xs a) (terminal_in xs n) d))
-through xs {a = a} {m = m} (is_token t y) f (is_empty g) o = absurd (true≢false (sym t ∙ ap (λ (k : ℕ). is_unbracketed (terminal_in xs k)) (sym g) ∙ opens_bracket (terminal_in xs m) o))
+through xs {a = a} {m = m} (is_token t y) f (is_empty g) o =
+    absurd (true≢false (sym t ∙ ap (λ (k : ℕ). is_unbracketed (terminal_in xs k)) (sym g) ∙ opens_bracket (terminal_in xs m) o))
 through xs (is_token t y) f (is_token u z) o = through xs y f z o
 through xs {a = a} (is_token t y) f (is_bracket {m = n} v d w) o = absurd (true≢false (sym t ∙ opening (terminal_in xs a) (terminal_in xs n) d))
 through xs {a = a} (is_bracket {m = n} y c z) f (is_empty g) o = (n, subst (λ (k : ℕ). Partners xs k n) (sym g) (record { closes = c; between = y }))
 through xs {a = a} (is_bracket {m = n} y c z) f (is_token u w) o = absurd (true≢false (sym u ∙ opening (terminal_in xs a) (terminal_in xs n) c))
-through xs {a = a} {m = m} (is_bracket {m = n} y c z) f (is_bracket {m = k} v d w) o = elim (shorter xs y (closing_stops (terminal_in xs a) (terminal_in xs n) c) v) [
-  | inl h ↦ absurd (true≢false (sym h.1 ∙ closing_stops (terminal_in xs a) (terminal_in xs k) d))
-  | inr h ↦ through xs z f (subst (λ (q : ℕ). Balanced xs (q + 1) m) h w) o
-]
+through xs {a = a} {m = m} (is_bracket {m = n} y c z) f (is_bracket {m = k} v d w) o =
+    elim (shorter xs y (closing_stops (terminal_in xs a) (terminal_in xs n) c) v) [
+      | inl h ↦ absurd (true≢false (sym h.1 ∙ closing_stops (terminal_in xs a) (terminal_in xs k) d))
+      | inr h ↦ through xs z f (subst (λ (q : ℕ). Balanced xs (q + 1) m) h w) o
+    ]
 
 -- brackets that are open
 
@@ -108,7 +111,8 @@ abbrev pub IsLeft : List Terminal → List ℕ → ℕ → Type 0
 IsLeft xs opened i = (front : List ℕ) (s : ℕ) → opened ≡ front ++ s ∷ [] → closes (terminal_in xs s) (terminal_in xs i) ≡ false
 
 -- Then none of the open ones ever is, where the token does not go inside.
-first_left : (xs : List Terminal) (s : ℕ) (opened : List ℕ) (i : ℕ) → AreOpen xs (s ∷ opened) i → goes_inside (terminal_in xs i) ≡ false → IsLeft xs (s ∷ opened) i → (b : ℕ) → Partners xs s b → ⊥
+first_left : (xs : List Terminal) (s : ℕ) (opened : List ℕ) (i : ℕ) → AreOpen xs (s ∷ opened) i → goes_inside (terminal_in xs i) ≡ false
+    → IsLeft xs (s ∷ opened) i → (b : ℕ) → Partners xs s b → ⊥
 first_left xs s [] i c f left b q = elim (shorter xs c.1 f q.between) [
   | inl h ↦ true≢false (sym h.1 ∙ closing_stops (terminal_in xs s) (terminal_in xs b) q.closes)
   | inr h ↦ true≢false (sym q.closes ∙ ap (λ (k : ℕ). closes (terminal_in xs s) (terminal_in xs k)) h ∙ left [] s refl)
@@ -117,11 +121,13 @@ first_left xs s (t ∷ opened) i c f left b q =
     let n = through xs q.between (closing_stops (terminal_in xs s) (terminal_in xs b) q.closes) c.1 (c.2).0 in
     first_left xs t opened i c.2 f (λ front u e. left (s ∷ front) u (ap (λ (ys : List ℕ). s ∷ ys) e)) n.0 n.1
 
-all_left : (xs : List Terminal) (opened : List ℕ) (i a : ℕ) → AreOpen xs opened i → goes_inside (terminal_in xs i) ≡ false → IsLeft xs opened i → StandsIn a opened → (b : ℕ) → Partners xs a b → ⊥
+all_left : (xs : List Terminal) (opened : List ℕ) (i a : ℕ) → AreOpen xs opened i → goes_inside (terminal_in xs i) ≡ false → IsLeft xs opened i
+    → StandsIn a opened → (b : ℕ) → Partners xs a b → ⊥
 all_left xs [] i a c f left m b q = m
 all_left xs (s ∷ opened) i a c f left (inl e) b q = first_left xs s opened i c f left b (subst (λ (k : ℕ). Partners xs k b) e q)
 all_left xs (s ∷ []) i a c f left (inr m) b q = m
-all_left xs (s ∷ t ∷ opened) i a c f left (inr m) b q = all_left xs (t ∷ opened) i a c.2 f (λ front u e. left (s ∷ front) u (ap (λ (ys : List ℕ). s ∷ ys) e)) m b q
+all_left xs (s ∷ t ∷ opened) i a c f left (inr m) b q =
+    all_left xs (t ∷ opened) i a c.2 f (λ front u e. left (s ∷ front) u (ap (λ (ys : List ℕ). s ∷ ys) e)) m b q
 
 -- what the table has
 
@@ -191,7 +197,8 @@ known_in xs opened more a v h (inl k) = inl (h k.0, k.1)
 known_in xs opened more a v h (inr k) = inr k
 
 at_end : (partners now : List ℕ) (at : ℕ) → now ≡ partners ++ at ∷ [] → length partners ≡ at → get_or now at 0 ≡ at
-at_end partners now at e long = ap (λ (ps : List ℕ). get_or ps at 0) e ∙ ap (λ (k : ℕ). get_or (partners ++ at ∷ []) k 0) (sym long) ∙ get_or-append_seam partners at [] 0
+at_end partners now at e long =
+    ap (λ (ps : List ℕ). get_or ps at 0) e ∙ ap (λ (k : ℕ). get_or (partners ++ at ∷ []) k 0) (sym long) ∙ get_or-append_seam partners at [] 0
 
 before_end : (partners now : List ℕ) (at a : ℕ) → now ≡ partners ++ at ∷ [] → length partners ≡ at → a < at → get_or now a 0 ≡ get_or partners a 0
 before_end partners now at a e long less = ap (λ (ps : List ℕ). get_or ps a 0) e ∙ get_or_append_left partners (at ∷ []) 0 a (omega (arith, long, less))
@@ -202,30 +209,36 @@ one_longer partners now at e long = ap (λ (ps : List ℕ). length ps) e ∙ len
 none_known : (xs : List Terminal) (opened : List ℕ) (a : ℕ) → ((b : ℕ) → Partners xs a b → ⊥) → IsKnown xs opened a a
 none_known xs opened a h = inr (subst (IsPartner xs a) (sym (own_none a)) (none_is xs a h))
 
-pub opened_one : (xs : List Terminal) (partners opened partners' opened' : List ℕ) (at : ℕ) → Paired xs partners opened at at → opens (terminal_in xs at) ≡ true → opened' ≡ opened ++ at ∷ [] → partners' ≡ partners ++ at ∷ [] → Paired xs partners' opened' (at + 1) (at + 1)
+pub opened_one : (xs : List Terminal) (partners opened partners' opened' : List ℕ) (at : ℕ) → Paired xs partners opened at at
+    → opens (terminal_in xs at) ≡ true → opened' ≡ opened ++ at ∷ [] → partners' ≡ partners ++ at ∷ [] → Paired xs partners' opened' (at + 1) (at + 1)
 opened_one xs partners opened partners' opened' at p o push put = record {
   long = one_longer partners partners' at put p.long;
   chain = subst (λ (ys : List ℕ). AreOpen xs ys (at + 1)) (sym push) (open_one xs opened at p.chain o);
   each = λ a less. elim (below_or_at a at less) [
-    | inl h ↦ known_value xs opened' a (get_or partners' a 0) (get_or partners a 0) (before_end partners partners' at a put p.long h) (known_in xs opened opened' a (get_or partners a 0) (λ m. subst (StandsIn a) (sym push) (stands_before a at opened m)) (p.each a h))
-    | inr e ↦ subst (λ (k : ℕ). IsKnown xs opened' k (get_or partners' k 0)) (sym e) (inl (subst (StandsIn at) (sym push) (stands_last at opened), at_end partners partners' at put p.long))
+    | inl h ↦ known_value xs opened' a (get_or partners' a 0) (get_or partners a 0) (before_end partners partners' at a put p.long h)
+        (known_in xs opened opened' a (get_or partners a 0) (λ m. subst (StandsIn a) (sym push) (stands_before a at opened m)) (p.each a h))
+    | inr e ↦ subst (λ (k : ℕ). IsKnown xs opened' k (get_or partners' k 0)) (sym e) (inl
+        (subst (StandsIn at) (sym push) (stands_last at opened), at_end partners partners' at put p.long))
   ];
 }
 
-pub passed_one : (xs : List Terminal) (partners opened : List ℕ) (at : ℕ) → Paired xs partners opened at at → is_unbracketed (terminal_in xs at) ≡ true → Paired xs partners opened at (at + 1)
+pub passed_one : (xs : List Terminal) (partners opened : List ℕ) (at : ℕ) → Paired xs partners opened at at
+    → is_unbracketed (terminal_in xs at) ≡ true → Paired xs partners opened at (at + 1)
 passed_one xs partners opened at p u = record {
   long = p.long;
   chain = open_on xs opened at (at + 1) p.chain (one_token xs at u);
   each = p.each;
 }
 
-pub kept_one : (xs : List Terminal) (partners opened partners' : List ℕ) (at : ℕ) → Paired xs partners opened at (at + 1) → opens (terminal_in xs at) ≡ false → partners' ≡ partners ++ at ∷ [] → Paired xs partners' opened (at + 1) (at + 1)
+pub kept_one : (xs : List Terminal) (partners opened partners' : List ℕ) (at : ℕ) → Paired xs partners opened at (at + 1)
+    → opens (terminal_in xs at) ≡ false → partners' ≡ partners ++ at ∷ [] → Paired xs partners' opened (at + 1) (at + 1)
 kept_one xs partners opened partners' at p o put = record {
   long = one_longer partners partners' at put p.long;
   chain = p.chain;
   each = λ a less. elim (below_or_at a at less) [
     | inl h ↦ known_value xs opened a (get_or partners' a 0) (get_or partners a 0) (before_end partners partners' at a put p.long h) (p.each a h)
-    | inr e ↦ subst (λ (k : ℕ). IsKnown xs opened k (get_or partners' k 0)) (sym e) (known_value xs opened at (get_or partners' at 0) at (at_end partners partners' at put p.long) (none_known xs opened at (not_opening xs at o)))
+    | inr e ↦ subst (λ (k : ℕ). IsKnown xs opened k (get_or partners' k 0)) (sym e) (known_value xs opened at (get_or partners' at 0) at
+        (at_end partners partners' at put p.long) (none_known xs opened at (not_opening xs at o)))
   ];
 }
 
@@ -236,7 +249,9 @@ known_but xs opened front s a v pop other (inl k) = elim (stands_split a s front
 ]
 known_but xs opened front s a v pop other (inr k) = inr k
 
-pub closed_one : (xs : List Terminal) (partners opened partners' opened' : List ℕ) (s at : ℕ) → Paired xs partners opened at at → opened ≡ opened' ++ s ∷ [] → closes (terminal_in xs s) (terminal_in xs at) ≡ true → partners' ≡ set partners s at → s < at → Paired xs partners' opened' at (at + 1)
+pub closed_one : (xs : List Terminal) (partners opened partners' opened' : List ℕ) (s at : ℕ) → Paired xs partners opened at at
+    → opened ≡ opened' ++ s ∷ [] → closes (terminal_in xs s) (terminal_in xs at) ≡ true → partners' ≡ set partners s at → s < at
+    → Paired xs partners' opened' at (at + 1)
 closed_one xs partners opened partners' opened' s at p pop c put less =
     let l = last_open xs opened' s at (subst (λ (ys : List ℕ). AreOpen xs ys at) pop p.chain) in
     let pair_is : Partners xs s at = record { closes = c; between = l.between } in
@@ -244,16 +259,24 @@ closed_one xs partners opened partners' opened' s at p pop c put less =
       long = ap (λ (ps : List ℕ). length ps) put ∙ length-set partners s at ∙ p.long;
       chain = open_on xs opened' s (at + 1) l.others (one_pair xs s at l.between c);
       each = λ a h. elim (compare a s) [
-        | equal e ↦ subst (λ (k : ℕ). IsKnown xs opened' k (get_or partners' k 0)) (sym e) (known_value xs opened' s (get_or partners' s 0) at (ap (λ (ps : List ℕ). get_or ps s 0) put ∙ get_or-set_same partners s at 0 (let long = p.long in omega (arith, less, long))) (inr (subst (IsPartner xs s) (sym (later_some s at less)) (some_is xs s at pair_is))))
-        | apart other ↦ known_value xs opened' a (get_or partners' a 0) (get_or partners a 0) (ap (λ (ps : List ℕ). get_or ps a 0) put ∙ get_or-set_other partners s a at 0 other) (known_but xs opened opened' s a (get_or partners a 0) pop other (p.each a h))
+        | equal e ↦ subst (λ (k : ℕ). IsKnown xs opened' k (get_or partners' k 0)) (sym e)
+            (known_value xs opened' s (get_or partners' s 0) at (ap (λ (ps : List ℕ). get_or ps s 0) put ∙ get_or-set_same partners s at 0
+            (let long = p.long in omega (arith, less, long))) (inr (subst (IsPartner xs s) (sym (later_some s at less)) (some_is xs s at pair_is))))
+        | apart other ↦ known_value xs opened' a (get_or partners' a 0) (get_or partners a 0)
+            (ap (λ (ps : List ℕ). get_or ps a 0) put ∙ get_or-set_other partners s a at 0 other)
+            (known_but xs opened opened' s a (get_or partners a 0) pop other (p.each a h))
       ];
     }
 
-known_left : (xs : List Terminal) (opened : List ℕ) (i a v : ℕ) → AreOpen xs opened i → goes_inside (terminal_in xs i) ≡ false → IsLeft xs opened i → IsKnown xs opened a v → IsPartner xs a (if nat_lt a v then Some v else None)
-known_left xs opened i a v c stops left (inl k) = subst (λ (w : ℕ). IsPartner xs a (if nat_lt a w then Some w else None)) (sym k.1) (subst (IsPartner xs a) (sym (own_none a)) (none_is xs a (all_left xs opened i a c stops left k.0)))
+known_left : (xs : List Terminal) (opened : List ℕ) (i a v : ℕ) → AreOpen xs opened i → goes_inside (terminal_in xs i) ≡ false → IsLeft xs opened i
+    → IsKnown xs opened a v → IsPartner xs a (if nat_lt a v then Some v else None)
+known_left xs opened i a v c stops left (inl k) =
+    subst (λ (w : ℕ). IsPartner xs a (if nat_lt a w then Some w else None)) (sym k.1)
+    (subst (IsPartner xs a) (sym (own_none a)) (none_is xs a (all_left xs opened i a c stops left k.0)))
 known_left xs opened i a v c stops left (inr k) = k
 
-pub left_all : (xs : List Terminal) (partners opened : List ℕ) (at : ℕ) → Paired xs partners opened at at → goes_inside (terminal_in xs at) ≡ false → IsLeft xs opened at → Paired xs partners [] at (at + 1)
+pub left_all : (xs : List Terminal) (partners opened : List ℕ) (at : ℕ) → Paired xs partners opened at at → goes_inside (terminal_in xs at) ≡ false
+    → IsLeft xs opened at → Paired xs partners [] at (at + 1)
 left_all xs partners opened at p stops left = record {
   long = p.long;
   chain = tt;
@@ -283,11 +306,13 @@ end_closes terminal.OpenBrace = refl
 end_closes _ = cc
 
 -- behind the last token all are known
-pub all_paired : (xs : List Terminal) (partners opened : List ℕ) (n : ℕ) → Paired xs partners opened n n → n ≡ length xs → (a : ℕ) → IsPartner xs a (partner_in partners a)
+pub all_paired : (xs : List Terminal) (partners opened : List ℕ) (n : ℕ) → Paired xs partners opened n n → n ≡ length xs → (a : ℕ)
+    → IsPartner xs a (partner_in partners a)
 all_paired xs partners opened n p whole a =
     let ends : terminal_in xs n ≡ terminal.End = past_end xs n (omega (arith, whole)) in
     elim (cases_Bool (nat_lt a n)) [
-      | inl less ↦ known_left xs opened n a (get_or partners a 0) p.chain (ap goes_inside ends) (λ front s e. ap (closes (terminal_in xs s)) ends ∙ end_closes (terminal_in xs s)) (p.each a (ltb-true a n less))
+      | inl less ↦ known_left xs opened n a (get_or partners a 0) p.chain (ap goes_inside ends)
+          (λ front s e. ap (closes (terminal_in xs s)) ends ∙ end_closes (terminal_in xs s)) (p.each a (ltb-true a n less))
       | inr other ↦
           let behind : n ≤ a = ltb-false a n other in
           let nothing : get_or partners a 0 ≡ 0 = none_past partners a (let long = p.long in omega (arith, long, behind)) in
@@ -309,5 +334,7 @@ same_last [] s (u ∷ others) t e = absurd (let long = ap (λ (ys : List ℕ). l
 same_last (u ∷ front) s [] t e = absurd (let long = ap (λ (ys : List ℕ). length ys) e in let more = length-append front (s ∷ []) in omega (arith, long, more))
 same_last (u ∷ front) s (v ∷ others) t e = same_last front s others t (ap (drop 1) e)
 
-pub left_last : (xs : List Terminal) (opened front : List ℕ) (s at : ℕ) → opened ≡ front ++ s ∷ [] → closes (terminal_in xs s) (terminal_in xs at) ≡ false → IsLeft xs opened at
-left_last xs opened front s at pop other others t e = subst (λ (k : ℕ). closes (terminal_in xs k) (terminal_in xs at) ≡ false) (same_last front s others t (sym pop ∙ e)) other
+pub left_last : (xs : List Terminal) (opened front : List ℕ) (s at : ℕ) → opened ≡ front ++ s ∷ []
+    → closes (terminal_in xs s) (terminal_in xs at) ≡ false → IsLeft xs opened at
+left_last xs opened front s at pop other others t e =
+    subst (λ (k : ℕ). closes (terminal_in xs k) (terminal_in xs at) ≡ false) (same_last front s others t (sym pop ∙ e)) other

@@ -36,12 +36,15 @@ last_total (xs ∷ xss) =
     let both = length-append xs (concat xss) in
     omega (arith, rest, both)
 
-last_taken : (start : ℕ) (nodes : List Node) (ids : List NodeId) (totals : List ℕ) → totals ≡ running 0 (lambdas_from nodes ids) → last_or_none (take start totals) ≡ length (lambdas_at nodes (take start ids))
+last_taken : (start : ℕ) (nodes : List Node) (ids : List NodeId) (totals : List ℕ) → totals ≡ running 0 (lambdas_from nodes ids)
+    → last_or_none (take start totals) ≡ length (lambdas_at nodes (take start ids))
 last_taken start nodes ids totals counted =
     ap (λ (ns : List ℕ). last_or_none (take start ns)) counted ∙ ap last_or_none (running_take start 0 (lambdas_from nodes ids))
-    ∙ last_total (take start (lambdas_from nodes ids)) ∙ ap (λ (xss : List (List ℕ)). length (concat xss)) (take-map (λ (id : NodeId). get_or (values_from [] lambdas_made [] nodes) id.0 []) start ids)
+    ∙ last_total (take start (lambdas_from nodes ids)) ∙ ap (λ (xss : List (List ℕ)). length (concat xss))
+    (take-map (λ (id : NodeId). get_or (values_from [] lambdas_made [] nodes) id.0 []) start ids)
 
-pub lambdas_taken : (start : ℕ) (nodes : List Node) (ids : List NodeId) → take (length (lambdas_at nodes (take start ids))) (lambdas_at nodes ids) ≡ lambdas_at nodes (take start ids)
+pub lambdas_taken : (start : ℕ) (nodes : List Node) (ids : List NodeId)
+    → take (length (lambdas_at nodes (take start ids))) (lambdas_at nodes ids) ≡ lambdas_at nodes (take start ids)
 lambdas_taken start nodes ids =
     ap (take (length (lambdas_at nodes (take start ids)))) (sym (front_and_back nodes start ids))
     ∙ take-append_seam (lambdas_at nodes (take start ids)) (lambdas_at nodes (drop start ids))
@@ -56,33 +59,50 @@ below_cut index (suc n) (lam ∷ lams) h =
 few_in : (k start : ℕ) (ids : List NodeId) → times_in k (take start ids) ≤ times_in k ids
 few_in k start ids = let whole = sum_by-take-drop (λ (i : NodeId). if nat_eq i.0 k then 1 else 0) ids start in omega (arith, whole)
 
-pub built_cut : (base : ℕ) (nodes : List Node) (ids ids' : List NodeId) (start : ℕ) (totals totals' : List ℕ) (bodies bodies' : List OpenBody) → IsBuilt base nodes ids totals bodies → ids' ≡ take start ids → totals' ≡ take start totals → bodies' ≡ take (last_or_none totals') bodies → IsBuilt base nodes ids' totals' bodies'
+pub built_cut : (base : ℕ) (nodes : List Node) (ids ids' : List NodeId) (start : ℕ) (totals totals' : List ℕ) (bodies bodies' : List OpenBody)
+    → IsBuilt base nodes ids totals bodies → ids' ≡ take start ids → totals' ≡ take start totals → bodies' ≡ take (last_or_none totals') bodies
+    → IsBuilt base nodes ids' totals' bodies'
 built_cut base nodes ids ids' start totals totals' bodies bodies' inv cut cut_totals cut_bodies =
-    let number : last_or_none totals' ≡ length (lambdas_at nodes (take start ids)) = ap last_or_none cut_totals ∙ last_taken start nodes ids totals inv.counted in
-    let lams : lams_of bodies' ≡ take (last_or_none totals') (lams_of bodies) = ap (λ (bs : List OpenBody). lams_of bs) cut_bodies ∙ sym (take-map (λ (body : OpenBody). body.lam.0) (last_or_none totals') bodies) in
+    let number : last_or_none totals' ≡ length (lambdas_at nodes (take start ids)) = ap last_or_none cut_totals ∙ last_taken start nodes ids totals
+    inv.counted in
+    let lams : lams_of bodies' ≡ take (last_or_none totals') (lams_of bodies) = ap (λ (bs : List OpenBody). lams_of bs) cut_bodies ∙ sym
+    (take-map (λ (body : OpenBody). body.lam.0) (last_or_none totals') bodies) in
     let at : NodeId → List ℕ = λ (id : NodeId). get_or (values_from [] lambdas_made [] nodes) id.0 [] in
     record {
       within = inv.within;
       below = ap (are_below (length nodes)) cut ∙ below_take (length nodes) start ids inv.below;
-      lams_below = ap (list_all (λ (lam : ℕ). nat_lt lam (length nodes))) lams ∙ below_cut (length nodes) (last_or_none totals') (lams_of bodies) inv.lams_below;
+      lams_below =
+          ap (list_all (λ (lam : ℕ). nat_lt lam (length nodes))) lams ∙ below_cut (length nodes) (last_or_none totals') (lams_of bodies)
+          inv.lams_below;
       shows = subst (EachShows nodes) (sym cut) (each_take nodes start ids inv.shows);
       apart = λ k.
           let fewer = few_in k start ids in
           let same : times_in k ids' ≡ times_in k (take start ids) = ap (λ (is : List NodeId). times_in k is) cut in
           let before = inv.apart k in
           omega (arith, fewer, same, before);
-      lambdas = lams ∙ ap (take (last_or_none totals')) inv.lambdas ∙ ap (λ (n : ℕ). take n (lambdas_at nodes ids)) number ∙ lambdas_taken start nodes ids ∙ ap (λ (is : List NodeId). lambdas_at nodes is) (sym cut);
-      counted = cut_totals ∙ ap (take start) inv.counted ∙ running_take start 0 (lambdas_from nodes ids) ∙ ap (running 0) (take-map at start ids) ∙ ap (λ (is : List NodeId). running 0 (lambdas_from nodes is)) (sym cut);
+      lambdas =
+          lams ∙ ap (take (last_or_none totals')) inv.lambdas ∙ ap (λ (n : ℕ). take n (lambdas_at nodes ids)) number ∙ lambdas_taken start nodes ids
+          ∙ ap (λ (is : List NodeId). lambdas_at nodes is) (sym cut);
+      counted =
+          cut_totals ∙ ap (take start) inv.counted ∙ running_take start 0 (lambdas_from nodes ids) ∙ ap (running 0) (take-map at start ids) ∙ ap
+          (λ (is : List NodeId). running 0 (lambdas_from nodes is)) (sym cut);
     }
 
-pub cut_shown : (base : ℕ) (nodes : List Node) (ids ids' : List NodeId) (mark : Checkpoint) (totals totals' : List ℕ) (bodies bodies' : List OpenBody) (shown before : BuilderState) (got : Read) → IsBuilt base nodes ids totals bodies → builder_state base nodes ids bodies ≡ shown → ids' ≡ take mark.trees ids → totals' ≡ take mark.trees totals → bodies' ≡ take (last_or_none totals') bodies → IsMark mark before → shown ≡ appended before got → builder_state base nodes ids' bodies' ≡ before
+pub cut_shown : (base : ℕ) (nodes : List Node) (ids ids' : List NodeId) (mark : Checkpoint) (totals totals' : List ℕ)
+    (bodies bodies' : List OpenBody) (shown before : BuilderState) (got : Read)
+    → IsBuilt base nodes ids totals bodies → builder_state base nodes ids bodies ≡ shown → ids' ≡ take mark.trees ids
+    → totals' ≡ take mark.trees totals → bodies' ≡ take (last_or_none totals') bodies → IsMark mark before → shown ≡ appended before got
+    → builder_state base nodes ids' bodies' ≡ before
 cut_shown base nodes ids ids' mark totals totals' bodies bodies' shown before got inv view cut cut_totals cut_bodies marks e =
     let start : ℕ = mark.trees in
     let was_shown : builder_state base nodes ids bodies ≡ appended before got = view ∙ e in
-    let front : trees_at nodes (take start ids) ≡ before.read.trees = (since nodes start ids before.read.trees got.trees (ap (λ (b : BuilderState). b.read.trees) was_shown) marks.trees).front in
-    let number : last_or_none totals' ≡ length before.read.bodies = ap last_or_none cut_totals ∙ last_taken start nodes ids totals inv.counted ∙ as_many nodes (take start ids) ∙ ap count_lambdas_in front ∙ sym marks.bodies in
+    let front : trees_at nodes (take start ids) ≡ before.read.trees = (since nodes start ids before.read.trees got.trees
+    (ap (λ (b : BuilderState). b.read.trees) was_shown) marks.trees).front in
+    let number : last_or_none totals' ≡ length before.read.bodies = ap last_or_none cut_totals ∙ last_taken start nodes ids totals inv.counted ∙
+    as_many nodes (take start ids) ∙ ap count_lambdas_in front ∙ sym marks.bodies in
     same_building (take base nodes) before.base (trees_at nodes ids') before.read.trees (map (body_of nodes) bodies') before.read.bodies
     (ap (λ (b : BuilderState). b.base) was_shown)
     (ap (λ (is : List NodeId). trees_at nodes is) cut ∙ front)
-    (ap (map (body_of nodes)) cut_bodies ∙ sym (take-map (body_of nodes) (last_or_none totals') bodies) ∙ ap (take (last_or_none totals')) (ap (λ (b : BuilderState). b.read.bodies) was_shown)
+    (ap (map (body_of nodes)) cut_bodies ∙ sym (take-map (body_of nodes) (last_or_none totals') bodies) ∙ ap (take (last_or_none totals'))
+    (ap (λ (b : BuilderState). b.read.bodies) was_shown)
     ∙ ap (λ (n : ℕ). take n (before.read.bodies ++ got.bodies)) number ∙ take-append_seam before.read.bodies got.bodies)

@@ -9,20 +9,26 @@ use Rattle.cpp_syntax.specs.declared.positions.OpenBody.{OpenBody}
 use Rattle.cpp_syntax.specs.View.{BuilderState, builder_state, IsBuilt, BuiltTrees}
 use Rattle.cpp_syntax.proofs.GatheredNodes.{all_of_each}
 
-base_long : (base : ℕ) (nodes : List Node) (ids : List NodeId) (totals : List ℕ) (bodies : List OpenBody) (built : BuilderState) → builder_state base nodes ids bodies ≡ built → IsBuilt base nodes ids totals bodies → base ≡ length built.base
+base_long : (base : ℕ) (nodes : List Node) (ids : List NodeId) (totals : List ℕ) (bodies : List OpenBody) (built : BuilderState)
+    → builder_state base nodes ids bodies ≡ built → IsBuilt base nodes ids totals bodies → base ≡ length built.base
 base_long base nodes ids totals bodies built view inv = sym (ap (λ (b : BuilderState). length b.base) (sym view) ∙ length-take-le base nodes inv.within)
 
-pub parts_shown : (base : ℕ) (nodes : List Node) (ids : List NodeId) (totals : List ℕ) (bodies : List OpenBody) (built : BuilderState) → builder_state base nodes ids bodies ≡ built → IsBuilt base nodes ids totals bodies → BuiltTrees (length built.base) nodes ids bodies
-parts_shown base nodes ids totals bodies built view inv = subst (λ (k : ℕ). BuiltTrees k nodes ids bodies) (base_long base nodes ids totals bodies built view inv) (record {
-  shows = all_of_each nodes ids inv.shows;
-  apart = inv.apart;
-  lambdas = inv.lambdas;
-})
+pub parts_shown : (base : ℕ) (nodes : List Node) (ids : List NodeId) (totals : List ℕ) (bodies : List OpenBody) (built : BuilderState)
+    → builder_state base nodes ids bodies ≡ built → IsBuilt base nodes ids totals bodies → BuiltTrees (length built.base) nodes ids bodies
+parts_shown base nodes ids totals bodies built view inv =
+    subst (λ (k : ℕ). BuiltTrees k nodes ids bodies) (base_long base nodes ids totals bodies built view inv) (record {
+      shows = all_of_each nodes ids inv.shows;
+      apart = inv.apart;
+      lambdas = inv.lambdas;
+    })
 
-pub parts_built : (base : ℕ) (nodes : List Node) (ids : List NodeId) (totals : List ℕ) (bodies : List OpenBody) (built : BuilderState) → builder_state base nodes ids bodies ≡ built → IsBuilt base nodes ids totals bodies → built ≡ builder_state (length built.base) nodes ids bodies
-parts_built base nodes ids totals bodies built view inv = sym view ∙ ap (λ (k : ℕ). builder_state k nodes ids bodies) (base_long base nodes ids totals bodies built view inv)
+pub parts_built : (base : ℕ) (nodes : List Node) (ids : List NodeId) (totals : List ℕ) (bodies : List OpenBody) (built : BuilderState)
+    → builder_state base nodes ids bodies ≡ built → IsBuilt base nodes ids totals bodies → built ≡ builder_state (length built.base) nodes ids bodies
+parts_built base nodes ids totals bodies built view inv =
+    sym view ∙ ap (λ (k : ℕ). builder_state k nodes ids bodies) (base_long base nodes ids totals bodies built view inv)
 
-pub parts_grown : (base : ℕ) (nodes : List Node) (ids : List NodeId) (bodies : List OpenBody) (built : BuilderState) → builder_state base nodes ids bodies ≡ built → Extends built.base nodes
+pub parts_grown : (base : ℕ) (nodes : List Node) (ids : List NodeId) (bodies : List OpenBody) (built : BuilderState)
+    → builder_state base nodes ids bodies ≡ built → Extends built.base nodes
 parts_grown base nodes ids bodies built view = record {
   extra = drop base nodes;
   appended = sym (take-append-drop base nodes) ∙ ap (λ (b : BuilderState). b.base ++ drop base nodes) view;

@@ -19,7 +19,8 @@ pub at_first : (nodes : List Node) (ids : List NodeId) (trees : Trees) → Shows
 at_first nodes ids trees s = record { rest = trees; shows = s; same = refl }
 
 -- one more that is none of a declarator
-pub past : (nodes : List Node) (ids : List NodeId) (i : ℕ) (id d : NodeId) (trees : Trees) → i < length ids → id ≡ get_or ids i d → ((tree : Tree) → Shows nodes id.0 tree → false ≡ is_of_declarator tree) → Behind nodes ids i trees → Behind nodes ids (i + 1) trees
+pub past : (nodes : List Node) (ids : List NodeId) (i : ℕ) (id d : NodeId) (trees : Trees) → i < length ids → id ≡ get_or ids i d
+    → ((tree : Tree) → Shows nodes id.0 tree → false ≡ is_of_declarator tree) → Behind nodes ids i trees → Behind nodes ids (i + 1) trees
 past nodes ids i id d trees inside at other b =
     let f = front_at nodes ids i id d b.rest inside at b.shows in
     record {
@@ -28,7 +29,8 @@ past nodes ids i id d trees inside at other b =
       same = b.same ∙ ap declared_in f.are ∙ ap (λ (own : Bool). if own then declared f.first else declared_in f.others) (sym (other f.first f.shows));
     }
 
-pub found_at : (nodes : List Node) (ids : List NodeId) (i : ℕ) (id d : NodeId) (trees : Trees) → i < length ids → id ≡ get_or ids i d → ((tree : Tree) → Shows nodes id.0 tree → true ≡ is_of_declarator tree) → Behind nodes ids i trees → Leads nodes ids id.0 trees
+pub found_at : (nodes : List Node) (ids : List NodeId) (i : ℕ) (id d : NodeId) (trees : Trees) → i < length ids → id ≡ get_or ids i d
+    → ((tree : Tree) → Shows nodes id.0 tree → true ≡ is_of_declarator tree) → Behind nodes ids i trees → Leads nodes ids id.0 trees
 found_at nodes ids i id d trees inside at leads b =
     let f = front_at nodes ids i id d b.rest inside at b.shows in
     record {
@@ -56,7 +58,9 @@ abbrev by_kind : Bool → Trees → Option Name → Option Name
 by_kind leads kids other = if leads then declared_in kids else other
 
 -- a node that leads to a name has it among its kids
-pub next_of : (nodes : List Node) (id next : ℕ) (found : Node) (tree : Tree) → slice_get nodes id ≡ Some found → leads_to_name found.kind ≡ true → ((trees : Trees) → ShowsAll nodes found.kids.items trees → Leads nodes found.kids.items next trees) → LeadsTo nodes id tree → LeadsTo nodes next tree
+pub next_of : (nodes : List Node) (id next : ℕ) (found : Node) (tree : Tree) → slice_get nodes id ≡ Some found → leads_to_name found.kind ≡ true
+    → ((trees : Trees) → ShowsAll nodes found.kids.items trees → Leads nodes found.kids.items next trees) → LeadsTo nodes id tree
+    → LeadsTo nodes next tree
 next_of nodes id next found tree stands leads first l =
     let p = parts_of nodes id found l.to stands l.shows in
     let k = first p.kids p.shows in
@@ -67,12 +71,14 @@ next_of nodes id next found tree stands leads first l =
       same = l.same ∙ ap declared p.is ∙ ap (λ (b : Bool). by_kind b p.kids (name_by found.kind found.token)) leads ∙ k.same;
     }
 
-pub no_next : (nodes : List Node) (id : ℕ) (found : Node) (tree : Tree) → slice_get nodes id ≡ Some found → leads_to_name found.kind ≡ true → ((trees : Trees) → ShowsAll nodes found.kids.items trees → declared_in trees ≡ None) → LeadsTo nodes id tree → declared tree ≡ None
+pub no_next : (nodes : List Node) (id : ℕ) (found : Node) (tree : Tree) → slice_get nodes id ≡ Some found → leads_to_name found.kind ≡ true
+    → ((trees : Trees) → ShowsAll nodes found.kids.items trees → declared_in trees ≡ None) → LeadsTo nodes id tree → declared tree ≡ None
 no_next nodes id found tree stands leads first l =
     let p = parts_of nodes id found l.to stands l.shows in
     l.same ∙ ap declared p.is ∙ ap (λ (b : Bool). by_kind b p.kids (name_by found.kind found.token)) leads ∙ first p.kids p.shows
 
-pub at_name : (nodes : List Node) (id : ℕ) (found : Node) (tree : Tree) → slice_get nodes id ≡ Some found → leads_to_name found.kind ≡ false → LeadsTo nodes id tree → declared tree ≡ name_by found.kind found.token
+pub at_name : (nodes : List Node) (id : ℕ) (found : Node) (tree : Tree) → slice_get nodes id ≡ Some found → leads_to_name found.kind ≡ false
+    → LeadsTo nodes id tree → declared tree ≡ name_by found.kind found.token
 at_name nodes id found tree stands other l =
     let p = parts_of nodes id found l.to stands l.shows in
     l.same ∙ ap declared p.is ∙ ap (λ (b : Bool). by_kind b p.kids (name_by found.kind found.token)) other

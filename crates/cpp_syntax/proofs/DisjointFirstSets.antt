@@ -1,9 +1,9 @@
 -- Rules of which the second begins nowhere where the first goes on.
 --
 -- apart p q ≡ true is refl wherever p and q are closed, and where p is one token.
--- never_both sees source p q c refl : ContinuesRule p c → StartsRule q c → ⊥
--- either_way sees a                 : what is refused whether parameters are seen from a on or not is refused
--- goes_wider sees source p q c refl : ContinuesRule p c → ContinuesRule q c   where goes_within p q computes to true
+-- never_both lookahead source p q c refl : ContinuesRule p c → StartsRule q c → ⊥
+-- either_way lookahead a            : what is refused whether parameters are seen from a on or not is refused
+-- goes_wider lookahead source p q c refl : ContinuesRule p c → ContinuesRule q c   where goes_within p q computes to true
 use Rattle.std.proofs.Common.{◌≡◌, ℕ, Bool, true, false, not, ◌&&◌, sym as back, ◌∙◌, true≢false}
 use Rattle.std.proofs.lemmas.Bool.{and_parts, and_from, not-true}
 use Rattle.cpp_syntax.specs.declared.terminal.Terminal.{Terminal}
@@ -26,18 +26,31 @@ apart_at p q false s e = at_each (apart_by p q false) (and_parts (passes (apart_
 pub either_way : (lookahead : Lookahead → ℕ → Type 0) (a : ℕ) → ((seen : Bool) → AreParametersAhead lookahead a seen → ⊥) → ⊥
 either_way lookahead a f = f false (λ h. f true h)
 
-pub never_both : (lookahead : Lookahead → ℕ → Type 0) (source : Source) (p q : Rule) (c : ℕ) → apart p q ≡ true → ContinuesRule lookahead source p c → StartsRule lookahead source q c → ⊥
+pub never_both : (lookahead : Lookahead → ℕ → Type 0) (source : Source) (p q : Rule) (c : ℕ) → apart p q ≡ true → ContinuesRule lookahead source p c
+    → StartsRule lookahead source q c → ⊥
 never_both lookahead source p q c e g b = either_way lookahead c (λ seen h.
     true≢false (back (and_from (rule_continuation_set p seen (terminal_at source c)) (rule_first_set q seen (terminal_at source c)) (g seen h) (b seen h))
-    ∙ not-true (rule_continuation_set p seen (terminal_at source c) && rule_first_set q seen (terminal_at source c)) (apart_at p q seen (terminal_at source c) e)))
+    ∙ not-true (rule_continuation_set p seen (terminal_at source c) && rule_first_set q seen (terminal_at source c))
+    (apart_at p q seen (terminal_at source c) e)))
 
 -- where one rule goes on, another does
 abbrev pub goes_within : Rule → Rule → Bool
-goes_within p q = passes (λ s. implies (rule_continuation_set p true s) (rule_continuation_set q true s)) && passes (λ s. implies (rule_continuation_set p false s) (rule_continuation_set q false s))
+goes_within p q =
+    passes (λ s. implies (rule_continuation_set p true s) (rule_continuation_set q true s)) && passes
+    (λ s. implies (rule_continuation_set p false s) (rule_continuation_set q false s))
 
 wider_at : (p q : Rule) (seen : Bool) (s : Terminal) → goes_within p q ≡ true → rule_continuation_set p seen s ≡ true → rule_continuation_set q seen s ≡ true
-wider_at p q true s e f = implied (rule_continuation_set p true s) (rule_continuation_set q true s) (at_each (λ z. implies (rule_continuation_set p true z) (rule_continuation_set q true z)) (and_parts (passes (λ z. implies (rule_continuation_set p true z) (rule_continuation_set q true z))) (passes (λ z. implies (rule_continuation_set p false z) (rule_continuation_set q false z))) e).0 s) f
-wider_at p q false s e f = implied (rule_continuation_set p false s) (rule_continuation_set q false s) (at_each (λ z. implies (rule_continuation_set p false z) (rule_continuation_set q false z)) (and_parts (passes (λ z. implies (rule_continuation_set p true z) (rule_continuation_set q true z))) (passes (λ z. implies (rule_continuation_set p false z) (rule_continuation_set q false z))) e).1 s) f
+wider_at p q true s e f =
+    implied (rule_continuation_set p true s) (rule_continuation_set q true s) (at_each
+    (λ z. implies (rule_continuation_set p true z) (rule_continuation_set q true z)) (and_parts
+    (passes (λ z. implies (rule_continuation_set p true z) (rule_continuation_set q true z)))
+    (passes (λ z. implies (rule_continuation_set p false z) (rule_continuation_set q false z))) e).0 s) f
+wider_at p q false s e f =
+    implied (rule_continuation_set p false s) (rule_continuation_set q false s) (at_each
+    (λ z. implies (rule_continuation_set p false z) (rule_continuation_set q false z))
+    (and_parts (passes (λ z. implies (rule_continuation_set p true z) (rule_continuation_set q true z)))
+    (passes (λ z. implies (rule_continuation_set p false z) (rule_continuation_set q false z))) e).1 s) f
 
-pub goes_wider : (lookahead : Lookahead → ℕ → Type 0) (source : Source) (p q : Rule) (c : ℕ) → goes_within p q ≡ true → ContinuesRule lookahead source p c → ContinuesRule lookahead source q c
+pub goes_wider : (lookahead : Lookahead → ℕ → Type 0) (source : Source) (p q : Rule) (c : ℕ) → goes_within p q ≡ true
+    → ContinuesRule lookahead source p c → ContinuesRule lookahead source q c
 goes_wider lookahead source p q c e g seen w = wider_at p q seen (terminal_at source c) e (g seen w)

@@ -3,7 +3,7 @@
 -- ends_behind x      : a ≤ b
 -- empty_or x         : a < b, or the rule may be empty
 -- not_empty x refl   : a < b                        where rule_nullable p ≡ false
--- begins_so x h      : StartsRule sees source p a   where h : a < b
+-- begins_so x h      : StartsRule lookahead source p a   where h : a < b
 use Rattle.std.proofs.Common.{◌≡◌, ℕ, ◌<◌, ◌≤◌, ◌⊎◌, inl, inr, Bool, true, false, ◌&&◌, refl, sym as back, ◌∙◌, subst, arith, Option, le_trans, true≢false}
 use Rattle.std.proofs.lemmas.Bool.{cases_lt, or_left, or_right, and_from}
 use Rattle.cpp_syntax.specs.Source.{Source, terminal_at}
@@ -14,7 +14,8 @@ use Rattle.cpp_syntax.specs.FirstSets.{AreParametersAhead, may_be_seen, may_be_u
 use Rattle.cpp_syntax.proofs.Tables.{first_set_holds, nullable_holds}
 
 -- a text does not end before it begins
-pub ends_behind : {lookahead : Lookahead → ℕ → Type 0} {bodies : Bodies} {source : Source} {p : Rule} {r s : Read} {a b : ℕ} {k : Option ℕ} → Derives lookahead bodies source p r a b k s → a ≤ b
+pub ends_behind : {lookahead : Lookahead → ℕ → Type 0} {bodies : Bodies} {source : Source} {p : Rule} {r s : Read} {a b : ℕ} {k : Option ℕ}
+    → Derives lookahead bodies source p r a b k s → a ≤ b
 ends_behind (is_nothing e f g) = omega (arith, e)
 ends_behind (is_word t e f g) = omega (arith, e)
 ends_behind (is_mark t e f g) = omega (arith, e)
@@ -36,7 +37,8 @@ ends_behind (is_if l x) = ends_behind x
 ends_behind (is_unless l x) = ends_behind x
 
 -- a text is not empty, or its rule may be
-pub empty_or : {lookahead : Lookahead → ℕ → Type 0} {bodies : Bodies} {source : Source} {p : Rule} {r s : Read} {a b : ℕ} {k : Option ℕ} → Derives lookahead bodies source p r a b k s → (a < b) ⊎ (rule_nullable p ≡ true)
+pub empty_or : {lookahead : Lookahead → ℕ → Type 0} {bodies : Bodies} {source : Source} {p : Rule} {r s : Read} {a b : ℕ} {k : Option ℕ}
+    → Derives lookahead bodies source p r a b k s → (a < b) ⊎ (rule_nullable p ≡ true)
 empty_or (is_nothing e f g) = inr refl
 empty_or (is_word t e f g) = inl (omega (arith, e))
 empty_or (is_mark t e f g) = inl (omega (arith, e))
@@ -63,17 +65,20 @@ empty_or (is_before x e) = empty_or x
 empty_or (is_if l x) = empty_or x
 empty_or (is_unless l x) = empty_or x
 
-pub not_empty : {lookahead : Lookahead → ℕ → Type 0} {bodies : Bodies} {source : Source} {p : Rule} {r s : Read} {a b : ℕ} {k : Option ℕ} → Derives lookahead bodies source p r a b k s → rule_nullable p ≡ false → a < b
+pub not_empty : {lookahead : Lookahead → ℕ → Type 0} {bodies : Bodies} {source : Source} {p : Rule} {r s : Read} {a b : ℕ} {k : Option ℕ}
+    → Derives lookahead bodies source p r a b k s → rule_nullable p ≡ false → a < b
 not_empty x e = elim (empty_or x) [ inl h ↦ h | inr h ↦ absurd (true≢false (back h ∙ e)) ]
 
-may_be_seen_where : (lookahead : Lookahead → ℕ → Type 0) (look : Lookahead) (a : ℕ) (seen : Bool) → lookahead look a → AreParametersAhead lookahead a seen → may_be_seen look seen ≡ true
+may_be_seen_where : (lookahead : Lookahead → ℕ → Type 0) (look : Lookahead) (a : ℕ) (seen : Bool) → lookahead look a
+    → AreParametersAhead lookahead a seen → may_be_seen look seen ≡ true
 may_be_seen_where lookahead parameters a true l h = refl
 may_be_seen_where lookahead parameters a false l h = absurd (h l)
 may_be_seen_where lookahead a_cast a seen l h = refl
 may_be_seen_where lookahead a_type_in_parentheses a seen l h = refl
 may_be_seen_where lookahead a_declaration a seen l h = refl
 
-may_be_unseen_where : (lookahead : Lookahead → ℕ → Type 0) (look : Lookahead) (a : ℕ) (seen : Bool) → (lookahead look a → ⊥) → AreParametersAhead lookahead a seen → may_be_unseen look seen ≡ true
+may_be_unseen_where : (lookahead : Lookahead → ℕ → Type 0) (look : Lookahead) (a : ℕ) (seen : Bool) → (lookahead look a → ⊥)
+    → AreParametersAhead lookahead a seen → may_be_unseen look seen ≡ true
 may_be_unseen_where lookahead parameters a true l h = absurd (l h)
 may_be_unseen_where lookahead parameters a false l h = refl
 may_be_unseen_where lookahead a_cast a seen l h = refl
@@ -81,7 +86,8 @@ may_be_unseen_where lookahead a_type_in_parentheses a seen l h = refl
 may_be_unseen_where lookahead a_declaration a seen l h = refl
 
 -- a text that is not empty begins as its rule does
-pub begins_so : {lookahead : Lookahead → ℕ → Type 0} {bodies : Bodies} {source : Source} {p : Rule} {r s : Read} {a b : ℕ} {k : Option ℕ} → Derives lookahead bodies source p r a b k s → a < b → StartsRule lookahead source p a
+pub begins_so : {lookahead : Lookahead → ℕ → Type 0} {bodies : Bodies} {source : Source} {p : Rule} {r s : Read} {a b : ℕ} {k : Option ℕ}
+    → Derives lookahead bodies source p r a b k s → a < b → StartsRule lookahead source p a
 begins_so (is_nothing e f g) h seen i = absurd (omega (arith, e, h))
 begins_so (is_word t e f g) h seen i = t
 begins_so (is_mark t e f g) h seen i = t
@@ -95,8 +101,10 @@ begins_so {lookahead = lookahead} {source = source} (is_both {p = p} {q = q} {a 
       (elim (empty_or x) [ inl z ↦ absurd (omega (arith, z, g)) | inr z ↦ z ])
       (subst (λ (z : ℕ). StartsRule lookahead source q z) same (begins_so y (omega (arith, h, same))) seen i))
 ]
-begins_so {source = source} (is_left {p = p} {q = q} {a = a} x) h seen i = or_left (rule_first_set p seen (terminal_at source a)) (rule_first_set q seen (terminal_at source a)) (begins_so x h seen i)
-begins_so {source = source} (is_right {p = p} {q = q} {a = a} x) h seen i = or_right (rule_first_set p seen (terminal_at source a)) (rule_first_set q seen (terminal_at source a)) (begins_so x h seen i)
+begins_so {source = source} (is_left {p = p} {q = q} {a = a} x) h seen i =
+    or_left (rule_first_set p seen (terminal_at source a)) (rule_first_set q seen (terminal_at source a)) (begins_so x h seen i)
+begins_so {source = source} (is_right {p = p} {q = q} {a = a} x) h seen i =
+    or_right (rule_first_set p seen (terminal_at source a)) (rule_first_set q seen (terminal_at source a)) (begins_so x h seen i)
 begins_so (is_last e f g) h seen i = absurd (omega (arith, e, h))
 begins_so {lookahead = lookahead} {source = source} (is_more {p = p} {a = a} {m = m} x y e) h seen i = elim (cases_lt a m) [
   | inl g ↦ begins_so x g seen i
@@ -124,5 +132,9 @@ begins_so {lookahead = lookahead} {source = source} (is_in_tree {p = p} {a = a} 
 ]
 begins_so (is_where x e) h seen i = begins_so x h seen i
 begins_so (is_before x e) h seen i = begins_so x h seen i
-begins_so {lookahead = lookahead} {source = source} (is_if {look = look} {p = p} {a = a} l x) h seen i = and_from (may_be_seen look seen) (rule_first_set p seen (terminal_at source a)) (may_be_seen_where lookahead look a seen l i) (begins_so x h seen i)
-begins_so {lookahead = lookahead} {source = source} (is_unless {look = look} {p = p} {a = a} l x) h seen i = and_from (may_be_unseen look seen) (rule_first_set p seen (terminal_at source a)) (may_be_unseen_where lookahead look a seen l i) (begins_so x h seen i)
+begins_so {lookahead = lookahead} {source = source} (is_if {look = look} {p = p} {a = a} l x) h seen i =
+    and_from (may_be_seen look seen) (rule_first_set p seen (terminal_at source a)) (may_be_seen_where lookahead look a seen l i)
+    (begins_so x h seen i)
+begins_so {lookahead = lookahead} {source = source} (is_unless {look = look} {p = p} {a = a} l x) h seen i =
+    and_from (may_be_unseen look seen) (rule_first_set p seen (terminal_at source a)) (may_be_unseen_where lookahead look a seen l i)
+    (begins_so x h seen i)

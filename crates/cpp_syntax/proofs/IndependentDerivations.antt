@@ -25,15 +25,19 @@ pub and_then_none : (r : Read) → and_then r no_read ≡ r
 and_then_none r = ap₂ (λ (ts : Trees) (bs : List Body). let x : Read = record { trees = ts; bodies = bs } in x) (join_none r.trees) (append-nil r.bodies)
 
 pub and_then_assoc : (r s t : Read) → and_then (and_then r s) t ≡ and_then r (and_then s t)
-and_then_assoc r s t = ap₂ (λ (ts : Trees) (bs : List Body). let x : Read = record { trees = ts; bodies = bs } in x) (join_assoc r.trees s.trees t.trees) (append_assoc r.bodies s.bodies t.bodies)
+and_then_assoc r s t =
+    ap₂ (λ (ts : Trees) (bs : List Body). let x : Read = record { trees = ts; bodies = bs } in x) (join_assoc r.trees s.trees t.trees)
+    (append_assoc r.bodies s.bodies t.bodies)
 
 -- what a text reads, whatever was read before
-pub record Reading_ (lookahead : Lookahead → ℕ → Type 0) (bodies : Bodies) (source : Source) (p : Rule) (r : Read) (a b : ℕ) (k : Option ℕ) (s : Read) : Type 0 where
+pub record Reading_ (lookahead : Lookahead → ℕ → Type 0) (bodies : Bodies) (source : Source) (p : Rule) (r : Read) (a b : ℕ) (k : Option ℕ)
+    (s : Read) : Type 0 where
   pub got : Read
   pub behind : (other : Read) → Derives lookahead bodies source p other a b k (and_then other got)
   pub gained : s ≡ and_then r got
 
-no_gain : {lookahead : Lookahead → ℕ → Type 0} {bodies : Bodies} {source : Source} {p : Rule} {r s : Read} {a b : ℕ} {k : Option ℕ} → ((other : Read) → Derives lookahead bodies source p other a b k other) → s ≡ r → Reading_ lookahead bodies source p r a b k s
+no_gain : {lookahead : Lookahead → ℕ → Type 0} {bodies : Bodies} {source : Source} {p : Rule} {r s : Read} {a b : ℕ} {k : Option ℕ}
+    → ((other : Read) → Derives lookahead bodies source p other a b k other) → s ≡ r → Reading_ lookahead bodies source p r a b k s
 no_gain {lookahead = lookahead} {bodies = bodies} {source = source} {p = p} {r = r} {s = s} {a = a} {b = b} {k = k} f e = record {
   got = no_read;
   behind = λ other. subst (λ (z : Read). Derives lookahead bodies source p other a b k z) (back (and_then_none other)) (f other);
@@ -43,7 +47,8 @@ no_gain {lookahead = lookahead} {bodies = bodies} {source = source} {p = p} {r =
 gain_more : (r : Read) {s t : Read} (g h : Read) → s ≡ and_then r g → t ≡ and_then s h → t ≡ and_then r (and_then g h)
 gain_more r g h e f = f ∙ ap (λ (z : Read). and_then z h) e ∙ and_then_assoc r g h
 
-pub free : {lookahead : Lookahead → ℕ → Type 0} {bodies : Bodies} {source : Source} {p : Rule} {r s : Read} {a b : ℕ} {k : Option ℕ} → is_free p ≡ true → Derives lookahead bodies source p r a b k s → Reading_ lookahead bodies source p r a b k s
+pub free : {lookahead : Lookahead → ℕ → Type 0} {bodies : Bodies} {source : Source} {p : Rule} {r s : Read} {a b : ℕ} {k : Option ℕ}
+    → is_free p ≡ true → Derives lookahead bodies source p r a b k s → Reading_ lookahead bodies source p r a b k s
 free i (is_nothing e f g) = no_gain (λ other. is_nothing e f refl) g
 free i (is_word t e f g) = no_gain (λ other. is_word t e f refl) g
 free i (is_mark t e f g) = no_gain (λ other. is_mark t e f refl) g
@@ -55,18 +60,24 @@ free {lookahead = lookahead} {bodies = bodies} {source = source} i (is_both {p =
     let v = free h.1 y in
     record {
       got = and_then u.got v.got;
-      behind = λ other. subst (λ (z : Read). Derives lookahead bodies source (p · q) other a b j z) (and_then_assoc other u.got v.got) (is_both (u.behind other) (v.behind (and_then other u.got)) e);
+      behind =
+          λ other. subst (λ (z : Read). Derives lookahead bodies source (p · q) other a b j z) (and_then_assoc other u.got v.got)
+          (is_both (u.behind other) (v.behind (and_then other u.got)) e);
       gained = gain_more r u.got v.got u.gained v.gained;
     }
-free i (is_left {p = p} {q = q} x) = let u = free (and_parts (is_free p) (is_free q) i).0 x in record { got = u.got; behind = λ other. is_left (u.behind other); gained = u.gained }
-free i (is_right {p = p} {q = q} x) = let u = free (and_parts (is_free p) (is_free q) i).1 x in record { got = u.got; behind = λ other. is_right (u.behind other); gained = u.gained }
+free i (is_left {p = p} {q = q} x) =
+    let u = free (and_parts (is_free p) (is_free q) i).0 x in record { got = u.got; behind = λ other. is_left (u.behind other); gained = u.gained }
+free i (is_right {p = p} {q = q} x) =
+    let u = free (and_parts (is_free p) (is_free q) i).1 x in record { got = u.got; behind = λ other. is_right (u.behind other); gained = u.gained }
 free i (is_last e f g) = no_gain (λ other. is_last e f refl) g
 free {lookahead = lookahead} {bodies = bodies} {source = source} i (is_more {p = p} {r = r} {a = a} {b = b} {j = j} x y e) =
     let u = free i x in
     let v = free i y in
     record {
       got = and_then u.got v.got;
-      behind = λ other. subst (λ (z : Read). Derives lookahead bodies source (many p) other a b j z) (and_then_assoc other u.got v.got) (is_more (u.behind other) (v.behind (and_then other u.got)) e);
+      behind =
+          λ other. subst (λ (z : Read). Derives lookahead bodies source (many p) other a b j z) (and_then_assoc other u.got v.got)
+          (is_more (u.behind other) (v.behind (and_then other u.got)) e);
       gained = gain_more r u.got v.got u.gained v.gained;
     }
 free i (is_form {t = t} x e f) = record { got = t; behind = λ other. is_form x e refl; gained = f }
@@ -80,7 +91,9 @@ free i (is_if l x) = let u = free i x in record { got = u.got; behind = λ other
 free i (is_unless l x) = let u = free i x in record { got = u.got; behind = λ other. is_unless l (u.behind other); gained = u.gained }
 
 -- the longest text behind something is that behind nothing
-pub free_long : {lookahead : Lookahead → ℕ → Type 0} {bodies : Bodies} {source : Source} {p : Rule} {a b : ℕ} {k : Option ℕ} {got : Read} → is_free p ≡ true → LongestMatch lookahead bodies source p no_read a b k got → (r : Read) → LongestMatch lookahead bodies source p r a b k (and_then r got)
+pub free_long : {lookahead : Lookahead → ℕ → Type 0} {bodies : Bodies} {source : Source} {p : Rule} {a b : ℕ} {k : Option ℕ} {got : Read}
+    → is_free p ≡ true → LongestMatch lookahead bodies source p no_read a b k got → (r : Read)
+    → LongestMatch lookahead bodies source p r a b k (and_then r got)
 free_long {lookahead = lookahead} {bodies = bodies} {source = source} {p = p} {a = a} {b = b} {k = k} {got = got} i x r = record {
   derives = let u = free i x.derives in subst (λ (z : Read). Derives lookahead bodies source p r a b k (and_then r z)) (back u.gained) (u.behind r);
   longest = only;
@@ -92,5 +105,6 @@ free_long {lookahead = lookahead} {bodies = bodies} {source = source} {p = p} {a
       | inr h ↦ inr (h.0, h.1, v.gained ∙ ap (λ (z : Read). and_then r z) h.2)
     ]
 
-pub free_none : {lookahead : Lookahead → ℕ → Type 0} {bodies : Bodies} {source : Source} {p : Rule} {a : ℕ} → is_free p ≡ true → NoDerivation lookahead bodies source p no_read a → (r : Read) → NoDerivation lookahead bodies source p r a
+pub free_none : {lookahead : Lookahead → ℕ → Type 0} {bodies : Bodies} {source : Source} {p : Rule} {a : ℕ} → is_free p ≡ true
+    → NoDerivation lookahead bodies source p no_read a → (r : Read) → NoDerivation lookahead bodies source p r a
 free_none i x r b k t u = let v = free i u in x b k v.got (v.behind no_read)

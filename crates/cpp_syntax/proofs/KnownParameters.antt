@@ -60,8 +60,10 @@ known_set s t a b h x y =
       size = length-set t a b ∙ x.size;
       own = λ c i j. get_or-set_other t a c b 0 (λ e. omega (arith, e, i)) ∙ x.own c (omega (arith, i)) (subst (λ (n : ℕ). c < n) (length-set t a b) j);
       known = known_here s (slice_set t a b) a
-          (subst (λ (o : Option ℕ). KnownAt s a o) (back (held_some (slice_set t a b) a b (get_or-set_same t a b 0 (omega (arith, h, size))) (omega (arith, ahead)))) y)
-          (λ c i. subst (λ (o : Option ℕ). KnownAt s c o) (back (same_partner (slice_set t a b) t c (get_or-set_other t a c b 0 (λ e. omega (arith, e, i))))) (x.known c i));
+          (subst (λ (o : Option ℕ). KnownAt s a o) (back (held_some (slice_set t a b) a b (get_or-set_same t a b 0 (omega (arith, h, size)))
+          (omega (arith, ahead)))) y)
+          (λ c i. subst (λ (o : Option ℕ). KnownAt s c o) (back (same_partner (slice_set t a b) t c
+          (get_or-set_other t a c b 0 (λ e. omega (arith, e, i))))) (x.known c i));
     }
 
 -- nothing stands behind the last token
@@ -71,7 +73,9 @@ known_at_end s t x =
     record {
       size = x.size;
       own = λ c i j. x.own c i;
-      known = λ c h. subst (λ (o : Option ℕ). KnownAt s c o) (back (past t c (omega (arith, h, size)))) (parameters_not_open (ap open_paren (get_or_past s.terminals c terminal.End h)));
+      known =
+          λ c h. subst (λ (o : Option ℕ). KnownAt s c o) (back (past t c (omega (arith, h, size))))
+          (parameters_not_open (ap open_paren (get_or_past s.terminals c terminal.End h)));
     }
   where
     past : (t : List ℕ) (c : ℕ) → length t ≤ c → partner_in t c ≡ None

@@ -42,19 +42,40 @@ record Parted (lookahead : Lookahead → ℕ → Type 0) (source : Source) (bs c
   lefts : HaveBodies lookahead source bs left
   rights : HaveBodies lookahead source cs right
 
-parted : {lookahead : Lookahead → ℕ → Type 0} {source : Source} (bs cs : List Body) {ds : List Body} {hs : List Tree} → ds ≡ bs ++ cs → HaveBodies lookahead source ds hs → Parted lookahead source bs cs hs
-parted {lookahead = lookahead} {source = source} [] cs {hs = hs} e x = record { left = []; right = hs; both = refl; lefts = no_bodies refl refl; rights = subst (λ (z : List Body). HaveBodies lookahead source z hs) e x }
+parted : {lookahead : Lookahead → ℕ → Type 0} {source : Source} (bs cs : List Body) {ds : List Body} {hs : List Tree} → ds ≡ bs ++ cs
+    → HaveBodies lookahead source ds hs → Parted lookahead source bs cs hs
+parted {lookahead = lookahead} {source = source} [] cs {hs = hs} e x =
+    record {
+      left = [];
+      right = hs;
+      both = refl;
+      lefts = no_bodies refl refl;
+      rights = subst (λ (z : List Body). HaveBodies lookahead source z hs) e
+          x;
+    }
 parted (b ∷ bs) cs e (no_bodies f g) = absurd (nothing_more (back f ∙ e))
 parted {lookahead = lookahead} {source = source} (b ∷ bs) cs e (more_bodies b' f x y g h) =
     let i = back g ∙ e in
     let z = parted bs cs (same_rest i) y in
-    record { left = f ∷ z.left; right = z.right; both = h ∙ ap (λ (w : List Tree). f ∷ w) z.both; lefts = more_bodies b f (subst (λ (w : Body). HasBody lookahead source w f) (same_head i) x) z.lefts refl refl; rights = z.rights }
+    record {
+      left = f ∷ z.left;
+      right = z.right;
+      both = h ∙ ap (λ (w : List Tree). f ∷ w) z.both;
+      lefts = more_bodies b f
+          (subst (λ (w : Body). HasBody lookahead source w f) (same_head i) x) z.lefts refl refl;
+      rights = z.rights;
+    }
 
-have_both : {lookahead : Lookahead → ℕ → Type 0} {source : Source} {bs cs : List Body} {fs gs : List Tree} → HaveBodies lookahead source bs fs → HaveBodies lookahead source cs gs → HaveBodies lookahead source (bs ++ cs) (fs ++ gs)
-have_both {lookahead = lookahead} {source = source} {cs = cs} {gs = gs} (no_bodies {fs = fs} e f) y = subst (λ (z : List Body). HaveBodies lookahead source (z ++ cs) (fs ++ gs)) (back e) (subst (λ (z : List Tree). HaveBodies lookahead source cs (z ++ gs)) (back f) y)
-have_both {cs = cs} {gs = gs} (more_bodies b f x y g h) z = more_bodies b f x (have_both y z) (ap (λ (w : List Body). w ++ cs) g) (ap (λ (w : List Tree). w ++ gs) h)
+have_both : {lookahead : Lookahead → ℕ → Type 0} {source : Source} {bs cs : List Body} {fs gs : List Tree} → HaveBodies lookahead source bs fs
+    → HaveBodies lookahead source cs gs → HaveBodies lookahead source (bs ++ cs) (fs ++ gs)
+have_both {lookahead = lookahead} {source = source} {cs = cs} {gs = gs} (no_bodies {fs = fs} e f) y =
+    subst (λ (z : List Body). HaveBodies lookahead source (z ++ cs) (fs ++ gs)) (back e)
+    (subst (λ (z : List Tree). HaveBodies lookahead source cs (z ++ gs)) (back f) y)
+have_both {cs = cs} {gs = gs} (more_bodies b f x y g h) z =
+    more_bodies b f x (have_both y z) (ap (λ (w : List Body). w ++ cs) g) (ap (λ (w : List Tree). w ++ gs) h)
 
-one_body : {lookahead : Lookahead → ℕ → Type 0} {source : Source} (b : Body) (f : Tree) → HasBody lookahead source b f → HaveBodies lookahead source (b ∷ []) (f ∷ [])
+one_body : {lookahead : Lookahead → ℕ → Type 0} {source : Source} (b : Body) (f : Tree) → HasBody lookahead source b f
+    → HaveBodies lookahead source (b ∷ []) (f ∷ [])
 one_body b f x = more_bodies b f x (no_bodies refl refl) refl refl
 
 -- Nodes of lambdas have bodies, and no others, and such a node has a token.
@@ -161,20 +182,24 @@ kinds_hold translation_unit = refl
 record Up (lookahead : Lookahead → ℕ → Type 0) (source : Source) (p : Rule) (r : Read) (a b : ℕ) (k : Option ℕ) (s : Read) : Type 0 where
   kept : List Body
   grown : s.bodies ≡ r.bodies ++ kept
-  fill : (fs hs : List Tree) (r' : Read) → Filled fs r.trees r'.trees → r'.bodies ≡ [] → HaveBodies lookahead source kept hs → (s' : Read) × Derives lookahead in_trees source p r' a b k s' × Filled (fs ++ hs) s.trees s'.trees × (s'.bodies ≡ [])
+  fill : (fs hs : List Tree) (r' : Read) → Filled fs r.trees r'.trees → r'.bodies ≡ [] → HaveBodies lookahead source kept hs
+      → (s' : Read) × Derives lookahead in_trees source p r' a b k s' × Filled (fs ++ hs) s.trees s'.trees × (s'.bodies ≡ [])
 
 filled_by : {fs gs : List Tree} {ts us vs : Trees} → gs ≡ fs → us ≡ ts → Filled fs ts vs → Filled gs us vs
 filled_by {fs = fs} {ts = ts} {us = us} {vs = vs} e f x = subst (λ (z : List Tree). Filled z us vs) (back e) (subst (λ (z : Trees). Filled fs z vs) (back f) x)
 
-up_same : {lookahead : Lookahead → ℕ → Type 0} {source : Source} {p : Rule} {r s : Read} {a b : ℕ} {k : Option ℕ} → s ≡ r → ((fs : List Tree) (r' : Read) → Filled fs r.trees r'.trees → Derives lookahead in_trees source p r' a b k r') → Up lookahead source p r a b k s
+up_same : {lookahead : Lookahead → ℕ → Type 0} {source : Source} {p : Rule} {r s : Read} {a b : ℕ} {k : Option ℕ} → s ≡ r
+    → ((fs : List Tree) (r' : Read) → Filled fs r.trees r'.trees → Derives lookahead in_trees source p r' a b k r') → Up lookahead source p r a b k s
 up_same {r = r} e f = record {
   kept = [];
   grown = ap (λ (z : Read). z.bodies) e ∙ back (append-nil r.bodies);
   fill = λ fs hs r' x y z. (r', f fs r' x, filled_by (ap (λ (w : List Tree). fs ++ w) (have_none z refl) ∙ append-nil fs) (ap (λ (w : Read). w.trees) e) x, y);
 }
 
-up_both : {lookahead : Lookahead → ℕ → Type 0} {source : Source} {p q o : Rule} {r s t : Read} {a m b : ℕ} {j k l : Option ℕ} → Up lookahead source p r a m k s → Up lookahead source q s m b l t
-    → ((r' s' t' : Read) → Derives lookahead in_trees source p r' a m k s' → Derives lookahead in_trees source q s' m b l t' → Derives lookahead in_trees source o r' a b j t') → Up lookahead source o r a b j t
+up_both : {lookahead : Lookahead → ℕ → Type 0} {source : Source} {p q o : Rule} {r s t : Read} {a m b : ℕ} {j k l : Option ℕ}
+    → Up lookahead source p r a m k s → Up lookahead source q s m b l t
+    → ((r' s' t' : Read) → Derives lookahead in_trees source p r' a m k s' → Derives lookahead in_trees source q s' m b l t' → Derives lookahead
+    in_trees source o r' a b j t') → Up lookahead source o r a b j t
 up_both {r = r} {t = t} x y f = record {
   kept = x.kept ++ y.kept;
   grown = y.grown ∙ ap (λ (z : List Body). z ++ y.kept) x.grown ∙ append_assoc r.bodies x.kept y.kept;
@@ -185,15 +210,19 @@ up_both {r = r} {t = t} x y f = record {
       (v.0, f r' u.0 v.0 u.1 v.1, filled_by (ap (λ (w : List Tree). fs ++ w) h.both ∙ back (append_assoc fs h.left h.right)) refl v.2, v.3);
 }
 
-up_by : {lookahead : Lookahead → ℕ → Type 0} {source : Source} {p q : Rule} {r s : Read} {a b : ℕ} {k : Option ℕ} → Up lookahead source p r a b k s → ((r' s' : Read) → Derives lookahead in_trees source p r' a b k s' → Derives lookahead in_trees source q r' a b k s') → Up lookahead source q r a b k s
+up_by : {lookahead : Lookahead → ℕ → Type 0} {source : Source} {p q : Rule} {r s : Read} {a b : ℕ} {k : Option ℕ} → Up lookahead source p r a b k s
+    → ((r' s' : Read) → Derives lookahead in_trees source p r' a b k s' → Derives lookahead in_trees source q r' a b k s')
+    → Up lookahead source q r a b k s
 up_by x f = record { kept = x.kept; grown = x.grown; fill = λ fs hs r' fr br hv. let u = x.fill fs hs r' fr br hv in (u.0, f r' u.0 u.1, u.2, u.3) }
 
 no_bodies_then : (r t : Read) → r.bodies ≡ [] → t.bodies ≡ [] → r.bodies ++ t.bodies ≡ []
 no_bodies_then r t e f = ap₂ (λ (x y : List Body). x ++ y) e f
 
 -- what a text of its own adds
-up_alone : {lookahead : Lookahead → ℕ → Type 0} {source : Source} {p q : Rule} {r s t u : Read} {a b : ℕ} {k l : Option ℕ} → Up lookahead source p no_read a b l t → s ≡ and_then r u → u.bodies ≡ t.bodies
-    → ((hs : List Tree) (t' : Read) → Derives lookahead in_trees source p no_read a b l t' → Filled hs t.trees t'.trees → t'.bodies ≡ [] → (u' : Read) × ((r' : Read) → Derives lookahead in_trees source q r' a b k (and_then r' u')) × Filled hs u.trees u'.trees × (u'.bodies ≡ []))
+up_alone : {lookahead : Lookahead → ℕ → Type 0} {source : Source} {p q : Rule} {r s t u : Read} {a b : ℕ} {k l : Option ℕ}
+    → Up lookahead source p no_read a b l t → s ≡ and_then r u → u.bodies ≡ t.bodies
+    → ((hs : List Tree) (t' : Read) → Derives lookahead in_trees source p no_read a b l t' → Filled hs t.trees t'.trees → t'.bodies ≡ [] →
+    (u' : Read) × ((r' : Read) → Derives lookahead in_trees source q r' a b k (and_then r' u')) × Filled hs u.trees u'.trees × (u'.bodies ≡ []))
     → Up lookahead source q r a b k s
 up_alone {r = r} {u = u} x e f make = record {
   kept = x.kept;
@@ -204,35 +233,51 @@ up_alone {r = r} {u = u} x e f make = record {
       (and_then r' v.0, v.1 r', filled_by refl (ap (λ (z : Read). z.trees) e) (filled_join fr v.2), no_bodies_then r' v.0 br v.3);
 }
 
-at_moved : {hs : List Tree} {kind : NodeKind} {at at' : At} {l : Option ℕ} {ts us : Trees} → is_lambda kind ≡ false → at' ≡ at → Filled hs ts us → Filled hs (one_tree (node kind at l ts)) (one_tree (node kind at' l us))
-at_moved {hs = hs} {kind = kind} {at = at} {l = l} {ts = ts} {us = us} e f x = subst (λ (z : At). Filled hs (one_tree (node kind at l ts)) (one_tree (node kind z l us))) (back f) (filled_one (no_body e x))
+at_moved : {hs : List Tree} {kind : NodeKind} {at at' : At} {l : Option ℕ} {ts us : Trees} → is_lambda kind ≡ false → at' ≡ at → Filled hs ts us
+    → Filled hs (one_tree (node kind at l ts)) (one_tree (node kind at' l us))
+at_moved {hs = hs} {kind = kind} {at = at} {l = l} {ts = ts} {us = us} e f x =
+    subst (λ (z : At). Filled hs (one_tree (node kind at l ts)) (one_tree (node kind z l us))) (back f) (filled_one (no_body e x))
 
-have_one : {lookahead : Lookahead → ℕ → Type 0} {source : Source} {b : Body} {rs : List Tree} → HaveBodies lookahead source (b ∷ []) rs → (f : Tree) × HasBody lookahead source b f × (rs ≡ f ∷ [])
+have_one : {lookahead : Lookahead → ℕ → Type 0} {source : Source} {b : Body} {rs : List Tree} → HaveBodies lookahead source (b ∷ []) rs
+    → (f : Tree) × HasBody lookahead source b f × (rs ≡ f ∷ [])
 have_one (no_bodies e f) = absurd (nothing_more (back e))
-have_one {lookahead = lookahead} {source = source} (more_bodies b f x y g h) = (f, subst (λ (z : Body). HasBody lookahead source z f) (back (same_head g)) x, h ∙ ap (λ (z : List Tree). f ∷ z) (have_none y (back (same_rest g))))
+have_one {lookahead = lookahead} {source = source} (more_bodies b f x y g h) = (
+  f,
+  subst (λ (z : Body). HasBody lookahead source z f) (back (same_head g)) x,
+  h ∙ ap (λ (z : List Tree). f ∷ z)
+      (have_none y (back (same_rest g))),
+)
 
 start_is : {m n : ℕ} → m + 1 ≡ n + 1 → n ≡ m
 start_is e = omega (arith, e)
 
 -- a body's text, as it stands behind what was read before
-text_at : {lookahead : Lookahead → ℕ → Type 0} {bodies : Bodies} {source : Source} {f : Nonterminal} {start : ℕ} {k : Option ℕ} (b m : ℕ) (got r : Read) → start ≡ m → Derives lookahead bodies source (form f) no_read start b k got → Derives lookahead bodies source (form f) r m b k (and_then r got)
-text_at {lookahead = lookahead} {bodies = bodies} {source = source} {f = f} {start = start} {k = k} b m got r e x = subst (λ (z : ℕ). Derives lookahead bodies source (form f) r z b k (and_then r got)) e (let y = free refl x in subst (λ (z : Read). Derives lookahead bodies source (form f) r start b k (and_then r z)) (back y.gained) (y.behind r))
+text_at : {lookahead : Lookahead → ℕ → Type 0} {bodies : Bodies} {source : Source} {f : Nonterminal} {start : ℕ} {k : Option ℕ} (b m : ℕ) (got r : Read)
+    → start ≡ m → Derives lookahead bodies source (form f) no_read start b k got → Derives lookahead bodies source (form f) r m b k (and_then r got)
+text_at {lookahead = lookahead} {bodies = bodies} {source = source} {f = f} {start = start} {k = k} b m got r e x =
+    subst (λ (z : ℕ). Derives lookahead bodies source (form f) r z b k (and_then r got)) e
+    (let y = free refl x in subst (λ (z : Read). Derives lookahead bodies source (form f) r start b k (and_then r z)) (back y.gained) (y.behind r))
 
 -- a lambda gets its body
-body_put : {lookahead : Lookahead → ℕ → Type 0} {source : Source} {kind : NodeKind} {p : Rule} {r s t : Read} {a m b lambda : ℕ} (n : ℕ) {k l : Option ℕ} → is_lambda kind ≡ true → Up lookahead source p no_read a m l t → l ≡ Some lambda → b ≡ n + 1 → k ≡ None → s ≡ and_then r (with_body_apart kind (position_at source a) lambda (m + 1) n t) → Up lookahead source (with_body kind p) r a b k s
-body_put {lookahead = lookahead} {source = source} {kind = kind} {p = p} {r = r} {s = s} {t = t} {a = a} {m = m} {b = b} {lambda = lambda} n {k = k} {l = l} e x el eb ek es = record {
-  kept = x.kept ++ body ∷ [];
-  grown = ap (λ (z : Read). z.bodies) es ∙ ap (λ (z : List Body). r.bodies ++ (z ++ body ∷ [])) x.grown;
-  fill = λ fs hs r' fr br hv.
-      let h = parted x.kept (body ∷ []) refl hv in
-      let w = x.fill [] h.left no_read (no_trees refl) refl h.lefts in
-      one fs hs h.left h.right r' w.0 fr br h.both h.rights w.1 w.2 w.3;
-}
+body_put : {lookahead : Lookahead → ℕ → Type 0} {source : Source} {kind : NodeKind} {p : Rule} {r s t : Read} {a m b lambda : ℕ} (n : ℕ) {k l : Option ℕ}
+    → is_lambda kind ≡ true → Up lookahead source p no_read a m l t → l ≡ Some lambda → b ≡ n + 1 → k ≡ None
+    → s ≡ and_then r (with_body_apart kind (position_at source a) lambda (m + 1) n t) → Up lookahead source (with_body kind p) r a b k s
+body_put {lookahead = lookahead} {source = source} {kind = kind} {p = p} {r = r} {s = s} {t = t} {a = a} {m = m} {b = b} {lambda = lambda} n {k = k}
+    {l = l} e x el eb ek es = record {
+      kept = x.kept ++ body ∷ [];
+      grown = ap (λ (z : Read). z.bodies) es ∙ ap (λ (z : List Body). r.bodies ++ (z ++ body ∷ [])) x.grown;
+      fill = λ fs hs r' fr br hv.
+          let h = parted x.kept (body ∷ []) refl hv in
+          let w = x.fill [] h.left no_read (no_trees refl) refl h.lefts in
+          one fs hs h.left h.right r' w.0 fr br h.both h.rights w.1 w.2 w.3;
+    }
   where
     body : Body
     body = record { lambda = lambda; from = m + 1; to = n }
 
-    one : (fs hs ls rs : List Tree) (r' t' : Read) → Filled fs r.trees r'.trees → r'.bodies ≡ [] → hs ≡ ls ++ rs → HaveBodies lookahead source (body ∷ []) rs → Derives lookahead in_trees source p no_read a m l t' → Filled ls t.trees t'.trees → t'.bodies ≡ []
+    one : (fs hs ls rs : List Tree) (r' t' : Read) → Filled fs r.trees r'.trees → r'.bodies ≡ [] → hs ≡ ls ++ rs
+        → HaveBodies lookahead source (body ∷ []) rs → Derives lookahead in_trees source p no_read a m l t' → Filled ls t.trees t'.trees
+        → t'.bodies ≡ []
         → (s' : Read) × Derives lookahead in_trees source (with_body kind p) r' a b k s' × Filled (fs ++ hs) s.trees s'.trees × (s'.bodies ≡ [])
     one fs hs ls rs r' t' fr br eh hv x' ft bt =
         let h = have_one hv in
@@ -242,7 +287,9 @@ body_put {lookahead = lookahead} {source = source} {kind = kind} {p = p} {r = r}
         let made : Read = reads_node kind (position_at source a) l full in (
           and_then r' made,
           is_in_tree refl x' (subst (λ (z : ℕ). Derives lookahead in_trees source (form compound_statement) t' m z None full) (back eb) y) ek refl,
-          filled_by refl (ap (λ (z : Read). z.trees) es) (filled_join fr (filled_one (subst (λ (z : Option ℕ). FilledTree hs (node kind (position_at source a) z t.trees) (node kind (position_at source a) l full.trees)) el (a_body h.0 e ft (eh ∙ ap (λ (z : List Tree). ls ++ z) h.2) refl)))),
+          filled_by refl (ap (λ (z : Read). z.trees) es) (filled_join fr (filled_one (subst
+              (λ (z : Option ℕ). FilledTree hs (node kind (position_at source a) z t.trees) (node kind (position_at source a) l full.trees)) el
+              (a_body h.0 e ft (eh ∙ ap (λ (z : List Tree). ls ++ z) h.2) refl)))),
           no_bodies_then r' made br (no_bodies_then t' got bt refl),
         )
 
@@ -250,7 +297,8 @@ modes_differ : kept_apart ≡ in_trees → ⊥
 modes_differ e = cc
 
 -- a text with the bodies apart, with trees for them, is a text with the bodies in its trees
-up : {lookahead : Lookahead → ℕ → Type 0} {source : Source} {p : Rule} {r s : Read} {a b : ℕ} {k : Option ℕ} → kinds_right p ≡ true → Derives lookahead kept_apart source p r a b k s → Up lookahead source p r a b k s
+up : {lookahead : Lookahead → ℕ → Type 0} {source : Source} {p : Rule} {r s : Read} {a b : ℕ} {k : Option ℕ} → kinds_right p ≡ true
+    → Derives lookahead kept_apart source p r a b k s → Up lookahead source p r a b k s
 up i (is_nothing e f g) = up_same g (λ fs r' x. is_nothing e f refl)
 up i (is_word t e f g) = up_same g (λ fs r' x. is_word t e f refl)
 up i (is_mark t e f g) = up_same g (λ fs r' x. is_mark t e f refl)
@@ -264,7 +312,13 @@ up i (is_more x y e) = up_both (up i x) (up i y) (λ r' s' t' u v. is_more u v e
 up i (is_form {f = f} x e g) = up_alone (up (kinds_hold f) x) g refl (λ hs t' u x' y. (t', λ r'. is_form u e refl, x', y))
 up {source = source} i (is_node {positioning = positioning} {kind = kind} {p = p} {a = a} {l = l} x e g) =
     let h = and_parts (not (is_lambda kind)) (kinds_right p) i in
-    up_alone (up h.1 x) g refl (λ hs t' u x' y. (reads_node kind (positioned positioning source a l t'.trees) l t', λ r'. is_node u e refl, at_moved (not-true (is_lambda kind) h.0) (positioned_same positioning source a l x') x', y))
+    up_alone (up h.1 x) g refl (λ hs t' u x' y. (
+      reads_node kind (positioned positioning source a l t'.trees) l t',
+      λ r'. is_node u e refl,
+      at_moved
+          (not-true (is_lambda kind) h.0) (positioned_same positioning source a l x') x',
+      y,
+    ))
 up {source = source} i (is_wrap {kind = kind} {p = p} {r = r} {a = a} {l = l} x e g) =
     let h = and_parts (not (is_lambda kind)) (kinds_right p) i in
     let u = up h.1 x in
@@ -291,7 +345,8 @@ up i (is_unless l x) = up_by (up i x) (λ r' s' u. is_unless l u)
 -- From bodies in the trees to bodies apart.
 
 -- a text with the bodies in its trees keeps none apart
-in_tree_bodies : {lookahead : Lookahead → ℕ → Type 0} {source : Source} {p : Rule} {r s : Read} {a b : ℕ} {k : Option ℕ} → Derives lookahead in_trees source p r a b k s → s.bodies ≡ r.bodies
+in_tree_bodies : {lookahead : Lookahead → ℕ → Type 0} {source : Source} {p : Rule} {r s : Read} {a b : ℕ} {k : Option ℕ}
+    → Derives lookahead in_trees source p r a b k s → s.bodies ≡ r.bodies
 in_tree_bodies (is_nothing e f g) = ap (λ (z : Read). z.bodies) g
 in_tree_bodies (is_word t e f g) = ap (λ (z : Read). z.bodies) g
 in_tree_bodies (is_mark t e f g) = ap (λ (z : Read). z.bodies) g
@@ -306,7 +361,8 @@ in_tree_bodies (is_form {r = r} x e g) = ap (λ (z : Read). z.bodies) g ∙ ap (
 in_tree_bodies (is_node {r = r} x e g) = ap (λ (z : Read). z.bodies) g ∙ ap (λ (z : List Body). r.bodies ++ z) (in_tree_bodies x) ∙ append-nil r.bodies
 in_tree_bodies (is_wrap x e g) = ap (λ (z : Read). z.bodies) g ∙ in_tree_bodies x
 in_tree_bodies (is_kept_apart d x el o y c eb ek es) = absurd (modes_differ (back d))
-in_tree_bodies (is_in_tree {r = r} d x y ek es) = ap (λ (z : Read). z.bodies) es ∙ ap (λ (z : List Body). r.bodies ++ z) (in_tree_bodies y ∙ in_tree_bodies x) ∙ append-nil r.bodies
+in_tree_bodies (is_in_tree {r = r} d x y ek es) =
+    ap (λ (z : Read). z.bodies) es ∙ ap (λ (z : List Body). r.bodies ++ z) (in_tree_bodies y ∙ in_tree_bodies x) ∙ append-nil r.bodies
 in_tree_bodies (is_where x e) = in_tree_bodies x
 in_tree_bodies (is_before x e) = in_tree_bodies x
 in_tree_bodies (is_if l x) = in_tree_bodies x
@@ -320,7 +376,8 @@ either_some None l n e = (n, e)
 either_some (Some m) l n e = (m, refl)
 
 -- a text of such a rule has a token
-marked_so : {lookahead : Lookahead → ℕ → Type 0} {bodies : Bodies} {source : Source} {p : Rule} {r s : Read} {a b : ℕ} {k : Option ℕ} → is_marked p ≡ true → Derives lookahead bodies source p r a b k s → (n : ℕ) × (k ≡ Some n)
+marked_so : {lookahead : Lookahead → ℕ → Type 0} {bodies : Bodies} {source : Source} {p : Rule} {r s : Read} {a b : ℕ} {k : Option ℕ}
+    → is_marked p ≡ true → Derives lookahead bodies source p r a b k s → (n : ℕ) × (k ≡ Some n)
 marked_so i (is_mark {a = a} t e f g) = (a, f)
 marked_so i (is_mark_next {a = a} e f g) = (a, f)
 marked_so i (is_both {p = p} {q = q} {k = k} {l = l} x y e) = elim (or_cases (is_marked p) (is_marked q) i) [
@@ -355,11 +412,15 @@ record Braced (lookahead : Lookahead → ℕ → Type 0) (source : Source) (r : 
   text : Derives lookahead in_trees source (form compound_statement) no_read a b None (record { trees = one_tree tree; bodies = [] })
   same : s.trees ≡ join r.trees (one_tree tree)
 
-one_read : {t : Read} {kind : NodeKind} {at : At} {l : Option ℕ} {u : Read} → t ≡ and_then no_read (reads_node kind at l u) → u.bodies ≡ [] → t ≡ record { trees = one_tree (node kind at l u.trees); bodies = [] }
-one_read {kind = kind} {at = at} {l = l} {u = u} e f = e ∙ ap (λ (z : List Body). let x : Read = record { trees = one_tree (node kind at l u.trees); bodies = z } in x) f
+one_read : {t : Read} {kind : NodeKind} {at : At} {l : Option ℕ} {u : Read} → t ≡ and_then no_read (reads_node kind at l u) → u.bodies ≡ []
+    → t ≡ record { trees = one_tree (node kind at l u.trees); bodies = [] }
+one_read {kind = kind} {at = at} {l = l} {u = u} e f =
+    e ∙ ap (λ (z : List Body). let x : Read = record { trees = one_tree (node kind at l u.trees); bodies = z } in x) f
 
-braced : {lookahead : Lookahead → ℕ → Type 0} {source : Source} {r s : Read} {a b : ℕ} {k : Option ℕ} → Derives lookahead in_trees source (form compound_statement) r a b k s → Braced lookahead source r a b s
-braced {source = source} {r = r} {a = a} (is_form {t = t2} (is_node {t = t3} {l = l3} (is_both (is_word o e1 f1 g1) (is_both {m = n} st (is_mark c e2 f2 g2) h2) h1) e f) g h) =
+braced : {lookahead : Lookahead → ℕ → Type 0} {source : Source} {r s : Read} {a b : ℕ} {k : Option ℕ}
+    → Derives lookahead in_trees source (form compound_statement) r a b k s → Braced lookahead source r a b s
+braced {source = source} {r = r} {a = a} (is_form {t = t2} (is_node {t = t3} {l = l3}
+    (is_both (is_word o e1 f1 g1) (is_both {m = n} st (is_mark c e2 f2 g2) h2) h1) e f) g h) =
     let none_left = ap (λ (z : Read). z.bodies) g2 ∙ in_tree_bodies st ∙ ap (λ (z : Read). z.bodies) g1 in
     let one = one_read f none_left in
     record {
@@ -386,7 +447,9 @@ record Apart_ (lookahead : Lookahead → ℕ → Type 0) (source : Source) (p : 
 record Down (lookahead : Lookahead → ℕ → Type 0) (source : Source) (p : Rule) (r' : Read) (a b : ℕ) (k : Option ℕ) (s' : Read) : Type 0 where
   empty : (fs : List Tree) (r : Read) → Filled fs r.trees r'.trees → Apart_ lookahead source p r a b k fs s'.trees
 
-down_same : {lookahead : Lookahead → ℕ → Type 0} {source : Source} {p : Rule} {r' s' : Read} {a b : ℕ} {k : Option ℕ} → s' ≡ r' → ((fs : List Tree) (r : Read) → Filled fs r.trees r'.trees → Derives lookahead kept_apart source p r a b k r) → Down lookahead source p r' a b k s'
+down_same : {lookahead : Lookahead → ℕ → Type 0} {source : Source} {p : Rule} {r' s' : Read} {a b : ℕ} {k : Option ℕ} → s' ≡ r'
+    → ((fs : List Tree) (r : Read) → Filled fs r.trees r'.trees → Derives lookahead kept_apart source p r a b k r)
+    → Down lookahead source p r' a b k s'
 down_same e f = record {
   empty = λ fs r x. record {
     after = r;
@@ -399,8 +462,10 @@ down_same e f = record {
   };
 }
 
-down_both : {lookahead : Lookahead → ℕ → Type 0} {source : Source} {p q o : Rule} {r' s' t' : Read} {a m b : ℕ} {j k l : Option ℕ} → Down lookahead source p r' a m k s' → Down lookahead source q s' m b l t'
-    → ((r s t : Read) → Derives lookahead kept_apart source p r a m k s → Derives lookahead kept_apart source q s m b l t → Derives lookahead kept_apart source o r a b j t) → Down lookahead source o r' a b j t'
+down_both : {lookahead : Lookahead → ℕ → Type 0} {source : Source} {p q o : Rule} {r' s' t' : Read} {a m b : ℕ} {j k l : Option ℕ}
+    → Down lookahead source p r' a m k s' → Down lookahead source q s' m b l t'
+    → ((r s t : Read) → Derives lookahead kept_apart source p r a m k s → Derives lookahead kept_apart source q s m b l t → Derives lookahead
+    kept_apart source o r a b j t) → Down lookahead source o r' a b j t'
 down_both x y f = record {
   empty = λ fs r fr.
       let u = x.empty fs r fr in
@@ -416,12 +481,29 @@ down_both x y f = record {
       };
 }
 
-down_by : {lookahead : Lookahead → ℕ → Type 0} {source : Source} {p q : Rule} {r' s' : Read} {a b : ℕ} {k : Option ℕ} → Down lookahead source p r' a b k s' → ((r s : Read) → Derives lookahead kept_apart source p r a b k s → Derives lookahead kept_apart source q r a b k s) → Down lookahead source q r' a b k s'
-down_by x f = record { empty = λ fs r fr. let u = x.empty fs r fr in record { after = u.after; kept = u.kept; trees = u.trees; text = f r u.after u.text; grown = u.grown; have = u.have; filled = u.filled } }
+down_by : {lookahead : Lookahead → ℕ → Type 0} {source : Source} {p q : Rule} {r' s' : Read} {a b : ℕ} {k : Option ℕ}
+    → Down lookahead source p r' a b k s'
+    → ((r s : Read) → Derives lookahead kept_apart source p r a b k s → Derives lookahead kept_apart source q r a b k s)
+    → Down lookahead source q r' a b k s'
+down_by x f =
+    record {
+      empty = λ fs r fr. let u = x.empty fs r fr in record {
+        after = u.after;
+        kept = u.kept;
+        trees = u.trees;
+        text = f r u.after u.text;
+        grown
+            = u.grown;
+        have = u.have;
+        filled = u.filled;
+      };
+    }
 
 -- what a text of its own adds
-down_alone : {lookahead : Lookahead → ℕ → Type 0} {source : Source} {p q : Rule} {r' s' t' : Read} {a b : ℕ} {k l : Option ℕ} (u' : Read) → Down lookahead source p no_read a b l t' → s'.trees ≡ join r'.trees u'.trees
-    → ((hs : List Tree) (t : Read) → Derives lookahead kept_apart source p no_read a b l t → Filled hs t.trees t'.trees → (u : Read) × ((r : Read) → Derives lookahead kept_apart source q r a b k (and_then r u)) × Filled hs u.trees u'.trees × (u.bodies ≡ t.bodies))
+down_alone : {lookahead : Lookahead → ℕ → Type 0} {source : Source} {p q : Rule} {r' s' t' : Read} {a b : ℕ} {k l : Option ℕ} (u' : Read)
+    → Down lookahead source p no_read a b l t' → s'.trees ≡ join r'.trees u'.trees
+    → ((hs : List Tree) (t : Read) → Derives lookahead kept_apart source p no_read a b l t → Filled hs t.trees t'.trees → (u : Read) ×
+    ((r : Read) → Derives lookahead kept_apart source q r a b k (and_then r u)) × Filled hs u.trees u'.trees × (u.bodies ≡ t.bodies))
     → Down lookahead source q r' a b k s'
 down_alone u' x e make = record {
   empty = λ fs r fr.
@@ -439,7 +521,9 @@ down_alone u' x e make = record {
 }
 
 -- a lambda gives its body away
-body_taken : {lookahead : Lookahead → ℕ → Type 0} {source : Source} {kind : NodeKind} {p : Rule} {r' s' t' u' : Read} {a m b lambda : ℕ} {k l : Option ℕ} → is_lambda kind ≡ true → Down lookahead source p no_read a m l t' → l ≡ Some lambda → Braced lookahead source t' m b u' → k ≡ None → s'.trees ≡ join r'.trees (one_tree (node kind (position_at source a) l u'.trees)) → Down lookahead source (with_body kind p) r' a b k s'
+body_taken : {lookahead : Lookahead → ℕ → Type 0} {source : Source} {kind : NodeKind} {p : Rule} {r' s' t' u' : Read} {a m b lambda : ℕ} {k l : Option ℕ}
+    → is_lambda kind ≡ true → Down lookahead source p no_read a m l t' → l ≡ Some lambda → Braced lookahead source t' m b u' → k ≡ None
+    → s'.trees ≡ join r'.trees (one_tree (node kind (position_at source a) l u'.trees)) → Down lookahead source (with_body kind p) r' a b k s'
 body_taken {lookahead = lookahead} {source = source} {kind = kind} {u' = u'} {a = a} {m = m} {lambda = lambda} {l = l} e x el y ek es = record {
   empty = λ fs r fr.
       let w = x.empty [] no_read (no_trees refl) in
@@ -450,14 +534,26 @@ body_taken {lookahead = lookahead} {source = source} {kind = kind} {u' = u'} {a 
         trees = w.trees ++ y.tree ∷ [];
         text = is_kept_apart refl w.text el y.opened (is_form (run_text y.tokens no_read) refl refl) y.closed y.ends ek refl;
         grown = ap (λ (z : List Body). r.bodies ++ (z ++ body ∷ [])) w.grown;
-        have = have_both w.have (one_body body y.tree (record { start = m; begins = refl; text = subst (λ (z : ℕ). Derives lookahead in_trees source (form compound_statement) no_read m z None (record { trees = one_tree y.tree; bodies = [] })) y.ends y.text }));
-        filled = subst (λ (z : Trees). Filled (fs ++ (w.trees ++ y.tree ∷ [])) (join r.trees (one_tree (node kind (position_at source a) (Some lambda) w.after.trees))) z) (back es)
-            (filled_join fr (filled_one (subst (λ (z : Option ℕ). FilledTree (w.trees ++ y.tree ∷ []) (node kind (position_at source a) z w.after.trees) (node kind (position_at source a) l u'.trees)) el (a_body y.tree e w.filled refl y.same))));
+        have =
+            have_both w.have (one_body body y.tree (record {
+              start = m;
+              begins = refl;
+              text = subst
+                  (λ (z : ℕ). Derives lookahead in_trees source (form compound_statement) no_read m z None
+                  (record { trees = one_tree y.tree; bodies = [] })) y.ends y.text;
+            }));
+        filled =
+            subst (λ (z : Trees). Filled (fs ++ (w.trees ++ y.tree ∷ [])) (join r.trees (one_tree
+            (node kind (position_at source a) (Some lambda) w.after.trees))) z) (back es)
+            (filled_join fr (filled_one (subst (λ (z : Option ℕ). FilledTree (w.trees ++ y.tree ∷ [])
+            (node kind (position_at source a) z w.after.trees) (node kind (position_at source a) l u'.trees)) el
+            (a_body y.tree e w.filled refl y.same))));
       };
 }
 
 -- a text with the bodies in its trees is one with the bodies apart
-down : {lookahead : Lookahead → ℕ → Type 0} {source : Source} {p : Rule} {r' s' : Read} {a b : ℕ} {k : Option ℕ} → kinds_right p ≡ true → Derives lookahead in_trees source p r' a b k s' → Down lookahead source p r' a b k s'
+down : {lookahead : Lookahead → ℕ → Type 0} {source : Source} {p : Rule} {r' s' : Read} {a b : ℕ} {k : Option ℕ} → kinds_right p ≡ true
+    → Derives lookahead in_trees source p r' a b k s' → Down lookahead source p r' a b k s'
 down i (is_nothing e f g) = down_same g (λ fs r x. is_nothing e f refl)
 down i (is_word t e f g) = down_same g (λ fs r x. is_word t e f refl)
 down i (is_mark t e f g) = down_same g (λ fs r x. is_mark t e f refl)
@@ -468,10 +564,18 @@ down i (is_left {p = p} {q = q} x) = down_by (down (and_parts (kinds_right p) (k
 down i (is_right {p = p} {q = q} x) = down_by (down (and_parts (kinds_right p) (kinds_right q) i).1 x) (λ r s u. is_right u)
 down i (is_last e f g) = down_same g (λ fs r x. is_last e f refl)
 down i (is_more x y e) = down_both (down i x) (down i y) (λ r s t u v. is_more u v e)
-down i (is_form {f = f} {t = t'} x e g) = down_alone t' (down (kinds_hold f) x) (ap (λ (z : Read). z.trees) g) (λ hs t u x'. (t, λ r. is_form u e refl, x', refl))
+down i (is_form {f = f} {t = t'} x e g) =
+    down_alone t' (down (kinds_hold f) x) (ap (λ (z : Read). z.trees) g) (λ hs t u x'. (t, λ r. is_form u e refl, x', refl))
 down {source = source} i (is_node {positioning = positioning} {kind = kind} {p = p} {t = t'} {a = a} {l = l} x e g) =
     let h = and_parts (not (is_lambda kind)) (kinds_right p) i in
-    down_alone (reads_node kind (positioned positioning source a l t'.trees) l t') (down h.1 x) (ap (λ (z : Read). z.trees) g) (λ hs t u x'. (reads_node kind (positioned positioning source a l t.trees) l t, λ r. is_node u e refl, at_moved (not-true (is_lambda kind) h.0) (positioned_same positioning source a l x') x', refl))
+    down_alone (reads_node kind (positioned positioning source a l t'.trees) l t') (down h.1 x) (ap (λ (z : Read). z.trees) g)
+    (λ hs t u x'. (
+      reads_node kind (positioned positioning source a l t.trees) l t,
+      λ r. is_node u e refl,
+      at_moved
+          (not-true (is_lambda kind) h.0) (positioned_same positioning source a l x') x',
+      refl,
+    ))
 down {source = source} i (is_wrap {kind = kind} {p = p} {r = r'} {a = a} {l = l} x e g) =
     let h = and_parts (not (is_lambda kind)) (kinds_right p) i in
     let d = down h.1 x in
@@ -485,7 +589,9 @@ down {source = source} i (is_wrap {kind = kind} {p = p} {r = r'} {a = a} {l = l}
             text = is_wrap w.text e refl;
             grown = w.grown;
             have = w.have;
-            filled = subst (λ (z : Read). Filled (fs ++ w.trees) (one_tree (node kind (position_of_first source a r.trees) l w.after.trees)) z.trees) (back g) (at_moved (not-true (is_lambda kind) h.0) (first_position_same source a fr) w.filled);
+            filled =
+                subst (λ (z : Read). Filled (fs ++ w.trees) (one_tree (node kind (position_of_first source a r.trees) l w.after.trees)) z.trees)
+                (back g) (at_moved (not-true (is_lambda kind) h.0) (first_position_same source a fr) w.filled);
           };
     }
 down i (is_kept_apart d x el o y c eb ek es) = absurd (modes_differ (back d))
@@ -501,12 +607,15 @@ down i (is_unless l x) = down_by (down i x) (λ r s u. is_unless l u)
 -- Of forms.
 
 -- a text with trees for the bodies that are kept apart, as one with the bodies in its trees
-pub record BodiesIn (lookahead : Lookahead → ℕ → Type 0) (source : Source) (f : Nonterminal) (a b : ℕ) (k : Option ℕ) (hs : List Tree) (ts : Trees) : Type 0 where
+pub record BodiesIn (lookahead : Lookahead → ℕ → Type 0) (source : Source) (f : Nonterminal) (a b : ℕ) (k : Option ℕ) (hs : List Tree) (ts : Trees) :
+    Type 0 where
   pub trees : Trees
   pub text : Derives lookahead in_trees source (form f) no_read a b k (record { trees = trees; bodies = [] })
   pub filled : Filled hs ts trees
 
-pub bodies_in : {lookahead : Lookahead → ℕ → Type 0} {source : Source} {f : Nonterminal} {a b : ℕ} {k : Option ℕ} {s : Read} {hs : List Tree} → Derives lookahead kept_apart source (form f) no_read a b k s → HaveBodies lookahead source s.bodies hs → BodiesIn lookahead source f a b k hs s.trees
+pub bodies_in : {lookahead : Lookahead → ℕ → Type 0} {source : Source} {f : Nonterminal} {a b : ℕ} {k : Option ℕ} {s : Read} {hs : List Tree}
+    → Derives lookahead kept_apart source (form f) no_read a b k s → HaveBodies lookahead source s.bodies hs
+    → BodiesIn lookahead source f a b k hs s.trees
 bodies_in {lookahead = lookahead} {source = source} {f = f} {a = a} {b = b} {k = k} {hs = hs} x h =
     let u = up refl x in
     let v = u.fill [] hs no_read (no_trees refl) refl (subst (λ (z : List Body). HaveBodies lookahead source z hs) u.grown h) in
@@ -524,8 +633,16 @@ pub record BodiesApart (lookahead : Lookahead → ℕ → Type 0) (source : Sour
   pub have : HaveBodies lookahead source after.bodies trees
   pub filled : Filled trees after.trees ts
 
-pub bodies_apart : {lookahead : Lookahead → ℕ → Type 0} {source : Source} {f : Nonterminal} {a b : ℕ} {k : Option ℕ} {s : Read} → Derives lookahead in_trees source (form f) no_read a b k s → BodiesApart lookahead source f a b k s.trees
+pub bodies_apart : {lookahead : Lookahead → ℕ → Type 0} {source : Source} {f : Nonterminal} {a b : ℕ} {k : Option ℕ} {s : Read}
+    → Derives lookahead in_trees source (form f) no_read a b k s → BodiesApart lookahead source f a b k s.trees
 bodies_apart {lookahead = lookahead} {source = source} x =
     let d = down refl x in
     let u = d.empty [] no_read (no_trees refl) in
-    record { after = u.after; trees = u.trees; text = u.text; have = subst (λ (z : List Body). HaveBodies lookahead source z u.trees) (back u.grown) u.have; filled = u.filled }
+    record {
+      after = u.after;
+      trees = u.trees;
+      text = u.text;
+      have = subst (λ (z : List Body). HaveBodies lookahead source z u.trees) (back u.grown)
+          u.have;
+      filled = u.filled;
+    }

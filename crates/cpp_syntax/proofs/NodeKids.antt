@@ -26,10 +26,12 @@ front_of nodes all ids id (more t ts) e s =
       show = subst (λ (is : List NodeId). ShowsAll nodes is ts) others s.4;
     }
 
-pub front_at : (nodes : List Node) (ids : List NodeId) (i : ℕ) (id d : NodeId) (trees : Trees) → i < length ids → id ≡ get_or ids i d → ShowsAll nodes (drop i ids) trees → Front nodes id (drop (i + 1) ids) trees
+pub front_at : (nodes : List Node) (ids : List NodeId) (i : ℕ) (id d : NodeId) (trees : Trees) → i < length ids → id ≡ get_or ids i d
+    → ShowsAll nodes (drop i ids) trees → Front nodes id (drop (i + 1) ids) trees
 front_at nodes ids i id d trees inside at s =
     let next : suc i ≡ i + 1 = omega arith in
-    front_of nodes (drop i ids) (drop (i + 1) ids) id trees (drop-cons ids i d inside ∙ ap (λ (k : ℕ). get_or ids i d ∷ drop k ids) next ∙ ap (λ (j : NodeId). j ∷ drop (i + 1) ids) (sym at)) s
+    front_of nodes (drop i ids) (drop (i + 1) ids) id trees (drop-cons ids i d inside ∙ ap (λ (k : ℕ). get_or ids i d ∷ drop k ids) next ∙ ap
+    (λ (j : NodeId). j ∷ drop (i + 1) ids) (sym at)) s
 
 pub drop-past : (i : ℕ) (ids : List NodeId) → length ids ≤ i → drop i ids ≡ []
 drop-past zero [] h = refl

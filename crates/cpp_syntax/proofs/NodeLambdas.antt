@@ -19,7 +19,8 @@ module _ {A : Type 0} (other : A) (make : ℕ → Node → List A → A) where
       let longer = length-append vs (v ∷ []) in
       front_kept (vs ++ v ∷ []) ns i (omega (arith, h, longer)) ∙ get_or_append_left vs (v ∷ []) other i h
 
-  fronts_kept : (vs : List A) (ns : List Node) (ids : List NodeId) → are_below (length vs) ids ≡ true → values_at other (values_from other make vs ns) ids ≡ values_at other vs ids
+  fronts_kept : (vs : List A) (ns : List Node) (ids : List NodeId) → are_below (length vs) ids ≡ true
+      → values_at other (values_from other make vs ns) ids ≡ values_at other vs ids
   fronts_kept vs ns [] h = refl
   fronts_kept vs ns (id ∷ ids) h =
       let parts = and_parts (nat_lt id.0 (length vs)) (are_below (length vs) ids) h in
@@ -27,14 +28,16 @@ module _ {A : Type 0} (other : A) (make : ℕ → Node → List A → A) where
       let rest = fronts_kept vs ns ids parts.1 in
       cc
 
-  pub value_from : (vs : List A) (ns : List Node) (k i : ℕ) (n : Node) → slice_get ns k ≡ Some n → i ≡ length vs + k → are_below i n.kids.items ≡ true → get_or (values_from other make vs ns) i other ≡ make i n (values_at other (values_from other make vs ns) n.kids.items)
+  pub value_from : (vs : List A) (ns : List Node) (k i : ℕ) (n : Node) → slice_get ns k ≡ Some n → i ≡ length vs + k → are_below i n.kids.items ≡ true
+      → get_or (values_from other make vs ns) i other ≡ make i n (values_at other (values_from other make vs ns) n.kids.items)
   value_from vs [] k i n e at below = absurd (none-some n e)
   value_from vs (m ∷ ns) zero i n e at below =
       let v : A = make (length vs) m (values_at other vs m.kids.items) in
       let longer = length-append vs (v ∷ []) in
       let node : m ≡ n = cc in
       let position : i ≡ length vs = omega (arith, at) in
-      let kids : values_at other (values_from other make vs (m ∷ ns)) n.kids.items ≡ values_at other vs n.kids.items = fronts_kept vs (m ∷ ns) n.kids.items (ap (λ (z : ℕ). are_below z n.kids.items) (sym position) ∙ below) in
+      let kids : values_at other (values_from other make vs (m ∷ ns)) n.kids.items ≡ values_at other vs n.kids.items = fronts_kept vs (m ∷ ns)
+      n.kids.items (ap (λ (z : ℕ). are_below z n.kids.items) (sym position) ∙ below) in
       front_kept (vs ++ v ∷ []) ns i (omega (arith, position, longer))
       ∙ get_or_push vs v other i (sym position)
       ∙ ap (λ (z : ℕ). make z m (values_at other vs m.kids.items)) (sym position)
@@ -51,5 +54,6 @@ own_lambda kind id = if is_lambda kind then id ∷ [] else []
 abbrev pub lambdas_of : List Node → ℕ → List ℕ
 lambdas_of nodes id = get_or (values_from [] lambdas_made [] nodes) id []
 
-pub lambdas_are : (nodes : List Node) (id : ℕ) (n : Node) → slice_get nodes id ≡ Some n → are_below id n.kids.items ≡ true → lambdas_of nodes id ≡ lambdas_at nodes n.kids.items ++ own_lambda n.kind id
+pub lambdas_are : (nodes : List Node) (id : ℕ) (n : Node) → slice_get nodes id ≡ Some n → are_below id n.kids.items ≡ true
+    → lambdas_of nodes id ≡ lambdas_at nodes n.kids.items ++ own_lambda n.kind id
 lambdas_are nodes id n e below = value_from [] lambdas_made [] nodes id id n e (omega arith) below

@@ -31,12 +31,16 @@ module _ {A : Type 0} where
       omega (arith, longer, more)
 
   -- the value of one node more
-  pub values_snoc : (other : A) (make : ℕ → Node → List A → A) (vs : List A) (ns : List Node) (n : Node) → values_from other make vs (ns ++ n ∷ []) ≡ values_from other make vs ns ++ make (length vs + length ns) n (values_at other (values_from other make vs ns) n.kids.items) ∷ []
+  pub values_snoc : (other : A) (make : ℕ → Node → List A → A) (vs : List A) (ns : List Node) (n : Node)
+      → values_from other make vs (ns ++ n ∷ []) ≡ values_from other make vs ns ++ make (length vs + length ns) n
+      (values_at other (values_from other make vs ns) n.kids.items) ∷ []
   values_snoc other make vs [] n = ap (λ (k : ℕ). vs ++ make k n (values_at other vs n.kids.items) ∷ []) (omega arith)
   values_snoc other make vs (m ∷ ns) n =
       let now : List A = vs ++ make (length vs) m (values_at other vs m.kids.items) ∷ [] in
-      let long : length now + length ns ≡ length vs + length (m ∷ ns) = let more = length-append vs (make (length vs) m (values_at other vs m.kids.items) ∷ []) in omega (arith, more) in
-      values_snoc other make now ns n ∙ ap (λ (k : ℕ). values_from other make now ns ++ make k n (values_at other (values_from other make now ns) n.kids.items) ∷ []) long
+      let long : length now + length ns ≡ length vs + length (m ∷ ns) = let more = length-append vs
+      (make (length vs) m (values_at other vs m.kids.items) ∷ []) in omega (arith, more) in
+      values_snoc other make now ns n ∙ ap (λ (k : ℕ). values_from other make now ns ++ make k n
+      (values_at other (values_from other make now ns) n.kids.items) ∷ []) long
 
   pub at_grow : (other v : A) (vs : List A) (ids : List NodeId) → are_below (length vs) ids ≡ true → values_at other (vs ++ v ∷ []) ids ≡ values_at other vs ids
   at_grow other v vs [] h = refl
@@ -56,7 +60,11 @@ module _ {A : Type 0} where
     at_map h other vs (id ∷ ids) = let first = get_or-map h vs id.0 other in let rest = at_map h other vs ids in cc
 
   -- One node is added, whose kids are the ids from an index on, in whose index it is.
-  pub at_gathered : (other : A) (make : ℕ → Node → List A → A) (old new : List Node) (was ids : List NodeId) (start : ℕ) (added : Node) (id : NodeId) → new ≡ old ++ added ∷ [] → added.kids.items ≡ drop start was → id.0 ≡ length old → ids ≡ take start was ++ id ∷ [] → are_below (length old) was ≡ true → values_at other (values_from other make [] new) ids ≡ values_at other (values_from other make [] old) (take start was) ++ make (length old) added (values_at other (values_from other make [] old) (drop start was)) ∷ []
+  pub at_gathered : (other : A) (make : ℕ → Node → List A → A) (old new : List Node) (was ids : List NodeId) (start : ℕ) (added : Node) (id : NodeId)
+      → new ≡ old ++ added ∷ [] → added.kids.items ≡ drop start was → id.0 ≡ length old → ids ≡ take start was ++ id ∷ []
+      → are_below (length old) was ≡ true
+      → values_at other (values_from other make [] new) ids ≡ values_at other (values_from other make [] old) (take start was) ++ make (length old)
+      added (values_at other (values_from other make [] old) (drop start was)) ∷ []
   at_gathered other make old new was ids start added id nodes kids index pending below =
       let V : List A = values_from other make [] old in
       let v : A = make (length old) added (values_at other V (drop start was)) in
@@ -65,7 +73,8 @@ module _ {A : Type 0} where
       ap (values_from other make []) nodes ∙ values_snoc other make [] old added
       ∙ ap (λ (k : ℕ). V ++ make k added (values_at other V added.kids.items) ∷ []) (omega arith)
       ∙ ap (λ (is : List NodeId). V ++ make (length old) added (values_at other V is) ∷ []) kids in
-      let first : values_at other (V ++ v ∷ []) (take start was) ≡ values_at other V (take start was) = at_grow other v V (take start was) (below_take (length V) start was (ap (λ (k : ℕ). are_below k was) long ∙ below)) in
+      let first : values_at other (V ++ v ∷ []) (take start was) ≡ values_at other V (take start was) = at_grow other v V (take start was)
+      (below_take (length V) start was (ap (λ (k : ℕ). are_below k was) long ∙ below)) in
       let last : get_or (V ++ v ∷ []) id.0 other ≡ v = at_last other v V id (index ∙ sym long) in
       ap (λ (vs : List A). values_at other vs ids) more
       ∙ ap (values_at other (V ++ v ∷ [])) pending
@@ -74,14 +83,16 @@ module _ {A : Type 0} where
       ∙ ap (λ (w : A). values_at other V (take start was) ++ w ∷ []) last
 
   -- the values of the nodes that were there, and of the new one
-  pub value_grow : (other : A) (make : ℕ → Node → List A → A) (ns : List Node) (n : Node) (id : ℕ) → id < length ns → get_or (values_from other make [] (ns ++ n ∷ [])) id other ≡ get_or (values_from other make [] ns) id other
+  pub value_grow : (other : A) (make : ℕ → Node → List A → A) (ns : List Node) (n : Node) (id : ℕ) → id < length ns
+      → get_or (values_from other make [] (ns ++ n ∷ [])) id other ≡ get_or (values_from other make [] ns) id other
   value_grow other make ns n id h =
       let V : List A = values_from other make [] ns in
       let v : A = make (length {A = A} [] + length ns) n (values_at other V n.kids.items) in
       let long = values_long other make [] ns in
       ap (λ (vs : List A). get_or vs id other) (values_snoc other make [] ns n) ∙ get_or_append_left V (v ∷ []) other id (omega (arith, long, h))
 
-  pub value_last : (other : A) (make : ℕ → Node → List A → A) (ns : List Node) (n : Node) → get_or (values_from other make [] (ns ++ n ∷ [])) (length ns) other ≡ make (length ns) n (values_at other (values_from other make [] ns) n.kids.items)
+  pub value_last : (other : A) (make : ℕ → Node → List A → A) (ns : List Node) (n : Node)
+      → get_or (values_from other make [] (ns ++ n ∷ [])) (length ns) other ≡ make (length ns) n (values_at other (values_from other make [] ns) n.kids.items)
   value_last other make ns n =
       let V : List A = values_from other make [] ns in
       let long : length ns ≡ length V = let l = values_long other make [] ns in omega (arith, l) in

@@ -25,7 +25,8 @@ pub operand_behind : (s : Source) (a b : ℕ) → SameOperand s a b → is_step 
 operand_behind s a b x t = record { back_from = λ y. x.back_from (at_step t y); on_to = λ y. past_step s t (x.on_to y) }
 
 -- no operand begins with ( and )
-pub no_operand : (s : Source) (a b : ℕ) → SameOperand s a b → open_paren (terminal_at s b) ≡ true → close_paren (terminal_at s (b + 1)) ≡ true → BeginsOperand s a → ⊥
+pub no_operand : (s : Source) (a b : ℕ) → SameOperand s a b → open_paren (terminal_at s b) ≡ true → close_paren (terminal_at s (b + 1)) ≡ true
+    → BeginsOperand s a → ⊥
 no_operand s a b x t u y = by b t u (x.on_to y)
   where
     by : (b : ℕ) → open_paren (terminal_at s b) ≡ true → close_paren (terminal_at s (b + 1)) ≡ true → BeginsOperand s b → ⊥
@@ -34,7 +35,8 @@ no_operand s a b x t u y = by b t u (x.on_to y)
     by b t u (at_step v w) = differ open_paren is_step refl (terminal_at s b) t v
 
 -- nor with a token that begins none
-pub no_operand_at : (s : Source) (a b : ℕ) → SameOperand s a b → is_step (terminal_at s b) ≡ false → open_paren (terminal_at s b) ≡ false → begins_operand (terminal_at s b) ≡ false → BeginsOperand s a → ⊥
+pub no_operand_at : (s : Source) (a b : ℕ) → SameOperand s a b → is_step (terminal_at s b) ≡ false → open_paren (terminal_at s b) ≡ false
+    → begins_operand (terminal_at s b) ≡ false → BeginsOperand s a → ⊥
 no_operand_at s a b x t u v y = by b t u v (x.on_to y)
   where
     by : (b : ℕ) → is_step (terminal_at s b) ≡ false → open_paren (terminal_at s b) ≡ false → begins_operand (terminal_at s b) ≡ false → BeginsOperand s b → ⊥

@@ -37,7 +37,9 @@ pub passes_by : (test : Terminal → Bool) → ((s : Terminal) → test s ≡ tr
 passes_by test f = and_from (test terminal.End) (list_all test every_terminal) (f terminal.End) (all_pass test f every_terminal)
 
 no_level : (s : Terminal) → continuation_of_primary s ≡ true → level_of s ≡ 0
-no_level s e = eq_of (level_of s) (implied (continuation_of_primary s) (nat_eq (level_of s) 0) (at_each (λ z. implies (continuation_of_primary z) (nat_eq (level_of z) 0)) refl s) e)
+no_level s e =
+    eq_of (level_of s) (implied (continuation_of_primary s) (nat_eq (level_of s) 0) (at_each
+    (λ z. implies (continuation_of_primary z) (nat_eq (level_of z) 0)) refl s) e)
   where
     eq_of : (n : ℕ) → nat_eq n 0 ≡ true → n ≡ 0
     eq_of n h = grind arith
@@ -61,21 +63,30 @@ levels_apart_more n = and_from (passes (apart_by (operated n) (operated n) true)
     (passes_by (apart_by (operated n) (operated n) true) (λ s. not_both_more (continuation_of_primary s) (level_of s) n (no_level s)))
     (passes_by (apart_by (operated n) (operated n) false) (λ s. not_both_more (continuation_of_primary s) (level_of s) n (no_level s)))
 
-pub operated_none : {lookahead : Lookahead → ℕ → Type 0} {source : Source} {r : Read} {a n : ℕ} → (level_of (terminal_at source a) ≡ n + 1 → ⊥) → NoDerivation lookahead kept_apart source (operated n) r a
+pub operated_none : {lookahead : Lookahead → ℕ → Type 0} {source : Source} {r : Read} {a n : ℕ} → (level_of (terminal_at source a) ≡ n + 1 → ⊥)
+    → NoDerivation lookahead kept_apart source (operated n) r a
 operated_none {source = source} {a = a} {n = n} f = wrap_none (seq_none (mark_none (other (level_of (terminal_at source a)) n f)))
   where
     other : (l m : ℕ) → (l ≡ m + 1 → ⊥) → nat_eq l (suc m) ≡ false
     other l m g = elim (cases_Bool (nat_eq l (suc m))) [ inl h ↦ absurd (g (grind (arith, h))) | inr h ↦ h ]
 
 -- the operators of a level are read
-pub level_read : {source : Source} {n a b : ℕ} {k : Option ℕ} {old new : BuilderState} → ReadsLongest source (form (binary_expression n) · many (operated n)) a b k old new → ReadsLongest source (form (binary_expression (n + 1))) a b None old new
-level_read {source = source} {n = n} {a = a} {b = b} {old = old} {new = new} x = let e : suc n ≡ n + 1 = omega arith in subst (λ (m : ℕ). ReadsLongest source (form (binary_expression m)) a b None old new) e (reads_form x)
+pub level_read : {source : Source} {n a b : ℕ} {k : Option ℕ} {old new : BuilderState}
+    → ReadsLongest source (form (binary_expression n) · many (operated n)) a b k old new
+    → ReadsLongest source (form (binary_expression (n + 1))) a b None old new
+level_read {source = source} {n = n} {a = a} {b = b} {old = old} {new = new} x =
+    let e : suc n ≡ n + 1 = omega arith in subst (λ (m : ℕ). ReadsLongest source (form (binary_expression m)) a b None old new) e (reads_form x)
 
 -- no operator of a level follows
-pub level_over : {source : Source} {n a b : ℕ} {old new : BuilderState} → ReadsLongest source (form (binary_expression n)) a b None old new → (level_of (terminal_at source b) ≡ n + 1 → ⊥) → ReadsLongest source (form (binary_expression (n + 1))) a b None old new
+pub level_over : {source : Source} {n a b : ℕ} {old new : BuilderState} → ReadsLongest source (form (binary_expression n)) a b None old new
+    → (level_of (terminal_at source b) ≡ n + 1 → ⊥) → ReadsLongest source (form (binary_expression (n + 1))) a b None old new
 level_over {n = n} x f = level_read (loop_ends (loop_begins x (levels_apart n)) (λ r. operated_none f))
 
 -- nor one of the levels behind it
-pub levels_over : {source : Source} {n a b : ℕ} {old new : BuilderState} (d : ℕ) → ReadsLongest source (form (binary_expression n)) a b None old new → ((m : ℕ) → n ≤ m → level_of (terminal_at source b) ≡ m + 1 → ⊥) → ReadsLongest source (form (binary_expression (n + d))) a b None old new
-levels_over {source = source} {n = n} {a = a} {b = b} {old = old} {new = new} zero x f = let e : n ≡ n + 0 = omega arith in subst (λ (m : ℕ). ReadsLongest source (form (binary_expression m)) a b None old new) e x
-levels_over {source = source} {n = n} {a = a} {b = b} {old = old} {new = new} (suc d) x f = let e : n + d + 1 ≡ n + suc d = omega arith in subst (λ (m : ℕ). ReadsLongest source (form (binary_expression m)) a b None old new) e (level_over (levels_over d x f) (f (n + d) (omega arith)))
+pub levels_over : {source : Source} {n a b : ℕ} {old new : BuilderState} (d : ℕ) → ReadsLongest source (form (binary_expression n)) a b None old new
+    → ((m : ℕ) → n ≤ m → level_of (terminal_at source b) ≡ m + 1 → ⊥) → ReadsLongest source (form (binary_expression (n + d))) a b None old new
+levels_over {source = source} {n = n} {a = a} {b = b} {old = old} {new = new} zero x f =
+    let e : n ≡ n + 0 = omega arith in subst (λ (m : ℕ). ReadsLongest source (form (binary_expression m)) a b None old new) e x
+levels_over {source = source} {n = n} {a = a} {b = b} {old = old} {new = new} (suc d) x f =
+    let e : n + d + 1 ≡ n + suc d = omega arith in subst (λ (m : ℕ). ReadsLongest source (form (binary_expression m)) a b None old new) e
+    (level_over (levels_over d x f) (f (n + d) (omega arith)))

@@ -58,7 +58,8 @@ spans_seq x y f e = spans_then x (behind_any y f x.got) e
 pub none_seq : {s : Source} {p q : Rule} {a : ℕ} → NoSpan s p a → NoSpan s (p · q) a
 none_seq x = seq_none x
 
-pub none_after : {s : Source} {p q : Rule} {a m : ℕ} → Spans s p a m → NoSpan s q m → is_free q ≡ true → rule_nullable q ≡ false → apart p q ≡ true → NoSpan s (p · q) a
+pub none_after : {s : Source} {p q : Rule} {a m : ℕ} → Spans s p a m → NoSpan s q m → is_free q ≡ true → rule_nullable q ≡ false → apart p q ≡ true
+    → NoSpan s (p · q) a
 none_after x y f e d = seq_ends x.long (free_none f y x.got) e d
 
 -- One rule or another.
@@ -69,7 +70,8 @@ spans_left x y = record { marked = x.marked; got = x.got; long = left x.long y }
 pub spans_right : {s : Source} {p q : Rule} {a b : ℕ} → NoSpan s p a → Spans s q a b → Spans s (p ∣ q) a b
 spans_right x y = record { marked = y.marked; got = y.got; long = right x y.long }
 
-pub spans_filled : {s : Source} {p q : Rule} {a b : ℕ} → Spans s p a b → rule_nullable p ≡ false → OnlyEmpty (lookahead_types s) kept_apart s q no_read a → Spans s (p ∣ q) a b
+pub spans_filled : {s : Source} {p q : Rule} {a b : ℕ} → Spans s p a b → rule_nullable p ≡ false
+    → OnlyEmpty (lookahead_types s) kept_apart s q no_read a → Spans s (p ∣ q) a b
 spans_filled x e y = record { marked = x.marked; got = x.got; long = left_filled x.long e y }
 
 pub spans_taken : {s : Source} {p : Rule} {a b : ℕ} → Spans s p a b → rule_nullable p ≡ false → Spans s (optional p) a b
@@ -88,7 +90,8 @@ pub record SpansChain (s : Source) (q p : Rule) (a b : ℕ) : Type 0 where
 pub chain_starts : {s : Source} {q p : Rule} {a m : ℕ} → Spans s q a m → apart q p ≡ true → SpansChain s q p a m
 chain_starts x e = record { marked = x.marked; got = x.got; chain = chain_begins x.long e }
 
-pub chain_goes : {s : Source} {q p : Rule} {a m b : ℕ} → SpansChain s q p a m → Spans s p m b → is_free p ≡ true → rule_nullable p ≡ false → apart p p ≡ true → SpansChain s q p a b
+pub chain_goes : {s : Source} {q p : Rule} {a m b : ℕ} → SpansChain s q p a m → Spans s p m b → is_free p ≡ true → rule_nullable p ≡ false
+    → apart p p ≡ true → SpansChain s q p a b
 chain_goes x y f e d = let z = behind_any y f x.got in record { marked = _; got = _; chain = chain_more x.chain z.long e d }
 
 pub chain_stops : {s : Source} {q p : Rule} {a b : ℕ} → SpansChain s q p a b → NoSpan s p b → is_free p ≡ true → Spans s (q · many p) a b
@@ -105,10 +108,12 @@ pub record SpansMany (s : Source) (p : Rule) (r : Read) (a b : ℕ) : Type 0 whe
 pub many_starts : {s : Source} {p : Rule} {r : Read} {a : ℕ} → SpansMany s p r a a
 many_starts {r = r} = record { marked = None; got = r; so_far = many_begins }
 
-pub many_goes : {s : Source} {p : Rule} {r : Read} {a m b : ℕ} (x : SpansMany s p r a m) → SpansBehind s p x.got m b → rule_nullable p ≡ false → apart p p ≡ true → SpansMany s p r a b
+pub many_goes : {s : Source} {p : Rule} {r : Read} {a m b : ℕ} (x : SpansMany s p r a m) → SpansBehind s p x.got m b → rule_nullable p ≡ false
+    → apart p p ≡ true → SpansMany s p r a b
 many_goes x y e d = record { marked = _; got = _; so_far = many_more x.so_far y.long e d }
 
-pub many_stops : {s : Source} {p : Rule} {r : Read} {a b : ℕ} (x : SpansMany s p r a b) → NoDerivation (lookahead_types s) kept_apart s p x.got b → SpansBehind s (many p) r a b
+pub many_stops : {s : Source} {p : Rule} {r : Read} {a b : ℕ} (x : SpansMany s p r a b) → NoDerivation (lookahead_types s) kept_apart s p x.got b
+    → SpansBehind s (many p) r a b
 many_stops x y = record { marked = x.marked; got = x.got; long = many_ends x.so_far y }
 
 pub many_ahead : {s : Source} {p : Rule} {r : Read} {a b : ℕ} → SpansMany s p r a b → a ≤ b

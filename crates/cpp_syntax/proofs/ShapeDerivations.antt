@@ -62,7 +62,8 @@ blind_holds function_qualifiers e = refl
 blind_holds balanced e = refl
 blind_holds _ e = absurd (true≢false (back e))
 
-pub blind : {lookahead other : Lookahead → ℕ → Type 0} {bodies : Bodies} {source : Source} {p : Rule} {r s : Read} {a b : ℕ} {k : Option ℕ} → is_blind p ≡ true → Derives lookahead bodies source p r a b k s → Derives other bodies source p r a b k s
+pub blind : {lookahead other : Lookahead → ℕ → Type 0} {bodies : Bodies} {source : Source} {p : Rule} {r s : Read} {a b : ℕ} {k : Option ℕ}
+    → is_blind p ≡ true → Derives lookahead bodies source p r a b k s → Derives other bodies source p r a b k s
 blind i (is_nothing e f g) = is_nothing e f g
 blind i (is_word t e f g) = is_word t e f g
 blind i (is_mark t e f g) = is_mark t e f g
@@ -93,16 +94,19 @@ pub none_inside : {s : Source} (f : Nonterminal) {a : ℕ} → is_blind_form f �
 none_inside f i x b y = x b y.shape.0 y.shape.1 (blind i y.shape.2)
 
 -- the longest shape behind the ( is the one that ends before a )
-pub one_end : {s : Source} (f : Nonterminal) {a m : ℕ} → is_blind_form f ≡ true → apart (form f) (word close_paren) ≡ true → Spans s (form f) (a + 1) m → (b : ℕ) → InParentheses s f a b → b ≡ m
+pub one_end : {s : Source} (f : Nonterminal) {a m : ℕ} → is_blind_form f ≡ true → apart (form f) (word close_paren) ≡ true
+    → Spans s (form f) (a + 1) m → (b : ℕ) → InParentheses s f a b → b ≡ m
 one_end {s = s} f i e x b y = elim (x.long.longest b y.shape.0 y.shape.1 (blind i y.shape.2)) [
   | inl h ↦ absurd (never_both (lookahead_types s) s (form f) (word close_paren) b e h.1 (λ seen w. y.closed))
   | inr h ↦ h.0
 ]
 
-pub not_closed : {s : Source} (f : Nonterminal) {a m : ℕ} → is_blind_form f ≡ true → apart (form f) (word close_paren) ≡ true → Spans s (form f) (a + 1) m → close_paren (terminal_at s m) ≡ false → (b : ℕ) → InParentheses s f a b → ⊥
+pub not_closed : {s : Source} (f : Nonterminal) {a m : ℕ} → is_blind_form f ≡ true → apart (form f) (word close_paren) ≡ true
+    → Spans s (form f) (a + 1) m → close_paren (terminal_at s m) ≡ false → (b : ℕ) → InParentheses s f a b → ⊥
 not_closed {s = s} f i e x t b y = true≢false (back y.closed ∙ ap (λ (n : ℕ). close_paren (terminal_at s n)) (one_end f i e x b y) ∙ t)
 
-pub in_parentheses : {s : Source} (f : Nonterminal) {a m : ℕ} → is_blind_form f ≡ true → open_paren (terminal_at s a) ≡ true → Spans s (form f) (a + 1) m → close_paren (terminal_at s m) ≡ true → InParentheses s f a m
+pub in_parentheses : {s : Source} (f : Nonterminal) {a m : ℕ} → is_blind_form f ≡ true → open_paren (terminal_at s a) ≡ true
+    → Spans s (form f) (a + 1) m → close_paren (terminal_at s m) ≡ true → InParentheses s f a m
 in_parentheses f i t x u = record { opened = t; shape = (x.marked, x.got, blind i x.long.derives); closed = u }
 
 -- Parameters in parentheses are seen.
@@ -110,14 +114,19 @@ in_parentheses f i t x u = record { opened = t; shape = (x.marked, x.got, blind 
 pub parameters_seen : {s : Source} {a b : ℕ} → ParametersAt s a b → lookahead_types s parameters a
 parameters_seen {b = b} x = (b, in_parentheses (parameter_declaration_clause by_shape) refl x.opened x.spans x.closed)
 
-shape_there : (s : Source) (f : Nonterminal) (a : ℕ) {m n : ℕ} {r t : Read} {k : Option ℕ} → is_blind_form f ≡ true → m ≡ a + 1 → Derives (lookahead_types s) kept_apart s (form f) r m n k t → Shape s f (a + 1) n
+shape_there : (s : Source) (f : Nonterminal) (a : ℕ) {m n : ℕ} {r t : Read} {k : Option ℕ} → is_blind_form f ≡ true → m ≡ a + 1
+    → Derives (lookahead_types s) kept_apart s (form f) r m n k t → Shape s f (a + 1) n
 shape_there s f a {n = n} {k = k} i e x = subst (λ (z : ℕ). Shape s f z n) e (let y = free refl x in (k, _, blind i (y.behind no_read)))
 
-pub function_seen : {s : Source} {r t : Read} {a b : ℕ} {k : Option ℕ} → Derives (lookahead_types s) kept_apart s (function_parameters by_shape) r a b k t → lookahead_types s parameters a
-function_seen {s = s} {a = a} (is_both (is_mark t0 e0 f0 g0) (is_both {m = n} x (is_both (is_word t1 e1 f1 g1) y h2) h1) h0) = (n, record { opened = t0; shape = shape_there s (parameter_declaration_clause by_shape) a refl e0 x; closed = t1 })
+pub function_seen : {s : Source} {r t : Read} {a b : ℕ} {k : Option ℕ}
+    → Derives (lookahead_types s) kept_apart s (function_parameters by_shape) r a b k t → lookahead_types s parameters a
+function_seen {s = s} {a = a} (is_both (is_mark t0 e0 f0 g0) (is_both {m = n} x (is_both (is_word t1 e1 f1 g1) y h2) h1) h0) =
+    (n, record { opened = t0; shape = shape_there s (parameter_declaration_clause by_shape) a refl e0 x; closed = t1 })
 
 -- A text that is not empty begins at a token.
-pub begins_inside : {lookahead : Lookahead → ℕ → Type 0} {bodies : Bodies} {source : Source} {p : Rule} {r s : Read} {a b : ℕ} {k : Option ℕ} → Derives lookahead bodies source p r a b k s → rule_nullable p ≡ false → rule_first_set p true terminal.End ≡ false → rule_first_set p false terminal.End ≡ false → a < length source.terminals
+pub begins_inside : {lookahead : Lookahead → ℕ → Type 0} {bodies : Bodies} {source : Source} {p : Rule} {r s : Read} {a b : ℕ} {k : Option ℕ}
+    → Derives lookahead bodies source p r a b k s → rule_nullable p ≡ false → rule_first_set p true terminal.End ≡ false
+    → rule_first_set p false terminal.End ≡ false → a < length source.terminals
 begins_inside {source = source} {r = r} {s = s} {a = a} {b = b} {k = k} x e f g = elim (cases_lt a (length source.terminals)) [
   | inl h ↦ h
   | inr h ↦ absurd (none_at terminal.End (get_or_past source.terminals a terminal.End h) e f g b k s x)

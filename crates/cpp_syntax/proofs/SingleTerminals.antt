@@ -35,7 +35,9 @@ refused test t e s other = both_ways (test s) (reads s t) (at_each (λ z. implie
 
 -- what else is read as a terminal
 abbrev others : Terminal → List Terminal
-others terminal.TypeName = terminal.AbortType ∷ terminal.TxExceptionType ∷ terminal.OptimizeForSynchronizedType ∷ terminal.OverrideType ∷ terminal.FinalType ∷ terminal.TransactionSafeType ∷ terminal.TransactionSafeDynamicType ∷ []
+others terminal.TypeName =
+    terminal.AbortType ∷ terminal.TxExceptionType ∷ terminal.OptimizeForSynchronizedType ∷ terminal.OverrideType ∷ terminal.FinalType ∷
+    terminal.TransactionSafeType ∷ terminal.TransactionSafeDynamicType ∷ []
 others terminal.Abort = terminal.AbortType ∷ terminal.AbortLater ∷ []
 others terminal.TxException = terminal.TxExceptionType ∷ terminal.TxExceptionLater ∷ []
 others terminal.OptimizeForSynchronized = terminal.OptimizeForSynchronizedType ∷ terminal.OptimizeForSynchronizedLater ∷ []
@@ -55,40 +57,93 @@ rest_passes : (test : Terminal → Bool) (t : Terminal) (ts : List Terminal) →
 rest_passes test t ts e = (and_parts (test t) (list_all test ts) e).1
 
 passes_other : (test : Terminal → Bool) (s t : Terminal) → stands_for s t ≡ true → list_all test (others t) ≡ true → test s ≡ true
-passes_other test terminal.AbortType terminal.TypeName h e = first_passes test terminal.AbortType (terminal.TxExceptionType ∷ terminal.OptimizeForSynchronizedType ∷ terminal.OverrideType ∷ terminal.FinalType ∷ terminal.TransactionSafeType ∷ terminal.TransactionSafeDynamicType ∷ []) e
+passes_other test terminal.AbortType terminal.TypeName h e =
+    first_passes test terminal.AbortType (terminal.TxExceptionType ∷ terminal.OptimizeForSynchronizedType ∷ terminal.OverrideType ∷
+    terminal.FinalType ∷ terminal.TransactionSafeType ∷ terminal.TransactionSafeDynamicType ∷ []) e
 passes_other test terminal.AbortType terminal.Abort h e = first_passes test terminal.AbortType (terminal.AbortLater ∷ []) e
 passes_other test terminal.AbortType _ h e = absurd (true≢false (back h))
-passes_other test terminal.AbortLater terminal.Abort h e = first_passes test terminal.AbortLater [] (rest_passes test terminal.AbortType (terminal.AbortLater ∷ []) e)
+passes_other test terminal.AbortLater terminal.Abort h e =
+    first_passes test terminal.AbortLater [] (rest_passes test terminal.AbortType (terminal.AbortLater ∷ []) e)
 passes_other test terminal.AbortLater _ h e = absurd (true≢false (back h))
-passes_other test terminal.TxExceptionType terminal.TypeName h e = first_passes test terminal.TxExceptionType (terminal.OptimizeForSynchronizedType ∷ terminal.OverrideType ∷ terminal.FinalType ∷ terminal.TransactionSafeType ∷ terminal.TransactionSafeDynamicType ∷ []) (rest_passes test terminal.AbortType (terminal.TxExceptionType ∷ terminal.OptimizeForSynchronizedType ∷ terminal.OverrideType ∷ terminal.FinalType ∷ terminal.TransactionSafeType ∷ terminal.TransactionSafeDynamicType ∷ []) e)
+passes_other test terminal.TxExceptionType terminal.TypeName h e =
+    first_passes test terminal.TxExceptionType (terminal.OptimizeForSynchronizedType ∷ terminal.OverrideType ∷ terminal.FinalType ∷
+    terminal.TransactionSafeType ∷ terminal.TransactionSafeDynamicType ∷ []) (rest_passes test terminal.AbortType
+    (terminal.TxExceptionType ∷ terminal.OptimizeForSynchronizedType ∷ terminal.OverrideType ∷ terminal.FinalType ∷ terminal.TransactionSafeType ∷
+    terminal.TransactionSafeDynamicType ∷ []) e)
 passes_other test terminal.TxExceptionType terminal.TxException h e = first_passes test terminal.TxExceptionType (terminal.TxExceptionLater ∷ []) e
 passes_other test terminal.TxExceptionType _ h e = absurd (true≢false (back h))
-passes_other test terminal.TxExceptionLater terminal.TxException h e = first_passes test terminal.TxExceptionLater [] (rest_passes test terminal.TxExceptionType (terminal.TxExceptionLater ∷ []) e)
+passes_other test terminal.TxExceptionLater terminal.TxException h e =
+    first_passes test terminal.TxExceptionLater [] (rest_passes test terminal.TxExceptionType (terminal.TxExceptionLater ∷ []) e)
 passes_other test terminal.TxExceptionLater _ h e = absurd (true≢false (back h))
-passes_other test terminal.OptimizeForSynchronizedType terminal.TypeName h e = first_passes test terminal.OptimizeForSynchronizedType (terminal.OverrideType ∷ terminal.FinalType ∷ terminal.TransactionSafeType ∷ terminal.TransactionSafeDynamicType ∷ []) (rest_passes test terminal.TxExceptionType (terminal.OptimizeForSynchronizedType ∷ terminal.OverrideType ∷ terminal.FinalType ∷ terminal.TransactionSafeType ∷ terminal.TransactionSafeDynamicType ∷ []) (rest_passes test terminal.AbortType (terminal.TxExceptionType ∷ terminal.OptimizeForSynchronizedType ∷ terminal.OverrideType ∷ terminal.FinalType ∷ terminal.TransactionSafeType ∷ terminal.TransactionSafeDynamicType ∷ []) e))
-passes_other test terminal.OptimizeForSynchronizedType terminal.OptimizeForSynchronized h e = first_passes test terminal.OptimizeForSynchronizedType (terminal.OptimizeForSynchronizedLater ∷ []) e
+passes_other test terminal.OptimizeForSynchronizedType terminal.TypeName h e =
+    first_passes test terminal.OptimizeForSynchronizedType (terminal.OverrideType ∷ terminal.FinalType ∷ terminal.TransactionSafeType ∷
+    terminal.TransactionSafeDynamicType ∷ []) (rest_passes test terminal.TxExceptionType
+    (terminal.OptimizeForSynchronizedType ∷ terminal.OverrideType ∷ terminal.FinalType ∷ terminal.TransactionSafeType ∷
+    terminal.TransactionSafeDynamicType ∷ []) (rest_passes test terminal.AbortType (terminal.TxExceptionType ∷ terminal.OptimizeForSynchronizedType ∷
+    terminal.OverrideType ∷ terminal.FinalType ∷ terminal.TransactionSafeType ∷ terminal.TransactionSafeDynamicType ∷ []) e))
+passes_other test terminal.OptimizeForSynchronizedType terminal.OptimizeForSynchronized h e =
+    first_passes test terminal.OptimizeForSynchronizedType (terminal.OptimizeForSynchronizedLater ∷ []) e
 passes_other test terminal.OptimizeForSynchronizedType _ h e = absurd (true≢false (back h))
-passes_other test terminal.OptimizeForSynchronizedLater terminal.OptimizeForSynchronized h e = first_passes test terminal.OptimizeForSynchronizedLater [] (rest_passes test terminal.OptimizeForSynchronizedType (terminal.OptimizeForSynchronizedLater ∷ []) e)
+passes_other test terminal.OptimizeForSynchronizedLater terminal.OptimizeForSynchronized h e =
+    first_passes test terminal.OptimizeForSynchronizedLater [] (rest_passes test terminal.OptimizeForSynchronizedType
+    (terminal.OptimizeForSynchronizedLater ∷ []) e)
 passes_other test terminal.OptimizeForSynchronizedLater _ h e = absurd (true≢false (back h))
-passes_other test terminal.OverrideType terminal.TypeName h e = first_passes test terminal.OverrideType (terminal.FinalType ∷ terminal.TransactionSafeType ∷ terminal.TransactionSafeDynamicType ∷ []) (rest_passes test terminal.OptimizeForSynchronizedType (terminal.OverrideType ∷ terminal.FinalType ∷ terminal.TransactionSafeType ∷ terminal.TransactionSafeDynamicType ∷ []) (rest_passes test terminal.TxExceptionType (terminal.OptimizeForSynchronizedType ∷ terminal.OverrideType ∷ terminal.FinalType ∷ terminal.TransactionSafeType ∷ terminal.TransactionSafeDynamicType ∷ []) (rest_passes test terminal.AbortType (terminal.TxExceptionType ∷ terminal.OptimizeForSynchronizedType ∷ terminal.OverrideType ∷ terminal.FinalType ∷ terminal.TransactionSafeType ∷ terminal.TransactionSafeDynamicType ∷ []) e)))
+passes_other test terminal.OverrideType terminal.TypeName h e =
+    first_passes test terminal.OverrideType (terminal.FinalType ∷ terminal.TransactionSafeType ∷ terminal.TransactionSafeDynamicType ∷ [])
+    (rest_passes test terminal.OptimizeForSynchronizedType (terminal.OverrideType ∷ terminal.FinalType ∷ terminal.TransactionSafeType ∷
+    terminal.TransactionSafeDynamicType ∷ []) (rest_passes test terminal.TxExceptionType
+    (terminal.OptimizeForSynchronizedType ∷ terminal.OverrideType ∷ terminal.FinalType ∷ terminal.TransactionSafeType ∷
+    terminal.TransactionSafeDynamicType ∷ []) (rest_passes test terminal.AbortType (terminal.TxExceptionType ∷ terminal.OptimizeForSynchronizedType ∷
+    terminal.OverrideType ∷ terminal.FinalType ∷ terminal.TransactionSafeType ∷ terminal.TransactionSafeDynamicType ∷ []) e)))
 passes_other test terminal.OverrideType terminal.Override h e = first_passes test terminal.OverrideType (terminal.OverrideLater ∷ []) e
 passes_other test terminal.OverrideType _ h e = absurd (true≢false (back h))
-passes_other test terminal.OverrideLater terminal.Override h e = first_passes test terminal.OverrideLater [] (rest_passes test terminal.OverrideType (terminal.OverrideLater ∷ []) e)
+passes_other test terminal.OverrideLater terminal.Override h e =
+    first_passes test terminal.OverrideLater [] (rest_passes test terminal.OverrideType (terminal.OverrideLater ∷ []) e)
 passes_other test terminal.OverrideLater _ h e = absurd (true≢false (back h))
-passes_other test terminal.FinalType terminal.TypeName h e = first_passes test terminal.FinalType (terminal.TransactionSafeType ∷ terminal.TransactionSafeDynamicType ∷ []) (rest_passes test terminal.OverrideType (terminal.FinalType ∷ terminal.TransactionSafeType ∷ terminal.TransactionSafeDynamicType ∷ []) (rest_passes test terminal.OptimizeForSynchronizedType (terminal.OverrideType ∷ terminal.FinalType ∷ terminal.TransactionSafeType ∷ terminal.TransactionSafeDynamicType ∷ []) (rest_passes test terminal.TxExceptionType (terminal.OptimizeForSynchronizedType ∷ terminal.OverrideType ∷ terminal.FinalType ∷ terminal.TransactionSafeType ∷ terminal.TransactionSafeDynamicType ∷ []) (rest_passes test terminal.AbortType (terminal.TxExceptionType ∷ terminal.OptimizeForSynchronizedType ∷ terminal.OverrideType ∷ terminal.FinalType ∷ terminal.TransactionSafeType ∷ terminal.TransactionSafeDynamicType ∷ []) e))))
+passes_other test terminal.FinalType terminal.TypeName h e =
+    first_passes test terminal.FinalType (terminal.TransactionSafeType ∷ terminal.TransactionSafeDynamicType ∷ [])
+    (rest_passes test terminal.OverrideType (terminal.FinalType ∷ terminal.TransactionSafeType ∷ terminal.TransactionSafeDynamicType ∷ [])
+    (rest_passes test terminal.OptimizeForSynchronizedType (terminal.OverrideType ∷ terminal.FinalType ∷ terminal.TransactionSafeType ∷
+    terminal.TransactionSafeDynamicType ∷ []) (rest_passes test terminal.TxExceptionType
+    (terminal.OptimizeForSynchronizedType ∷ terminal.OverrideType ∷ terminal.FinalType ∷ terminal.TransactionSafeType ∷
+    terminal.TransactionSafeDynamicType ∷ []) (rest_passes test terminal.AbortType (terminal.TxExceptionType ∷ terminal.OptimizeForSynchronizedType ∷
+    terminal.OverrideType ∷ terminal.FinalType ∷ terminal.TransactionSafeType ∷ terminal.TransactionSafeDynamicType ∷ []) e))))
 passes_other test terminal.FinalType terminal.Final h e = first_passes test terminal.FinalType (terminal.FinalLater ∷ []) e
 passes_other test terminal.FinalType _ h e = absurd (true≢false (back h))
-passes_other test terminal.FinalLater terminal.Final h e = first_passes test terminal.FinalLater [] (rest_passes test terminal.FinalType (terminal.FinalLater ∷ []) e)
+passes_other test terminal.FinalLater terminal.Final h e =
+    first_passes test terminal.FinalLater [] (rest_passes test terminal.FinalType (terminal.FinalLater ∷ []) e)
 passes_other test terminal.FinalLater _ h e = absurd (true≢false (back h))
-passes_other test terminal.TransactionSafeType terminal.TypeName h e = first_passes test terminal.TransactionSafeType (terminal.TransactionSafeDynamicType ∷ []) (rest_passes test terminal.FinalType (terminal.TransactionSafeType ∷ terminal.TransactionSafeDynamicType ∷ []) (rest_passes test terminal.OverrideType (terminal.FinalType ∷ terminal.TransactionSafeType ∷ terminal.TransactionSafeDynamicType ∷ []) (rest_passes test terminal.OptimizeForSynchronizedType (terminal.OverrideType ∷ terminal.FinalType ∷ terminal.TransactionSafeType ∷ terminal.TransactionSafeDynamicType ∷ []) (rest_passes test terminal.TxExceptionType (terminal.OptimizeForSynchronizedType ∷ terminal.OverrideType ∷ terminal.FinalType ∷ terminal.TransactionSafeType ∷ terminal.TransactionSafeDynamicType ∷ []) (rest_passes test terminal.AbortType (terminal.TxExceptionType ∷ terminal.OptimizeForSynchronizedType ∷ terminal.OverrideType ∷ terminal.FinalType ∷ terminal.TransactionSafeType ∷ terminal.TransactionSafeDynamicType ∷ []) e)))))
-passes_other test terminal.TransactionSafeType terminal.TransactionSafe h e = first_passes test terminal.TransactionSafeType (terminal.TransactionSafeLater ∷ []) e
+passes_other test terminal.TransactionSafeType terminal.TypeName h e =
+    first_passes test terminal.TransactionSafeType (terminal.TransactionSafeDynamicType ∷ [])
+    (rest_passes test terminal.FinalType (terminal.TransactionSafeType ∷ terminal.TransactionSafeDynamicType ∷ [])
+    (rest_passes test terminal.OverrideType (terminal.FinalType ∷ terminal.TransactionSafeType ∷ terminal.TransactionSafeDynamicType ∷ [])
+    (rest_passes test terminal.OptimizeForSynchronizedType (terminal.OverrideType ∷ terminal.FinalType ∷ terminal.TransactionSafeType ∷
+    terminal.TransactionSafeDynamicType ∷ []) (rest_passes test terminal.TxExceptionType
+    (terminal.OptimizeForSynchronizedType ∷ terminal.OverrideType ∷ terminal.FinalType ∷ terminal.TransactionSafeType ∷
+    terminal.TransactionSafeDynamicType ∷ []) (rest_passes test terminal.AbortType (terminal.TxExceptionType ∷ terminal.OptimizeForSynchronizedType ∷
+    terminal.OverrideType ∷ terminal.FinalType ∷ terminal.TransactionSafeType ∷ terminal.TransactionSafeDynamicType ∷ []) e)))))
+passes_other test terminal.TransactionSafeType terminal.TransactionSafe h e =
+    first_passes test terminal.TransactionSafeType (terminal.TransactionSafeLater ∷ []) e
 passes_other test terminal.TransactionSafeType _ h e = absurd (true≢false (back h))
-passes_other test terminal.TransactionSafeLater terminal.TransactionSafe h e = first_passes test terminal.TransactionSafeLater [] (rest_passes test terminal.TransactionSafeType (terminal.TransactionSafeLater ∷ []) e)
+passes_other test terminal.TransactionSafeLater terminal.TransactionSafe h e =
+    first_passes test terminal.TransactionSafeLater [] (rest_passes test terminal.TransactionSafeType (terminal.TransactionSafeLater ∷ []) e)
 passes_other test terminal.TransactionSafeLater _ h e = absurd (true≢false (back h))
-passes_other test terminal.TransactionSafeDynamicType terminal.TypeName h e = first_passes test terminal.TransactionSafeDynamicType ([]) (rest_passes test terminal.TransactionSafeType (terminal.TransactionSafeDynamicType ∷ []) (rest_passes test terminal.FinalType (terminal.TransactionSafeType ∷ terminal.TransactionSafeDynamicType ∷ []) (rest_passes test terminal.OverrideType (terminal.FinalType ∷ terminal.TransactionSafeType ∷ terminal.TransactionSafeDynamicType ∷ []) (rest_passes test terminal.OptimizeForSynchronizedType (terminal.OverrideType ∷ terminal.FinalType ∷ terminal.TransactionSafeType ∷ terminal.TransactionSafeDynamicType ∷ []) (rest_passes test terminal.TxExceptionType (terminal.OptimizeForSynchronizedType ∷ terminal.OverrideType ∷ terminal.FinalType ∷ terminal.TransactionSafeType ∷ terminal.TransactionSafeDynamicType ∷ []) (rest_passes test terminal.AbortType (terminal.TxExceptionType ∷ terminal.OptimizeForSynchronizedType ∷ terminal.OverrideType ∷ terminal.FinalType ∷ terminal.TransactionSafeType ∷ terminal.TransactionSafeDynamicType ∷ []) e))))))
-passes_other test terminal.TransactionSafeDynamicType terminal.TransactionSafeDynamic h e = first_passes test terminal.TransactionSafeDynamicType (terminal.TransactionSafeDynamicLater ∷ []) e
+passes_other test terminal.TransactionSafeDynamicType terminal.TypeName h e =
+    first_passes test terminal.TransactionSafeDynamicType ([]) (rest_passes test terminal.TransactionSafeType
+    (terminal.TransactionSafeDynamicType ∷ []) (rest_passes test terminal.FinalType (terminal.TransactionSafeType ∷
+    terminal.TransactionSafeDynamicType ∷ []) (rest_passes test terminal.OverrideType
+    (terminal.FinalType ∷ terminal.TransactionSafeType ∷ terminal.TransactionSafeDynamicType ∷ [])
+    (rest_passes test terminal.OptimizeForSynchronizedType (terminal.OverrideType ∷ terminal.FinalType ∷ terminal.TransactionSafeType ∷
+    terminal.TransactionSafeDynamicType ∷ []) (rest_passes test terminal.TxExceptionType
+    (terminal.OptimizeForSynchronizedType ∷ terminal.OverrideType ∷ terminal.FinalType ∷ terminal.TransactionSafeType ∷
+    terminal.TransactionSafeDynamicType ∷ []) (rest_passes test terminal.AbortType (terminal.TxExceptionType ∷ terminal.OptimizeForSynchronizedType ∷
+    terminal.OverrideType ∷ terminal.FinalType ∷ terminal.TransactionSafeType ∷ terminal.TransactionSafeDynamicType ∷ []) e))))))
+passes_other test terminal.TransactionSafeDynamicType terminal.TransactionSafeDynamic h e =
+    first_passes test terminal.TransactionSafeDynamicType (terminal.TransactionSafeDynamicLater ∷ []) e
 passes_other test terminal.TransactionSafeDynamicType _ h e = absurd (true≢false (back h))
-passes_other test terminal.TransactionSafeDynamicLater terminal.TransactionSafeDynamic h e = first_passes test terminal.TransactionSafeDynamicLater [] (rest_passes test terminal.TransactionSafeDynamicType (terminal.TransactionSafeDynamicLater ∷ []) e)
+passes_other test terminal.TransactionSafeDynamicLater terminal.TransactionSafeDynamic h e =
+    first_passes test terminal.TransactionSafeDynamicLater [] (rest_passes test terminal.TransactionSafeDynamicType
+    (terminal.TransactionSafeDynamicLater ∷ []) e)
 passes_other test terminal.TransactionSafeDynamicLater _ h e = absurd (true≢false (back h))
 passes_other test _ _ h e = absurd (true≢false (back h))
 

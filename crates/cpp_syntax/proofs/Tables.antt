@@ -93,8 +93,12 @@ first_set_table translation_unit = refl
 
 -- the terminals that a text of a form begins with
 pub first_set_holds : (f : Nonterminal) (seen : Bool) (s : Terminal) → rule_first_set (production f) seen s ≡ true → first_set f s ≡ true
-first_set_holds f true s e = implied (rule_first_set (production f) true s) (first_set f s) (at_each (begins_by f true) (and_parts (passes (begins_by f true)) (passes (begins_by f false)) (first_set_table f)).0 s) e
-first_set_holds f false s e = implied (rule_first_set (production f) false s) (first_set f s) (at_each (begins_by f false) (and_parts (passes (begins_by f true)) (passes (begins_by f false)) (first_set_table f)).1 s) e
+first_set_holds f true s e =
+    implied (rule_first_set (production f) true s) (first_set f s) (at_each (begins_by f true)
+    (and_parts (passes (begins_by f true)) (passes (begins_by f false)) (first_set_table f)).0 s) e
+first_set_holds f false s e =
+    implied (rule_first_set (production f) false s) (first_set f s) (at_each (begins_by f false)
+    (and_parts (passes (begins_by f true)) (passes (begins_by f false)) (first_set_table f)).1 s) e
 
 -- the forms whose texts may be empty
 pub nullable_holds : (f : Nonterminal) → rule_nullable (production f) ≡ true → nullable f ≡ true
@@ -179,7 +183,8 @@ abbrev operated : ℕ → Rule
 operated n = wrap BinaryExpression (mark (λ s. nat_eq (level_of s) (suc n)) · form (binary_expression n))
 
 -- an operator's level is that of the form, or a lower one
-level_holds : (n : ℕ) (seen : Bool) (s : Terminal) → rule_continuation_set (production (binary_expression (suc n))) seen s ≡ true → continuation_set (binary_expression (suc n)) seen s ≡ true
+level_holds : (n : ℕ) (seen : Bool) (s : Terminal) → rule_continuation_set (production (binary_expression (suc n))) seen s ≡ true
+    → continuation_set (binary_expression (suc n)) seen s ≡ true
 level_holds n seen s e = elim (or_cases (rule_continuation_set (many (operated n)) seen s) (continuation_set (binary_expression n) seen s) e) [
   | inl h ↦ elim (or_cases (rule_first_set (operated n) seen s) (rule_continuation_set (operated n) seen s) h) [
     | inl i ↦ elim (or_cases (nat_eq (level_of s) (suc n)) false i) [
@@ -194,12 +199,18 @@ level_holds n seen s e = elim (or_cases (rule_continuation_set (many (operated n
   | inr h ↦ higher (continuation_of_primary s) (level_of s) n h
 ]
 
-other_holds : (f : Nonterminal) (seen : Bool) (s : Terminal) → (passes (continuation_set_by f true) && passes (continuation_set_by f false)) ≡ true → rule_continuation_set (production f) seen s ≡ true → continuation_set f seen s ≡ true
-other_holds f true s t e = implied (rule_continuation_set (production f) true s) (continuation_set f true s) (at_each (continuation_set_by f true) (and_parts (passes (continuation_set_by f true)) (passes (continuation_set_by f false)) t).0 s) e
-other_holds f false s t e = implied (rule_continuation_set (production f) false s) (continuation_set f false s) (at_each (continuation_set_by f false) (and_parts (passes (continuation_set_by f true)) (passes (continuation_set_by f false)) t).1 s) e
+other_holds : (f : Nonterminal) (seen : Bool) (s : Terminal) → (passes (continuation_set_by f true) && passes (continuation_set_by f false)) ≡ true
+    → rule_continuation_set (production f) seen s ≡ true → continuation_set f seen s ≡ true
+other_holds f true s t e =
+    implied (rule_continuation_set (production f) true s) (continuation_set f true s)
+    (at_each (continuation_set_by f true) (and_parts (passes (continuation_set_by f true)) (passes (continuation_set_by f false)) t).0 s) e
+other_holds f false s t e =
+    implied (rule_continuation_set (production f) false s) (continuation_set f false s)
+    (at_each (continuation_set_by f false) (and_parts (passes (continuation_set_by f true)) (passes (continuation_set_by f false)) t).1 s) e
 
 -- the terminals that a text of a form goes on at
-pub continuation_set_holds : (f : Nonterminal) (seen : Bool) (s : Terminal) → rule_continuation_set (production f) seen s ≡ true → continuation_set f seen s ≡ true
+pub continuation_set_holds : (f : Nonterminal) (seen : Bool) (s : Terminal) → rule_continuation_set (production f) seen s ≡ true
+    → continuation_set f seen s ≡ true
 continuation_set_holds primary_expression seen s e = other_holds primary_expression seen s refl e
 continuation_set_holds lambda_expression seen s e = other_holds lambda_expression seen s refl e
 continuation_set_holds lambda_introducer seen s e = other_holds lambda_introducer seen s refl e

@@ -296,7 +296,9 @@ abbrev pub passes : (Terminal → Bool) → Bool
 passes test = test terminal.End && list_all test every_terminal
 
 pub at_each : (test : Terminal → Bool) → passes test ≡ true → (s : Terminal) → test s ≡ true
-at_each test e s = let h = and_parts (test terminal.End) (list_all test every_terminal) e in subst (λ (z : Terminal). test z ≡ true) (at_number s) (all_get test every_terminal (number_of s) terminal.End h.1 h.0)
+at_each test e s =
+    let h = and_parts (test terminal.End) (list_all test every_terminal) e in subst (λ (z : Terminal). test z ≡ true) (at_number s)
+    (all_get test every_terminal (number_of s) terminal.End h.1 h.0)
 
 -- one Bool follows from another
 abbrev pub implies : Bool → Bool → Bool

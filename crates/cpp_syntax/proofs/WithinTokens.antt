@@ -107,14 +107,16 @@ inside_holds member_declaration = refl
 inside_holds declaration = refl
 inside_holds translation_unit = refl
 
-pub token_inside : (source : Source) (a : ℕ) (test : Terminal → Bool) → not (test terminal.End) ≡ true → test (terminal_at source a) ≡ true → a < length source.terminals
+pub token_inside : (source : Source) (a : ℕ) (test : Terminal → Bool) → not (test terminal.End) ≡ true → test (terminal_at source a) ≡ true
+    → a < length source.terminals
 token_inside source a test e f = elim (cases_lt a (length source.terminals)) [
   | inl h ↦ h
   | inr h ↦ absurd (true≢false (back f ∙ ap test (get_or_past source.terminals a terminal.End h) ∙ not-true (test terminal.End) e))
 ]
 
 -- a text from an index among the tokens, or right behind the last, ends at such an index
-pub inside : {lookahead : Lookahead → ℕ → Type 0} {bodies : Bodies} {source : Source} {p : Rule} {r s : Read} {a b : ℕ} {k : Option ℕ} → Derives lookahead bodies source p r a b k s → ends_inside p ≡ true → a ≤ length source.terminals → b ≤ length source.terminals
+pub inside : {lookahead : Lookahead → ℕ → Type 0} {bodies : Bodies} {source : Source} {p : Rule} {r s : Read} {a b : ℕ} {k : Option ℕ}
+    → Derives lookahead bodies source p r a b k s → ends_inside p ≡ true → a ≤ length source.terminals → b ≤ length source.terminals
 inside (is_nothing e f g) i h = omega (arith, e, h)
 inside {source = source} (is_word {test = test} {a = a} t e f g) i h = let l = token_inside source a test i t in omega (arith, e, l)
 inside {source = source} (is_mark {test = test} {a = a} t e f g) i h = let l = token_inside source a test i t in omega (arith, e, l)

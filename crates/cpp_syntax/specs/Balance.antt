@@ -20,7 +20,8 @@ closes _ _ = false
 pub data Balanced (terminals : List Terminal) : ℕ → ℕ → Type 0 where
   is_empty : {a b : ℕ} → b ≡ a → Balanced terminals a b
   is_token : {a b : ℕ} → is_unbracketed (terminal_in terminals a) ≡ true → Balanced terminals (a + 1) b → Balanced terminals a b
-  is_bracket : {a m b : ℕ} → Balanced terminals (a + 1) m → closes (terminal_in terminals a) (terminal_in terminals m) ≡ true → Balanced terminals (m + 1) b → Balanced terminals a b
+  is_bracket : {a m b : ℕ} → Balanced terminals (a + 1) m → closes (terminal_in terminals a) (terminal_in terminals m) ≡ true
+      → Balanced terminals (m + 1) b → Balanced terminals a b
 
 -- The bracket at one index is closed by that at another, with balanced tokens between.
 pub record Partners (terminals : List Terminal) (a b : ℕ) : Type 0 where

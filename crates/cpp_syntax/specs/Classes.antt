@@ -214,7 +214,8 @@ name_class false (Some index) k otherwise = if nat_lt index k then as_type_name 
 
 -- what a token of a kind at an index is
 abbrev pub class_by : List Lexeme → ℕ → TokKind → List ℕ → Terminal
-class_by tokens k token.Name word = name_class (is_introduced tokens k) (type_index tokens word (length tokens)) k (name_terminal word (qualifies (slice_get tokens (k + 1))))
+class_by tokens k token.Name word =
+    name_class (is_introduced tokens k) (type_index tokens word (length tokens)) k (name_terminal word (qualifies (slice_get tokens (k + 1))))
 class_by tokens k token.Key word = key_terminal word
 class_by tokens k token.Punct word = punct_terminal word
 class_by tokens k token.Int word = integer_terminal word

@@ -97,7 +97,7 @@ positioned at_name source a token kids = or_first source a (first_of_name (decla
 abbrev pub at_of : Tree → At
 at_of (node kind at token kids) = at
 
--- the index of the first of some trees
+-- the position of the first of some trees
 abbrev pub position_of_first : Source → ℕ → Trees → At
 position_of_first source a none = position_at source a
 position_of_first source a (more t ts) = at_of t
@@ -121,21 +121,41 @@ pub data Bodies : Type 0 where
 -- what was read afterwards.
 pub data Derives (lookahead : Lookahead → ℕ → Type 0) (bodies : Bodies) (source : Source) : Rule → Read → ℕ → ℕ → Option ℕ → Read → Type 0 where
   is_nothing : {r s : Read} {a b : ℕ} {k : Option ℕ} → b ≡ a → k ≡ None → s ≡ r → Derives lookahead bodies source nothing r a b k s
-  is_word : {test : Terminal → Bool} {r s : Read} {a b : ℕ} {k : Option ℕ} → test (terminal_at source a) ≡ true → b ≡ a + 1 → k ≡ None → s ≡ r → Derives lookahead bodies source (word test) r a b k s
-  is_mark : {test : Terminal → Bool} {r s : Read} {a b : ℕ} {k : Option ℕ} → test (terminal_at source a) ≡ true → b ≡ a + 1 → k ≡ Some a → s ≡ r → Derives lookahead bodies source (mark test) r a b k s
+  is_word : {test : Terminal → Bool} {r s : Read} {a b : ℕ} {k : Option ℕ} → test (terminal_at source a) ≡ true → b ≡ a + 1 → k ≡ None → s ≡ r
+      → Derives lookahead bodies source (word test) r a b k s
+  is_mark : {test : Terminal → Bool} {r s : Read} {a b : ℕ} {k : Option ℕ} → test (terminal_at source a) ≡ true → b ≡ a + 1 → k ≡ Some a → s ≡ r
+      → Derives lookahead bodies source (mark test) r a b k s
   is_mark_next : {r s : Read} {a b : ℕ} {k : Option ℕ} → b ≡ a → k ≡ Some a → s ≡ r → Derives lookahead bodies source mark_next r a b k s
-  is_mark_name : {r s : Read} {a b : ℕ} {k : Option ℕ} → b ≡ a → k ≡ token_of_name (declared_in r.trees) → s ≡ r → Derives lookahead bodies source mark_name r a b k s
-  is_both : {p q : Rule} {r s t : Read} {a m b : ℕ} {j k l : Option ℕ} → Derives lookahead bodies source p r a m k s → Derives lookahead bodies source q s m b l t → j ≡ first_or k l → Derives lookahead bodies source (p · q) r a b j t
+  is_mark_name : {r s : Read} {a b : ℕ} {k : Option ℕ} → b ≡ a → k ≡ token_of_name (declared_in r.trees) → s ≡ r
+      → Derives lookahead bodies source mark_name r a b k s
+  is_both : {p q : Rule} {r s t : Read} {a m b : ℕ} {j k l : Option ℕ} → Derives lookahead bodies source p r a m k s
+      → Derives lookahead bodies source q s m b l t → j ≡ first_or k l → Derives lookahead bodies source (p · q) r a b j t
   is_left : {p q : Rule} {r s : Read} {a b : ℕ} {k : Option ℕ} → Derives lookahead bodies source p r a b k s → Derives lookahead bodies source (p ∣ q) r a b k s
-  is_right : {p q : Rule} {r s : Read} {a b : ℕ} {k : Option ℕ} → Derives lookahead bodies source q r a b k s → Derives lookahead bodies source (p ∣ q) r a b k s
+  is_right : {p q : Rule} {r s : Read} {a b : ℕ} {k : Option ℕ} → Derives lookahead bodies source q r a b k s
+      → Derives lookahead bodies source (p ∣ q) r a b k s
   is_last : {p : Rule} {r s : Read} {a b : ℕ} {k : Option ℕ} → b ≡ a → k ≡ None → s ≡ r → Derives lookahead bodies source (many p) r a b k s
-  is_more : {p : Rule} {r s t : Read} {a m b : ℕ} {j k l : Option ℕ} → Derives lookahead bodies source p r a m k s → Derives lookahead bodies source (many p) s m b l t → j ≡ first_or k l → Derives lookahead bodies source (many p) r a b j t
-  is_form : {f : Nonterminal} {r s t : Read} {a b : ℕ} {k l : Option ℕ} → Derives lookahead bodies source (production f) no_read a b l t → k ≡ None → s ≡ and_then r t → Derives lookahead bodies source (form f) r a b k s
-  is_node : {positioning : Positioning} {kind : NodeKind} {p : Rule} {r s t : Read} {a b : ℕ} {k l : Option ℕ} → Derives lookahead bodies source p no_read a b l t → k ≡ None → s ≡ and_then r (reads_node kind (positioned positioning source a l t.trees) l t) → Derives lookahead bodies source (node_at positioning kind p) r a b k s
-  is_wrap : {kind : NodeKind} {p : Rule} {r s t : Read} {a b : ℕ} {k l : Option ℕ} → Derives lookahead bodies source p r a b l t → k ≡ None → s ≡ reads_node kind (position_of_first source a r.trees) l t → Derives lookahead bodies source (wrap kind p) r a b k s
-  is_kept_apart : {kind : NodeKind} {p : Rule} {r s t u : Read} {a m n b lambda : ℕ} {j k l : Option ℕ} → bodies ≡ kept_apart → Derives lookahead bodies source p no_read a m l t → l ≡ Some lambda → open_brace (terminal_at source m) ≡ true → Derives lookahead bodies source (form balanced) no_read (m + 1) n j u → close_brace (terminal_at source n) ≡ true → b ≡ n + 1 → k ≡ None → s ≡ and_then r (with_body_apart kind (position_at source a) lambda (m + 1) n t) → Derives lookahead bodies source (with_body kind p) r a b k s
-  is_in_tree : {kind : NodeKind} {p : Rule} {r s t u : Read} {a m b : ℕ} {j k l : Option ℕ} → bodies ≡ in_trees → Derives lookahead bodies source p no_read a m l t → Derives lookahead bodies source (form compound_statement) t m b j u → k ≡ None → s ≡ and_then r (reads_node kind (position_at source a) l u) → Derives lookahead bodies source (with_body kind p) r a b k s
-  is_where : {test : Source → ℕ → ℕ → Bool} {p : Rule} {r s : Read} {a b : ℕ} {k : Option ℕ} → Derives lookahead bodies source p r a b k s → test source a b ≡ true → Derives lookahead bodies source (where_ test p) r a b k s
-  is_before : {test : Terminal → Bool} {p : Rule} {r s : Read} {a b : ℕ} {k : Option ℕ} → Derives lookahead bodies source p r a b k s → test (terminal_at source b) ≡ false → Derives lookahead bodies source (before_no test p) r a b k s
-  is_if : {look : Lookahead} {p : Rule} {r s : Read} {a b : ℕ} {k : Option ℕ} → lookahead look a → Derives lookahead bodies source p r a b k s → Derives lookahead bodies source (if_ look p) r a b k s
-  is_unless : {look : Lookahead} {p : Rule} {r s : Read} {a b : ℕ} {k : Option ℕ} → (lookahead look a → ⊥) → Derives lookahead bodies source p r a b k s → Derives lookahead bodies source (unless look p) r a b k s
+  is_more : {p : Rule} {r s t : Read} {a m b : ℕ} {j k l : Option ℕ} → Derives lookahead bodies source p r a m k s
+      → Derives lookahead bodies source (many p) s m b l t → j ≡ first_or k l → Derives lookahead bodies source (many p) r a b j t
+  is_form : {f : Nonterminal} {r s t : Read} {a b : ℕ} {k l : Option ℕ} → Derives lookahead bodies source (production f) no_read a b l t → k ≡ None
+      → s ≡ and_then r t → Derives lookahead bodies source (form f) r a b k s
+  is_node : {positioning : Positioning} {kind : NodeKind} {p : Rule} {r s t : Read} {a b : ℕ} {k l : Option ℕ}
+      → Derives lookahead bodies source p no_read a b l t → k ≡ None
+      → s ≡ and_then r (reads_node kind (positioned positioning source a l t.trees) l t)
+      → Derives lookahead bodies source (node_at positioning kind p) r a b k s
+  is_wrap : {kind : NodeKind} {p : Rule} {r s t : Read} {a b : ℕ} {k l : Option ℕ} → Derives lookahead bodies source p r a b l t → k ≡ None
+      → s ≡ reads_node kind (position_of_first source a r.trees) l t → Derives lookahead bodies source (wrap kind p) r a b k s
+  is_kept_apart : {kind : NodeKind} {p : Rule} {r s t u : Read} {a m n b lambda : ℕ} {j k l : Option ℕ} → bodies ≡ kept_apart
+      → Derives lookahead bodies source p no_read a m l t → l ≡ Some lambda → open_brace (terminal_at source m) ≡ true
+      → Derives lookahead bodies source (form balanced) no_read (m + 1) n j u → close_brace (terminal_at source n) ≡ true → b ≡ n + 1 → k ≡ None
+      → s ≡ and_then r (with_body_apart kind (position_at source a) lambda (m + 1) n t) → Derives lookahead bodies source (with_body kind p) r a b k s
+  is_in_tree : {kind : NodeKind} {p : Rule} {r s t u : Read} {a m b : ℕ} {j k l : Option ℕ} → bodies ≡ in_trees
+      → Derives lookahead bodies source p no_read a m l t → Derives lookahead bodies source (form compound_statement) t m b j u → k ≡ None
+      → s ≡ and_then r (reads_node kind (position_at source a) l u) → Derives lookahead bodies source (with_body kind p) r a b k s
+  is_where : {test : Source → ℕ → ℕ → Bool} {p : Rule} {r s : Read} {a b : ℕ} {k : Option ℕ} → Derives lookahead bodies source p r a b k s
+      → test source a b ≡ true → Derives lookahead bodies source (where_ test p) r a b k s
+  is_before : {test : Terminal → Bool} {p : Rule} {r s : Read} {a b : ℕ} {k : Option ℕ} → Derives lookahead bodies source p r a b k s
+      → test (terminal_at source b) ≡ false → Derives lookahead bodies source (before_no test p) r a b k s
+  is_if : {look : Lookahead} {p : Rule} {r s : Read} {a b : ℕ} {k : Option ℕ} → lookahead look a → Derives lookahead bodies source p r a b k s
+      → Derives lookahead bodies source (if_ look p) r a b k s
+  is_unless : {look : Lookahead} {p : Rule} {r s : Read} {a b : ℕ} {k : Option ℕ} → (lookahead look a → ⊥)
+      → Derives lookahead bodies source p r a b k s → Derives lookahead bodies source (unless look p) r a b k s

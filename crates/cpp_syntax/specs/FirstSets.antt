@@ -17,7 +17,9 @@ abbrev pub first_of_types : Terminal → Bool
 first_of_types s = is_cv s || first_of_type s
 
 abbrev pub first_of_primary : Terminal → Bool
-first_of_primary s = is_integer s || is_character s || is_string s || is_boolean s || nullptr_word s || this_word s || is_name s || first_of_type s || static_cast_word s || open_paren s || open_bracket s
+first_of_primary s =
+    is_integer s || is_character s || is_string s || is_boolean s || nullptr_word s || this_word s || is_name s || first_of_type s ||
+    static_cast_word s || open_paren s || open_bracket s
 
 abbrev pub first_of_unary : Terminal → Bool
 first_of_unary s = first_of_primary s || is_prefix s || sizeof_word s
@@ -72,7 +74,9 @@ first_set shaped_choice s = question s
 first_set shaped_init_declarator s = first_of_declarator named s
 first_set shaped_declaration s = first_of_types s
 first_set compound_statement s = open_brace s
-first_set statement s = open_brace s || semicolon s || first_of_assignment s || first_of_types s || if_word s || while_word s || do_word s || for_word s || switch_word s || case_word s || default_word s || break_word s || continue_word s || return_word s || try_word s || synchronized_word s || is_atomic s
+first_set statement s =
+    open_brace s || semicolon s || first_of_assignment s || first_of_types s || if_word s || while_word s || do_word s || for_word s || switch_word s
+    || case_word s || default_word s || break_word s || continue_word s || return_word s || try_word s || synchronized_word s || is_atomic s
 first_set for_init_statement s = first_of_types s || first_of_assignment s || semicolon s
 first_set handler s = catch_word s
 first_set enumerator_definition s = is_name s
@@ -235,7 +239,9 @@ rule_first_set mark_name seen s = false
 
 abbrev pub rule_continuation_set : Rule → Bool → Terminal → Bool
 rule_continuation_set (p · q) seen s = rule_continuation_set q seen s || rule_nullable q && rule_continuation_set p seen s
-rule_continuation_set (p ∣ q) seen s = rule_continuation_set p seen s || rule_continuation_set q seen s || rule_nullable q && rule_first_set p seen s || rule_nullable p && rule_first_set q seen s
+rule_continuation_set (p ∣ q) seen s =
+    rule_continuation_set p seen s || rule_continuation_set q seen s || rule_nullable q && rule_first_set p seen s || rule_nullable p &&
+    rule_first_set q seen s
 rule_continuation_set (many p) seen s = rule_first_set p seen s || rule_continuation_set p seen s
 rule_continuation_set (form f) seen s = continuation_set f seen s
 rule_continuation_set (node_at positioning kind p) seen s = rule_continuation_set p seen s

@@ -46,7 +46,9 @@ abbrev pub optional_expression : Rule
 optional_expression = form expression ∣ node Absent nothing
 
 abbrev pub literal : Rule
-literal = leaf IntegerLiteral is_integer ∣ leaf CharacterLiteral is_character ∣ leaf StringLiteral is_string ∣ leaf BooleanLiteral is_boolean ∣ leaf PointerLiteral nullptr_word ∣ leaf This this_word
+literal =
+    leaf IntegerLiteral is_integer ∣ leaf CharacterLiteral is_character ∣ leaf StringLiteral is_string ∣ leaf BooleanLiteral is_boolean ∣ leaf
+    PointerLiteral nullptr_word ∣ leaf This this_word
 
 abbrev pub capture : Rule
 capture = leaf SimpleCapture is_name ∣ node ReferenceCapture (word amp · mark is_name) ∣ leaf ThisCapture this_word
@@ -92,7 +94,8 @@ abbrev pub reference_declarator : Reading → Naming → Rule
 reference_declarator reading naming = node ReferenceDeclarator (mark amp · form (declarator reading naming))
 
 abbrev pub parenthesized_declarator : Reading → Naming → Rule
-parenthesized_declarator reading naming = where_ holds_something (node ParenthesizedDeclarator (mark open_paren · form (declarator reading naming) · word close_paren))
+parenthesized_declarator reading naming =
+    where_ holds_something (node ParenthesizedDeclarator (mark open_paren · form (declarator reading naming) · word close_paren))
 
 -- what a declarator has before its bounds and parameters, if it has it
 abbrev pub declarator_head : Reading → Naming → Rule
@@ -123,7 +126,9 @@ shaped_initializers =
     ∣ unless parameters (word open_paren · some (word is_unbracketed ∣ bracketed) · word close_paren)
 
 abbrev pub initializers : Rule
-initializers = node EqualInitializer (mark equal · form initializer) ∣ unless parameters (node ParenthesizedInitializer (mark open_paren · list (form assignment_expression) · word close_paren))
+initializers =
+    node EqualInitializer (mark equal · form initializer) ∣ unless parameters (node ParenthesizedInitializer
+    (mark open_paren · list (form assignment_expression) · word close_paren))
 
 abbrev pub class_key : Rule
 class_key = leaf ClassKey is_class_key
@@ -233,7 +238,8 @@ production unary_expression = form postfix_expression ∣ prefixed_expression �
 production cast_expression = unless a_cast (form unary_expression) ∣ if_ a_cast cast
 -- the levels from * to ||
 production (binary_expression zero) = form cast_expression
-production (binary_expression (suc n)) = form (binary_expression n) · many (wrap BinaryExpression (mark (λ s. nat_eq (level_of s) (suc n)) · form (binary_expression n)))
+production (binary_expression (suc n)) =
+    form (binary_expression n) · many (wrap BinaryExpression (mark (λ s. nat_eq (level_of s) (suc n)) · form (binary_expression n)))
 production conditional_expression = form (binary_expression 10) · optional (wrap ConditionalExpression choice)
 production assignment_expression =
     form (binary_expression 10) · optional (wrap ConditionalExpression choice ∣ wrap AssignmentExpression (mark is_assignment · form assignment_expression))
@@ -261,7 +267,8 @@ production balanced = many (word is_unbracketed ∣ bracketed)
 production braced_init_list = node BracedInitList (mark open_brace · optional (list (form initializer) · optional (word comma)) · word close_brace)
 production initializer = form assignment_expression ∣ form braced_init_list
 production (init_declarator naming) = node_at at_name InitDeclarator (form (declarator whole naming) · mark_name · optional initializers)
-production block_declaration = node_at at_name SimpleDeclaration (mark_next · form (type_specifier_seq whole) · list (form (init_declarator in_block)) · word semicolon)
+production block_declaration =
+    node_at at_name SimpleDeclaration (mark_next · form (type_specifier_seq whole) · list (form (init_declarator in_block)) · word semicolon)
 -- a declaration by its shape, where any balanced run of tokens stands for what initialises: between ? and : of a
 -- conditional expression commas separate no declarators
 production shaped_choice = word question · many (shaped_token is_chosen) · word colon
@@ -279,7 +286,8 @@ production statement =
     ∣ before_no else_word (node IfStatement (mark if_word · condition · form statement))
     ∣ node WhileStatement (mark while_word · condition · form statement)
     ∣ node DoStatement (mark do_word · form statement · word while_word · condition · word semicolon)
-    ∣ node ForStatement (mark for_word · word open_paren · form for_init_statement · optional_expression · word semicolon · optional_expression · word close_paren · form statement)
+    ∣ node ForStatement (mark for_word · word open_paren · form for_init_statement · optional_expression · word semicolon · optional_expression ·
+    word close_paren · form statement)
     ∣ node SwitchStatement (mark switch_word · condition · form compound_statement)
     ∣ node CaseStatement (mark case_word · form conditional_expression · word colon · form statement)
     ∣ node DefaultStatement (mark default_word · word colon · form statement)
@@ -293,15 +301,19 @@ production for_init_statement =
     if_ a_declaration (form block_declaration)
     ∣ unless a_declaration (form expression · word semicolon)
     ∣ node Absent nothing · word semicolon
-production handler = node Handler (mark catch_word · word open_paren · (form (parameter_declaration whole) ∣ leaf Ellipsis ellipsis) · word close_paren · form compound_statement)
+production handler =
+    node Handler (mark catch_word · word open_paren · (form (parameter_declaration whole) ∣ leaf Ellipsis ellipsis) · word close_paren · form
+    compound_statement)
 -- declarations of a unit: C++14 clause 7 and 8.4
 
 production declaration_head = optional attribute · many (leaf DeclSpecifier is_specifier) · form (type_specifier_seq whole)
 production simple_declaration =
     node_at at_name SimpleDeclaration (mark_next · form declaration_head · list (form (init_declarator named)) · word semicolon)
     ∣ node_at at_name FunctionDefinition (mark_next · form declaration_head · form (declarator whole named) · form compound_statement)
-    ∣ node_at at_name ConstructorDefinition (mark_next · optional attribute · optional (leaf DeclSpecifier inline_word) · form (constructor_declarator qualified) · member_initializers · form compound_statement)
-    ∣ node_at at_name DestructorDefinition (mark_next · optional attribute · optional (leaf DeclSpecifier inline_word) · form (destructor_declarator qualified) · form compound_statement)
+    ∣ node_at at_name ConstructorDefinition (mark_next · optional attribute · optional (leaf DeclSpecifier inline_word) · form
+    (constructor_declarator qualified) · member_initializers · form compound_statement)
+    ∣ node_at at_name DestructorDefinition (mark_next · optional attribute · optional (leaf DeclSpecifier inline_word) · form
+    (destructor_declarator qualified) · form compound_statement)
 production (constructor_declarator qualified) = node QualifiedDeclaratorId (type_name · word colon_colon · mark is_type_name) · function_suffix whole
 production (constructor_declarator plain) = leaf DeclaratorId is_type_name · function_suffix whole
 production (destructor_declarator qualified) = node QualifiedDestructorId (type_name · word colon_colon · word tilde · mark is_type_name) · no_parameters
@@ -314,7 +326,8 @@ production declaration =
     node_at at_token AliasDeclaration (word using_word · mark is_name · word equal · form (type_id whole) · word semicolon)
     ∣ node_at at_token ClassDeclaration (class_key · mark is_name · word semicolon)
     ∣ node_at at_token ClassSpecifier (
-    class_key · mark is_name · optional (leaf VirtSpecifier final_word) · optional (word colon · node BaseSpecifier (optional (leaf AccessSpecifier is_access) · mark is_type_name))
+    class_key · mark is_name · optional (leaf VirtSpecifier final_word) · optional (word colon · node BaseSpecifier
+    (optional (leaf AccessSpecifier is_access) · mark is_type_name))
     · node MemberSpecification (word open_brace · many (form member_declaration) · mark close_brace) · word semicolon)
     ∣ node_at at_token EnumSpecifier (word enum_word · optional class_key · mark is_name · braced_list (form enumerator_definition) · word semicolon)
     ∣ node LinkageSpecification (word extern_word · mark is_string · form simple_declaration)
@@ -326,19 +339,31 @@ production translation_unit = many (form declaration)
 
 production member_declaration =
     node AccessLabel (mark is_access · word colon)
-    ∣ node_at at_name MemberDeclaration (mark_next · optional attribute · optional (leaf DeclSpecifier virtual_word) · form (type_specifier_seq whole) · form member_declarator · word semicolon)
+    ∣ node_at at_name MemberDeclaration (mark_next · optional attribute · optional (leaf DeclSpecifier virtual_word) · form
+    (type_specifier_seq whole) · form member_declarator · word semicolon)
     ∣ node_at at_name MemberDeclaration (mark_next · form (type_specifier_seq whole) · form initialized_member · word semicolon)
-    ∣ node_at at_name MemberDeclaration (mark_next · form (type_specifier_seq whole) · form listed_member · some (word comma · form listed_member) · word semicolon)
+    ∣ node_at at_name MemberDeclaration (mark_next · form (type_specifier_seq whole) · form listed_member · some (word comma · form listed_member) ·
+    word semicolon)
     ∣ node_at at_name FunctionDefinition (
     mark_next · optional attribute · optional (leaf DeclSpecifier virtual_word) · optional (leaf DeclSpecifier inline_word)
     · form (type_specifier_seq whole) · form (declarator whole named) · virt_specifiers · form compound_statement) · optional (word semicolon)
-    ∣ node_at at_name ConstructorDeclaration (mark_next · optional attribute · optional (leaf DeclSpecifier explicit_word) · form (constructor_declarator plain)) · word semicolon
-    ∣ node_at at_name ConstructorDefinition (mark_next · optional attribute · optional (leaf DeclSpecifier explicit_word) · form (constructor_declarator plain) · member_initializers · form compound_statement) · optional (word semicolon)
-    ∣ node_at at_name DestructorDeclaration (mark_next · optional (leaf DeclSpecifier virtual_word) · form (destructor_declarator plain) · virt_specifiers) · word semicolon
-    ∣ node_at at_name DestructorDefinition (mark_next · optional (leaf DeclSpecifier virtual_word) · form (destructor_declarator plain) · virt_specifiers · form compound_statement) · optional (word semicolon)
+    ∣ node_at at_name ConstructorDeclaration (mark_next · optional attribute · optional (leaf DeclSpecifier explicit_word) · form
+    (constructor_declarator plain)) · word semicolon
+    ∣ node_at at_name ConstructorDefinition (mark_next · optional attribute · optional (leaf DeclSpecifier explicit_word) · form
+    (constructor_declarator plain) · member_initializers · form compound_statement) · optional (word semicolon)
+    ∣ node_at at_name DestructorDeclaration (mark_next · optional (leaf DeclSpecifier virtual_word) · form (destructor_declarator plain) ·
+    virt_specifiers) · word semicolon
+    ∣ node_at at_name DestructorDefinition (mark_next · optional (leaf DeclSpecifier virtual_word) · form (destructor_declarator plain) ·
+    virt_specifiers · form compound_statement) · optional (word semicolon)
 -- a member alone: = 0 makes a function pure, and is the initializer of what is none
-production member_declarator = node_at at_name MemberDeclarator (form (declarator whole named) · mark_name · virt_specifiers · optional (node PureSpecifier (mark equal · leaf IntegerLiteral is_zero)))
+production member_declarator =
+    node_at at_name MemberDeclarator (form (declarator whole named) · mark_name · virt_specifiers · optional
+    (node PureSpecifier (mark equal · leaf IntegerLiteral is_zero)))
 -- a member alone with another initializer
-production initialized_member = node_at at_name MemberDeclarator (form (declarator whole named) · mark_name · node EqualInitializer (mark equal · where_ is_not_zero (form assignment_expression)))
+production initialized_member =
+    node_at at_name MemberDeclarator (form (declarator whole named) · mark_name · node EqualInitializer
+    (mark equal · where_ is_not_zero (form assignment_expression)))
 -- one of several members
-production listed_member = node_at at_name MemberDeclarator (form (declarator whole named) · mark_name · optional (node EqualInitializer (mark equal · form assignment_expression)))
+production listed_member =
+    node_at at_name MemberDeclarator (form (declarator whole named) · mark_name · optional
+    (node EqualInitializer (mark equal · form assignment_expression)))

@@ -10,7 +10,8 @@ abbrev pub IsNoLonger : (Lookahead → ℕ → Type 0) → Source → Rule → �
 IsNoLonger lookahead source p b k after c l other = ((c < b) × ContinuesRule lookahead source p c) ⊎ ((c ≡ b) × (l ≡ k) × (other ≡ after))
 
 -- the text is one, and no other of the rule is longer
-pub record LongestMatch (lookahead : Lookahead → ℕ → Type 0) (bodies : Bodies) (source : Source) (p : Rule) (before : Read) (a b : ℕ) (k : Option ℕ) (after : Read) : Type 0 where
+pub record LongestMatch (lookahead : Lookahead → ℕ → Type 0) (bodies : Bodies) (source : Source) (p : Rule) (before : Read) (a b : ℕ) (k : Option ℕ)
+    (after : Read) : Type 0 where
   pub derives : Derives lookahead bodies source p before a b k after
   pub longest : (c : ℕ) (l : Option ℕ) (other : Read) → Derives lookahead bodies source p before a c l other → IsNoLonger lookahead source p b k after c l other
 

@@ -45,4 +45,6 @@ DerivesApart source f a b r = Derives (lookahead source) kept_apart source (form
 
 -- The declarations of a unit, with the bodies of lambdas in them.
 abbrev pub IsUnit : Source → Trees → Type 0
-IsUnit source decls = Derives (lookahead source) in_trees source (form translation_unit) no_read 0 (length source.terminals) None (record { trees = decls; bodies = [] })
+IsUnit source decls =
+    Derives (lookahead source) in_trees source (form translation_unit) no_read 0 (length source.terminals) None
+    (record { trees = decls; bodies = [] })

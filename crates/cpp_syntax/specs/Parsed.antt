@@ -61,8 +61,11 @@ has_trees (more t ts) = true
 -- What a reader of such a rule answers, that has a text everywhere: what was read since a mark, of which there are some
 -- trees, is part of it.
 abbrev pub ParsesAlwaysBehind : Source → Rule → Checkpoint → ℕ → BuilderState → BuilderState → Result ℕ AllocError → Type 0
-ParsesAlwaysBehind source p mark from old new (Ok next) = (before : BuilderState) (read : Read) → IsMark mark before → old ≡ appended before read → has_trees read.trees ≡ true → ReadsBehind source p before read from next new
-ParsesAlwaysBehind source p mark from old new (Err e) = (before : BuilderState) (read : Read) → IsMark mark before → old ≡ appended before read → has_trees read.trees ≡ true → Leaves before new
+ParsesAlwaysBehind source p mark from old new (Ok next) =
+    (before : BuilderState) (read : Read) → IsMark mark before → old ≡ appended before read → has_trees read.trees ≡ true → ReadsBehind source p
+    before read from next new
+ParsesAlwaysBehind source p mark from old new (Err e) =
+    (before : BuilderState) (read : Read) → IsMark mark before → old ≡ appended before read → has_trees read.trees ≡ true → Leaves before new
 
 -- A node that is one token was read.
 abbrev pub ReadsLeaf : Source → ℕ → NodeKind → BuilderState → BuilderState → Result ℕ AllocError → Type 0

@@ -25,7 +25,7 @@ Spans source p from next = SpansBehind source p no_read from next
 abbrev pub NoSpan : Source → Rule → ℕ → Type 0
 NoSpan source p from = NoDerivation (lookahead_types source) kept_apart source p no_read from
 
--- The index behind the longest text of a rule, or that there is none. With no depth left left for nested calls nothing is said.
+-- The index behind the longest text of a rule, or that there is none. Where calls may not be nested further nothing is said.
 abbrev pub Recognised : Source → Rule → ℕ → Result (Option ℕ) AllocError → Type 0
 Recognised source p from (Ok (Some next)) = Spans source p from next
 Recognised source p from (Ok None) = NoSpan source p from
@@ -110,7 +110,9 @@ begins_name_at source a = is_name (terminal_at source a) || is_qualified_name_at
 
 -- std::tx_exception< stands at an index
 abbrev pub begins_thrown_at : Source → ℕ → Bool
-begins_thrown_at source a = std (terminal_at source a) && colon_colon (terminal_at source (a + 1)) && tx_exception_word (terminal_at source (a + 2)) && less (terminal_at source (a + 3))
+begins_thrown_at source a =
+    std (terminal_at source a) && colon_colon (terminal_at source (a + 1)) && tx_exception_word (terminal_at source (a + 2)) && less
+    (terminal_at source (a + 3))
 
 -- the index behind std::tx_exception<
 pub record BehindThrown (source : Source) (a next : ℕ) : Type 0 where

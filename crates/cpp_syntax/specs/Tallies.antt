@@ -7,7 +7,15 @@ use Rattle.cpp_syntax.specs.Source.{Source, terminal_at}
 use Rattle.cpp_syntax.specs.Types.{is_sign, is_char, is_short, is_int, is_long, is_integer_word, is_combination}
 
 abbrev pub tally_of : List Terminal → Words
-tally_of words = record { signs = count_by is_sign words; chars = count_by is_char words; shorts = count_by is_short words; ints = count_by is_int words; longs = count_by is_long words }
+tally_of words =
+    record {
+      signs = count_by is_sign words;
+      chars = count_by is_char words;
+      shorts = count_by is_short words;
+      ints = count_by is_int words;
+      longs =
+          count_by is_long words;
+    }
 
 -- such words may come together
 abbrev pub is_tally : Words → Bool

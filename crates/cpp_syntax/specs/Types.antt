@@ -45,7 +45,9 @@ is_spelling [] = false
 is_spelling (terminal.Void ∷ []) = true
 is_spelling (terminal.Bool ∷ []) = true
 is_spelling (terminal.Auto ∷ []) = true
-is_spelling words = list_all is_integer_word words && is_combination (count_by is_sign words) (count_by is_char words) (count_by is_short words) (count_by is_int words) (count_by is_long words)
+is_spelling words =
+    list_all is_integer_word words && is_combination (count_by is_sign words) (count_by is_char words) (count_by is_short words)
+    (count_by is_int words) (count_by is_long words)
 
 -- the tokens between two indices spell a type
 abbrev pub spells_a_type : Source → ℕ → ℕ → Bool

@@ -28,20 +28,18 @@ pub struct Builder {
     /// How many bodies there are up to each tree.
     totals: Vec<usize>,
     bodies: Vec<OpenBody>,
-    /// The last index at which nothing went on.
+    /// The furthest index at which something else was expected.
     furthest_failure: usize,
 }
 
 impl Model for Builder {
-    ghost use Rattle.cpp_syntax.specs.View.{BuilderState};
+    ghost use Rattle.cpp_syntax.specs.View.{BuilderState, builder_state, IsBuilt};
     ghost use Rattle.std.specs.Coded.{codes};
     ghost use Rattle.cpp_syntax.specs.Codes.{trees_code};
 
     ghost Value = { BuilderState };
 
     ghost coded = { Prim.hlevel (codes, trees_code) };
-
-    ghost use Rattle.cpp_syntax.specs.View.{builder_state, IsBuilt};
 
     ghost view = { λ b. builder_state b.base b.nodes b.pending.items b.bodies.items };
 
@@ -96,7 +94,7 @@ impl Builder {
         self.furthest_failure = self.furthest_failure.max(at);
     }
 
-    /// The last index at which nothing went on.
+    /// The furthest index at which something else was expected.
     pub fn furthest_failure(&self) -> usize {
         self.furthest_failure
     }
@@ -193,7 +191,7 @@ impl Builder {
         named_by(&self.nodes, from_index(&self.pending, start))
     }
 
-    /// The index of the first tree from an index on, or `other` where there is none.
+    /// The position of the first tree from an index on, or `other` where there is none.
     pub fn first_position(&self, start: usize, other: At) -> At
         ensures { (before : BuilderState) (got : Read) → self.now ≡ appended before got → count_trees before.read.trees ≡ start → result ≡ first_at other got.trees }
     {

@@ -125,7 +125,10 @@ const SPECIAL_NAMES: [(&[u8], Terminal); 7] = [
     (b"override", Terminal::Override),
     (b"final", Terminal::Final),
     (b"transaction_safe", Terminal::TransactionSafe),
-    (b"transaction_safe_dynamic", Terminal::TransactionSafeDynamic),
+    (
+        b"transaction_safe_dynamic",
+        Terminal::TransactionSafeDynamic,
+    ),
 ];
 
 /// What a spelling is by a table, or otherwise.

@@ -24,18 +24,36 @@ impl Terminal {
         match self {
             Terminal::AbortType => matches!(terminal, Terminal::TypeName | Terminal::Abort),
             Terminal::AbortLater => matches!(terminal, Terminal::Abort),
-            Terminal::TxExceptionType => matches!(terminal, Terminal::TypeName | Terminal::TxException),
+            Terminal::TxExceptionType => matches!(
+                terminal,
+                Terminal::TypeName | Terminal::TxException
+            ),
             Terminal::TxExceptionLater => matches!(terminal, Terminal::TxException),
-            Terminal::OptimizeForSynchronizedType => matches!(terminal, Terminal::TypeName | Terminal::OptimizeForSynchronized),
-            Terminal::OptimizeForSynchronizedLater => matches!(terminal, Terminal::OptimizeForSynchronized),
+            Terminal::OptimizeForSynchronizedType => matches!(
+                terminal,
+                Terminal::TypeName | Terminal::OptimizeForSynchronized
+            ),
+            Terminal::OptimizeForSynchronizedLater => matches!(
+                terminal,
+                Terminal::OptimizeForSynchronized
+            ),
             Terminal::OverrideType => matches!(terminal, Terminal::TypeName | Terminal::Override),
             Terminal::OverrideLater => matches!(terminal, Terminal::Override),
             Terminal::FinalType => matches!(terminal, Terminal::TypeName | Terminal::Final),
             Terminal::FinalLater => matches!(terminal, Terminal::Final),
-            Terminal::TransactionSafeType => matches!(terminal, Terminal::TypeName | Terminal::TransactionSafe),
+            Terminal::TransactionSafeType => matches!(
+                terminal,
+                Terminal::TypeName | Terminal::TransactionSafe
+            ),
             Terminal::TransactionSafeLater => matches!(terminal, Terminal::TransactionSafe),
-            Terminal::TransactionSafeDynamicType => matches!(terminal, Terminal::TypeName | Terminal::TransactionSafeDynamic),
-            Terminal::TransactionSafeDynamicLater => matches!(terminal, Terminal::TransactionSafeDynamic),
+            Terminal::TransactionSafeDynamicType => matches!(
+                terminal,
+                Terminal::TypeName | Terminal::TransactionSafeDynamic
+            ),
+            Terminal::TransactionSafeDynamicLater => matches!(
+                terminal,
+                Terminal::TransactionSafeDynamic
+            ),
             _ => false,
         }
     }
@@ -186,7 +204,10 @@ impl Terminal {
     pub fn is_access(self) -> bool
         ensures { result ≡ is_access self }
     {
-        matches!(self, Terminal::Public | Terminal::Protected | Terminal::Private)
+        matches!(
+            self,
+            Terminal::Public | Terminal::Protected | Terminal::Private
+        )
     }
 
     /// Whether it is `static`, `extern` or `inline`.
@@ -299,7 +320,12 @@ impl Terminal {
     {
         if matches!(
             self,
-            Terminal::Plus | Terminal::Minus | Terminal::Bang | Terminal::Tilde | Terminal::Star | Terminal::Amp
+            Terminal::Plus
+                | Terminal::Minus
+                | Terminal::Bang
+                | Terminal::Tilde
+                | Terminal::Star
+                | Terminal::Amp
         ) {
             return true;
         }

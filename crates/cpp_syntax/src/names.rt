@@ -218,7 +218,11 @@ impl TypeNames {
     }
 
     /// Whether a type in parentheses begins at an index, by its shape.
-    pub fn lookahead_type_in_parentheses(&self, at: usize, depth_left: u32) -> Result<bool, AllocError>
+    pub fn lookahead_type_in_parentheses(
+        &self,
+        at: usize,
+        depth_left: u32,
+    ) -> Result<bool, AllocError>
         ensures yes { IfOk result (λ seen. seen ≡ true → lookahead self.now a_type_in_parentheses at) }
         ensures no { IfOk result (λ seen. seen ≡ false → lookahead self.now a_type_in_parentheses at → ⊥) }
     {
@@ -248,6 +252,7 @@ impl TypeNames {
         ensures yes { IfOk result (λ seen. seen ≡ true → lookahead self.now a_declaration at) }
         ensures no { IfOk result (λ seen. seen ≡ false → lookahead self.now a_declaration at → ⊥) }
     {
-        self.outline.lookahead_declaration(&self.parameters, at, depth_left)
+        self.outline
+            .lookahead_declaration(&self.parameters, at, depth_left)
     }
 }

@@ -89,6 +89,17 @@ fn words_may_be_types(rt: HostRuntime) -> Result<(), Fail> {
     Ok(())
 }
 
+// A comma between `?` and `:` separates no declarators.
+#[test]
+fn commas_are_hidden(rt: HostRuntime) -> Result<(), Fail> {
+    let alloc = rt.alloc();
+    let tokens = lex(alloc, b"class T; T(x) = 1 ? x, x : x;")?;
+    assert!(rt; tokens.items.len() <= 1_048_576);
+    let types = TypeNames::of(alloc, 0, &tokens)?;
+    assert!(rt; types.lookahead_declaration(3, 9)?);
+    Ok(())
+}
+
 // Each spelling that is not a name of the program.
 #[test]
 fn spellings_are_terminals(rt: HostRuntime) -> Result<(), Fail> {
@@ -181,19 +192,20 @@ fn shapes_are_seen(rt: HostRuntime) -> Result<(), Fail> {
     let alloc = rt.alloc();
     let tokens = lex(
         alloc,
-        b"class T; (T)-1 (x)-1 (T*)) x(T a, int) y(1) T x(a), z = (1, 2); T(x)+1; T(x) = 1 ? x, x : x;",
+        b"class T; (T)-1 (x)-1 (T*)) x(T a, int) y(1) T x(a), z = (1, 2); T(x)+1;",
     )?;
     assert!(rt; tokens.items.len() <= 1_048_576);
     let types = TypeNames::of(alloc, 0, &tokens)?;
-    assert!(rt; types.lookahead_cast(3, 9)?);
-    assert!(rt; !types.lookahead_cast(8, 9)?);
+    for (at, ahead) in [(3, true), (8, false), (13, false)] {
+        assert_eq!(rt; types.lookahead_cast(at, 9)?, ahead);
+    }
     assert!(rt; types.lookahead_type_in_parentheses(13, 9)?);
-    assert!(rt; !types.lookahead_cast(13, 9)?);
-    assert!(rt; types.lookahead_parameters(19));
-    assert!(rt; !types.lookahead_parameters(26));
-    assert!(rt; types.lookahead_declaration(29, 9)?);
-    assert!(rt; !types.lookahead_declaration(43, 9)?);
-    assert!(rt; types.lookahead_declaration(50, 9)?);
+    for (at, ahead) in [(19, true), (26, false)] {
+        assert_eq!(rt; types.lookahead_parameters(at), ahead);
+    }
+    for (at, ahead) in [(29, true), (43, false)] {
+        assert_eq!(rt; types.lookahead_declaration(at, 9)?, ahead);
+    }
     assert!(rt; types.begins_name(18));
     assert_eq!(rt; types.behind_type_words(23), 24);
     assert_eq!(rt; types.thrown_type(0), None);

@@ -6,7 +6,9 @@ use Rattle.cpp_syntax.proofs.TokenClasses.{each_more}
 use Rattle.cpp_syntax.proofs.classes.terminals.Goals as goal
 
 pub loop-at-preserved : goal.loop-at-preserved
-loop-at-preserved c = each_more (class_at (map lexeme_of c.args.tokens.now)) c.loop-at.at c.class_at.result c.loop-at.terminals.items c.push.new.self.items c.loop-at.invariant c.class_at.ensures c.in_ok-push.ensures.items
+loop-at-preserved c =
+    each_more (class_at (map lexeme_of c.args.tokens.now)) c.loop-at.at c.class_at.result c.loop-at.terminals.items c.push.new.self.items
+    c.loop-at.invariant c.class_at.ensures c.in_ok-push.ensures.items
 
 pub returns : goal.returns
 returns c =

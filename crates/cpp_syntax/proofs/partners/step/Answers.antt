@@ -7,4 +7,5 @@ use Rattle.cpp_syntax.proofs.partners.step.Goals as goal
 pub returns : goal.returns
 returns c =
     let other : opens (terminal_in c.args.terminals.now c.args.at) ≡ false = search rules in
-    kept_one c.args.terminals.now c.pass.new.partners.items c.pass.new.opened.items c.push.new.self.items c.args.at c.pass.ensures other c.in_ok-push.ensures.items
+    kept_one c.args.terminals.now c.pass.new.partners.items c.pass.new.opened.items c.push.new.self.items c.args.at c.pass.ensures other
+    c.in_ok-push.ensures.items

@@ -16,5 +16,6 @@ pub returns : goal.returns
 returns c = λ before got e count.
     let i = c.self.inside in
     let same : c.from_index.result.now ≡ drop c.args.start i.pending.items = search rules in
-    let shows = shows_since i.base i.nodes i.pending.items i.bodies.items c.args.start c.args.self.now before got c.self.invariant.shows c.self.view_is e count in
+    let shows = shows_since i.base i.nodes i.pending.items i.bodies.items c.args.start c.args.self.now before got c.self.invariant.shows
+    c.self.view_is e count in
     c.named_by.ensures got.trees (subst (λ (is : List NodeId). ShowsAll i.nodes is got.trees) (sym same) shows)

@@ -12,10 +12,14 @@ pub shaped_choice-returns-then-not-is_at : goal.shaped_choice-returns-then-not-i
 shaped_choice-returns-then-not-is_at t c = choice_missing (refused question terminal.Question refl _ (c.if-not-is_at.ensures.no refl))
 
 pub shaped_choice-returns-then-not-is_at-2 : goal.shaped_choice-returns-then-not-is_at-2
-shaped_choice-returns-then-not-is_at-2 t c = choice_open (passed question terminal.Question refl _ (c.if-not-is_at.ensures.yes refl)) c.in_ok-colon.ensures (refused colon terminal.Colon refl _ (c.if-not-is_at-2.ensures.no refl))
+shaped_choice-returns-then-not-is_at-2 t c =
+    choice_open (passed question terminal.Question refl _ (c.if-not-is_at.ensures.yes refl)) c.in_ok-colon.ensures
+    (refused colon terminal.Colon refl _ (c.if-not-is_at-2.ensures.no refl))
 
 pub shaped_choice-returns : goal.shaped_choice-returns
-shaped_choice-returns t c = choice_found (passed question terminal.Question refl _ (c.if-not-is_at.ensures.yes refl)) c.in_ok-colon.ensures (passed colon terminal.Colon refl _ (c.if-not-is_at-2.ensures.yes refl))
+shaped_choice-returns t c =
+    choice_found (passed question terminal.Question refl _ (c.if-not-is_at.ensures.yes refl)) c.in_ok-colon.ensures
+    (passed colon terminal.Colon refl _ (c.if-not-is_at-2.ensures.yes refl))
 
 pub behind_chosen-tokens-init : goal.behind_chosen-tokens-init
 behind_chosen-tokens-init t c = many_starts
@@ -33,13 +37,19 @@ pub chosen_token-returns-then-is_chosen_at : goal.chosen_token-returns-then-is_c
 chosen_token-returns-then-is_chosen_at t c = chosen_token (sym c.if-is_chosen_at.ensures.test)
 
 pub chosen_token-returns-then-is_at : goal.chosen_token-returns-then-is_at
-chosen_token-returns-then-is_at t c = token_choice c.args.self.now is_chosen c.args.at (sym c.if-is_chosen_at.ensures.test) (passed question terminal.Question refl _ (c.if-is_at.ensures.yes refl)) c.shaped_choice.result c.shaped_choice.ensures
+chosen_token-returns-then-is_at t c =
+    token_choice c.args.self.now is_chosen c.args.at (sym c.if-is_chosen_at.ensures.test)
+    (passed question terminal.Question refl _ (c.if-is_at.ensures.yes refl)) c.shaped_choice.result c.shaped_choice.ensures
 
 pub chosen_token-returns-in_default : goal.chosen_token-returns-in_default
-chosen_token-returns-in_default t c = token_none (sym c.if-is_chosen_at.ensures.test) (refused question terminal.Question refl _ (c.if-is_at.ensures.no refl)) c.in_default.ensures
+chosen_token-returns-in_default t c =
+    token_none (sym c.if-is_chosen_at.ensures.test) (refused question terminal.Question refl _ (c.if-is_at.ensures.no refl)) c.in_default.ensures
 
 pub chosen_token-overflow_add-result-2 : goal.chosen_token-overflow_add-result-2
-chosen_token-overflow_add-result-2 t c = let h : c.in-Some.close < length c.args.self.now.terminals = partner_inside c.args.self.now c.args.at c.in-Some.close c.in-Some.ensures in let few = c.is_chosen_at.ensures.few in omega (arith, h, few)
+chosen_token-overflow_add-result-2 t c =
+    let h : c.in-Some.close < length c.args.self.now.terminals = partner_inside c.args.self.now c.args.at c.in-Some.close c.in-Some.ensures in let
+    few = c.is_chosen_at.ensures.few in omega (arith, h, few)
 
 pub chosen_token-returns : goal.chosen_token-returns
-chosen_token-returns t c = token_brackets (sym c.if-is_chosen_at.ensures.test) (refused question terminal.Question refl _ (c.if-is_at.ensures.no refl)) c.in-Some.ensures
+chosen_token-returns t c =
+    token_brackets (sym c.if-is_chosen_at.ensures.test) (refused question terminal.Question refl _ (c.if-is_at.ensures.no refl)) c.in-Some.ensures

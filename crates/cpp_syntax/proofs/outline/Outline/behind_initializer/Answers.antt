@@ -13,4 +13,6 @@ pub returns-then-is_at : goal.returns-then-is_at
 returns-then-is_at c = equal_found (passed equal terminal.Equal refl _ (c.if-is_at.ensures.yes refl)) c.in_ok-next.ensures c.if-next-at.false
 
 pub returns-then-is_some : goal.returns-then-is_some
-returns-then-is_some c = nothing_seen (refused equal terminal.Equal refl _ (c.if-is_at.ensures.no refl)) (passed_seen c.args.self.now c.args.at c.behind_parameters.result c.behind_parameters.ensures (sym c.if-is_some.ensures))
+returns-then-is_some c =
+    nothing_seen (refused equal terminal.Equal refl _ (c.if-is_at.ensures.no refl)) (passed_seen c.args.self.now c.args.at c.behind_parameters.result
+    c.behind_parameters.ensures (sym c.if-is_some.ensures))

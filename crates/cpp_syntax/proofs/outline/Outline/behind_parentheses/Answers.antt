@@ -13,7 +13,9 @@ pub returns-in_default : goal.returns-in_default
 returns-in_default c = parentheses_open c.requires.other c.in_default.ensures
 
 pub overflow_add-result : goal.overflow_add-result
-overflow_add-result c = let h : c.in-Some.close < length c.args.self.now.terminals = partner_inside c.args.self.now c.args.at c.in-Some.close c.in-Some.ensures in let few = c.is_at.ensures.few in omega (arith, h, few)
+overflow_add-result c =
+    let h : c.in-Some.close < length c.args.self.now.terminals = partner_inside c.args.self.now c.args.at c.in-Some.close c.in-Some.ensures in let
+    few = c.is_at.ensures.few in omega (arith, h, few)
 
 pub returns-then-close-at : goal.returns-then-close-at
 returns-then-close-at c = parentheses_empty c.requires.other c.in-Some.ensures c.if-close-at.true

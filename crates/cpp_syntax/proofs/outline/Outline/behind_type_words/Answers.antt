@@ -14,4 +14,6 @@ pub returns-then-is_at-3 : goal.returns-then-is_at-3
 returns-then-is_at-3 c = alone_behind _ _ (passed is_lone_word terminal.Auto refl _ (c.if-is_at-3.ensures.yes refl))
 
 pub returns : goal.returns
-returns c = integers_behind _ _ _ c.behind_integer_words.ensures (not_alone _ (λ e. c.if-is_at.ensures.no refl (inl e)) (λ e. c.if-is_at-2.ensures.no refl (inl e)) (λ e. c.if-is_at-3.ensures.no refl (inl e)))
+returns c =
+    integers_behind _ _ _ c.behind_integer_words.ensures (not_alone _ (λ e. c.if-is_at.ensures.no refl (inl e))
+    (λ e. c.if-is_at-2.ensures.no refl (inl e)) (λ e. c.if-is_at-3.ensures.no refl (inl e)))

@@ -17,4 +17,6 @@ pub invariant_of-result : goal.invariant_of-result
 invariant_of-result c =
     let are : c.in_ok-terminals.terminals.items ≡ terminals_of (map lexeme_of c.args.tokens.now.items.items) = search rules in
     let begin : c.in_ok-begins.field-0.items ≡ map (λ (t : Lexeme). t.from) (map lexeme_of c.args.tokens.now.items.items) = search rules in
-    table_of c.args.tokens.now.items.items c.in_ok-terminals.terminals.items c.in_ok-begins.field-0.items c.in_ok-partners.partners.items are begin c.requires (subst (λ (xs : List Terminal). (a : ℕ) → IsPartner xs a (partner_in c.in_ok-partners.partners.items a)) c.deref.ensures.value c.in_ok-partners.ensures)
+    table_of c.args.tokens.now.items.items c.in_ok-terminals.terminals.items c.in_ok-begins.field-0.items c.in_ok-partners.partners.items are begin
+    c.requires (subst (λ (xs : List Terminal). (a : ℕ) → IsPartner xs a (partner_in c.in_ok-partners.partners.items a)) c.deref.ensures.value
+    c.in_ok-partners.ensures)
