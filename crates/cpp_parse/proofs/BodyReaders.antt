@@ -6,7 +6,7 @@ use Rattle.cpp_ast.proofs.NodeTrees.{extends_trans, extends_refl}
 use Rattle.cpp_ast.specs.declared.arena.Node.{Node}
 use Rattle.cpp_ast.specs.declared.arena.NodeId.{NodeId}
 use Rattle.cpp_ast.specs.declared.units.LamBody.{LamBody}
-use Rattle.cpp_ast.specs.Trees.{Tree, Trees, none, Extends}
+use Rattle.cpp_ast.specs.Trees.{Tree, Trees, Extends}
 use Rattle.cpp_syntax.specs.declared.positions.OpenBody.{OpenBody}
 use Rattle.cpp_syntax.specs.Source.{Source}
 use Rattle.cpp_syntax.specs.Rules.{Nonterminal, form, Lookahead, compound_statement}

@@ -1,32 +1,29 @@
 -- What a simple declaration can be: T:: begins a constructor or a destructor, and nothing else.
-use Rattle.std.proofs.Common.{◌≡◌, ℕ, zero, suc, ◌+◌, ◌<◌, ◌≤◌, ◌⊎◌, inl, inr, nat_eq, Bool, true, false, not, ◌&&◌, refl, sym as back, ◌∙◌, ap, subst, arith, length, Option, Some, None, Result, Ok, Err, true≢false}
+use Rattle.std.proofs.Common.{◌≡◌, ℕ, ◌+◌, ◌<◌, ◌≤◌, Bool, true, false, not, refl, sym as back, subst, arith, length, Option}
 use Rattle.std.proofs.lemmas.Bool.{not-true}
 use Rattle.cpp_syntax.specs.declared.terminal.Terminal.{Terminal}
 use Rattle.cpp_syntax.specs.Source.{Source, terminal_at}
-use Rattle.cpp_syntax.specs.Terminals.{is_type_name, is_cv, is_specifier, is_string, inline_word, extern_word, colon_colon, open_bracket, open_brace, semicolon, comma, is_class_key, tilde, ReadsAs}
-use Rattle.cpp_syntax.specs.Rules.{whole, named, type_specifier, declaration_head, simple_declaration, constructor_declarator, destructor_declarator, init_declarator, compound_statement, qualified, Nonterminal, Rule, word, mark, mark_next, ◌·◌, ◌∣◌, many, form, optional}
-use Rattle.cpp_syntax.specs.Grammar.{production, list, leaf}
+use Rattle.cpp_syntax.specs.Terminals.{is_type_name, is_cv, is_specifier, is_string, inline_word, extern_word, colon_colon, open_brace, semicolon, is_class_key, tilde, ReadsAs}
+use Rattle.cpp_syntax.specs.Rules.{named, declaration_head, simple_declaration, constructor_declarator, destructor_declarator, init_declarator, qualified, Nonterminal, Rule, word, mark, ◌·◌, form}
+use Rattle.cpp_syntax.specs.Grammar.{production, list}
 use Rattle.cpp_syntax.specs.Lookahead.{lookahead}
 use Rattle.cpp_syntax.specs.Derivations.{Read, Derives, kept_apart, no_read, is_nothing, is_word, is_mark, is_both, is_left, is_right, is_node}
-use Rattle.cpp_syntax.specs.FirstSets.{rule_nullable}
-use Rattle.cpp_syntax.specs.Longest.{LongestMatch, NoDerivation, is_free}
-use Rattle.cpp_syntax.specs.View.{BuilderState}
-use Rattle.cpp_syntax.specs.Parsed.{ReadsLongest, NoneOf}
+use Rattle.cpp_syntax.specs.Longest.{is_free}
+use Rattle.cpp_syntax.specs.Parsed.{NoneOf}
 use Rattle.cpp_syntax.proofs.DisjointFirstSets.{apart}
 use Rattle.cpp_syntax.specs.declared.terminal.Terminal.TheVariants as terminal
 use Rattle.cpp_syntax.proofs.SingleTerminals.{passed, refused, passed_not}
 use Rattle.cpp_syntax.proofs.TerminalTables.{at_each, implies, implied}
-use Rattle.cpp_syntax.proofs.IndependentDerivations.{free_long, free_none}
+use Rattle.cpp_syntax.proofs.IndependentDerivations.{free_long}
 use Rattle.cpp_syntax.proofs.LongestMatches.{seq, seq_none, seq_ends, neither, left, right, left_out, taken, form_long, form_none, node_long, node_none, mark_long, mark_name_long, mark_none, word_none, many_begins, many_more, many_ends}
 use Rattle.cpp_syntax.proofs.Readers.{none_seq, none_node, none_form}
 use Rattle.cpp_syntax.proofs.ReaderLoops.{within}
-use Rattle.cpp_syntax.proofs.DeclaratorForms.{unlike}
 use Rattle.cpp_parse_expr.proofs.ReaderAnswers.{none_unlike, none_second, none_second_mark}
-use Rattle.cpp_parse.specs.Alternatives.{specifiers, optional_attribute, optional_inline, types, named_declarator, object_declaration, function_definition, constructor_definition, destructor_definition, constructor_body, class_declaration, class_specifier, linkage_specification, linkage_block}
+use Rattle.cpp_parse.specs.Alternatives.{specifiers, optional_attribute, optional_inline, types, named_declarator, object_declaration, function_definition, constructor_definition, destructor_definition, class_declaration, class_specifier, linkage_specification, linkage_block}
 use Rattle.cpp_parse.specs.Answers.{Reaches, NamedDefinition, OneDefinition, LinkageSeen}
 use Rattle.cpp_parse.specs.declared.functions.Definition.{Definition}
 use Rattle.cpp_parse.specs.declared.functions.Definition.TheVariants as definition
-use Rattle.cpp_parse.proofs.LongestAlone.{reached, none_reached, none_skipped, none_marked, many_none}
+use Rattle.cpp_parse.proofs.LongestAlone.{none_reached, none_skipped, none_marked, many_none}
 
 -- The name of a type, with no const and volatile behind it, is a type.
 pub type_alone : (s : Source) (a : ℕ) → is_type_name (terminal_at s a) ≡ true → is_cv (terminal_at s (a + 1)) ≡ false → Reaches s types a (a + 1)

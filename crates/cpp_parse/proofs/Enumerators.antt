@@ -1,15 +1,14 @@
 -- Lists with commas, behind the last item of which a comma may stand, as they are read.
-use Rattle.std.proofs.Common.{◌≡◌, ℕ, ◌+◌, ◌<◌, ◌≤◌, true, false, refl, sym as back, ◌∙◌, ap, subst, arith, length, Option, Some, None}
+use Rattle.std.proofs.Common.{◌≡◌, ℕ, ◌+◌, ◌<◌, ◌≤◌, true, false, refl, ◌∙◌, arith, length, Option, None}
 use Rattle.cpp_syntax.specs.Source.{Source, terminal_at}
 use Rattle.cpp_syntax.specs.Terminals.{comma}
-use Rattle.cpp_syntax.specs.Rules.{Rule, word, ◌·◌, form, optional, enumerator_definition}
-use Rattle.cpp_syntax.specs.Derivations.{Read, no_read, and_then, first_or, kept_apart}
+use Rattle.cpp_syntax.specs.Rules.{form, enumerator_definition}
+use Rattle.cpp_syntax.specs.Derivations.{Read, no_read, kept_apart}
 use Rattle.cpp_syntax.specs.Lookahead.{lookahead}
-use Rattle.cpp_syntax.specs.Longest.{LongestMatch, is_free}
 use Rattle.cpp_syntax.specs.View.{BuilderState, appended}
 use Rattle.cpp_syntax.specs.Parsed.{Leaves, ReadsLongest, NoneOf}
 use Rattle.cpp_syntax.proofs.IndependentDerivations.{free_long, free_none}
-use Rattle.cpp_syntax.proofs.CommaLists.{Listed, comma_and, listed_begins, listed_more, open_listed, are_enumerators, enumerators_go}
+use Rattle.cpp_syntax.proofs.CommaLists.{Listed, listed_begins, listed_more, open_listed, are_enumerators, enumerators_go}
 use Rattle.cpp_syntax.proofs.LongestMatches.{word_long, word_none, taken, left_out, seq_none}
 use Rattle.cpp_syntax.proofs.ReaderLoops.{gained_then}
 use Rattle.cpp_parse_expr.proofs.ReaderAnswers.{word_and, none_second}

@@ -7,7 +7,7 @@ use Rattle.cpp_ast.proofs.NodeTrees.{extends_trans}
 use Rattle.cpp_ast.specs.declared.arena.Node.{Node}
 use Rattle.cpp_ast.specs.declared.arena.NodeId.{NodeId}
 use Rattle.cpp_ast.specs.declared.units.LamBody.{LamBody}
-use Rattle.cpp_ast.specs.Trees.{Tree, none, more, ShowsWith, ShowsAllWith, Extends}
+use Rattle.cpp_ast.specs.Trees.{Tree, ShowsWith, ShowsAllWith, Extends}
 use Rattle.cpp_ast.specs.Units.{times_in, times_a_kid}
 use Rattle.cpp_syntax.specs.declared.positions.OpenBody.{OpenBody}
 use Rattle.cpp_syntax.specs.Derivations.{one_tree}

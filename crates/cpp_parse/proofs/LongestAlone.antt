@@ -1,22 +1,20 @@
 -- What is known of a rule's longest text alone, and what readers answer from it.
-use Rattle.std.proofs.Common.{◌≡◌, ℕ, ◌+◌, ◌<◌, ◌≤◌, ◌⊎◌, inl, inr, Bool, true, false, refl, sym as back, ◌∙◌, ap, subst, arith, length, Option, Some, None, Result, Ok, Err, true≢false}
+use Rattle.std.proofs.Common.{◌≡◌, ℕ, ◌⊎◌, inl, inr, true, false, sym as back, subst, Option, Some, None, Result, Ok, Err, true≢false}
 use Rattle.std.specs.Result.{IsErr}
 use Rattle.std.specs.declared.alloc.AllocError.{AllocError}
 use Rattle.cpp_ast.specs.declared.kinds.NodeKind.{NodeKind}
-use Rattle.cpp_syntax.specs.declared.terminal.Terminal.{Terminal}
 use Rattle.cpp_syntax.specs.declared.positions.Checkpoint.{Checkpoint}
-use Rattle.cpp_syntax.specs.Source.{Source, terminal_at, position_at}
-use Rattle.cpp_syntax.specs.Rules.{Lookahead, at_token, Rule, nothing, word, mark_next, ◌·◌, ◌∣◌, many, node_at, optional}
-use Rattle.cpp_syntax.specs.Derivations.{Read, no_read, reads_node, positioned, kept_apart, Bodies, Derives, is_mark_next, is_both, is_left, is_right}
-use Rattle.cpp_syntax.specs.Lookahead.{lookahead}
+use Rattle.cpp_syntax.specs.Source.{Source}
+use Rattle.cpp_syntax.specs.Rules.{Lookahead, at_token, Rule, mark_next, ◌·◌, ◌∣◌, many, node_at, optional}
+use Rattle.cpp_syntax.specs.Derivations.{Read, no_read, reads_node, positioned, Bodies, is_mark_next, is_both, is_left, is_right}
 use Rattle.cpp_syntax.specs.FirstSets.{rule_nullable}
 use Rattle.cpp_syntax.specs.Longest.{LongestMatch, NoDerivation, is_free}
 use Rattle.cpp_syntax.specs.View.{BuilderState, appended, IsMark}
-use Rattle.cpp_syntax.specs.Parsed.{Leaves, ReadsLongest, NoneOf, ParsesLongest, ParsesAlways, ReadsLeaf}
+use Rattle.cpp_syntax.specs.Parsed.{Leaves, ReadsLongest, NoneOf, ParsesLongest}
 use Rattle.cpp_syntax.proofs.DisjointFirstSets.{apart}
 use Rattle.cpp_syntax.proofs.IndependentDerivations.{free_none}
 use Rattle.cpp_syntax.proofs.LongestMatches.{carry, seq_ends, left_out, many_begins, many_ends}
-use Rattle.cpp_syntax.proofs.Readers.{reads_node_at, reads_seq, reads_word, reads_taken, reads_left_out}
+use Rattle.cpp_syntax.proofs.Readers.{reads_node_at}
 use Rattle.cpp_syntax.proofs.ReaderLoops.{ReadsMany}
 use Rattle.cpp_parse_expr.proofs.ReaderAnswers.{many_done}
 use Rattle.cpp_parse.specs.Answers.{Reaches, OneShape, ShapeFound}

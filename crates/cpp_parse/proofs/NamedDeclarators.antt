@@ -1,7 +1,6 @@
 -- Declarators with the token of the name that they declare.
-use Rattle.std.proofs.Common.{◌≡◌, ℕ, zero, suc, ◌+◌, ◌<◌, ◌≤◌, ◌⊎◌, inl, inr, nat_eq, Bool, true, false, not, ◌&&◌, refl, sym as back, ◌∙◌, ap, subst, arith, length, Option, Some, None, Result, Ok, Err, true≢false}
-use Rattle.cpp_syntax.specs.declared.terminal.Terminal.{Terminal}
-use Rattle.cpp_syntax.specs.Source.{Source, terminal_at}
+use Rattle.std.proofs.Common.{◌≡◌, ℕ, inl, inr, true, false, refl, sym as back, subst, Option, None}
+use Rattle.cpp_syntax.specs.Source.{Source}
 use Rattle.cpp_ast.specs.declared.kinds.NodeKind.TheVariants.{MemberDeclarator}
 use Rattle.cpp_syntax.specs.declared.positions.Checkpoint.{Checkpoint}
 use Rattle.cpp_syntax.specs.Rules.{at_name, Nonterminal, Rule, mark_name, ◌·◌, form, node_at}
@@ -9,7 +8,7 @@ use Rattle.cpp_syntax.specs.Grammar.{production}
 use Rattle.cpp_syntax.specs.Derivations.{Read, no_read, and_then, first_or, reads_node, positioned, token_of_name, declared_in, kept_apart, Derives, is_mark_name, is_both, is_form, is_node}
 use Rattle.cpp_syntax.specs.Lookahead.{lookahead}
 use Rattle.cpp_syntax.specs.FirstSets.{rule_nullable}
-use Rattle.cpp_syntax.specs.Longest.{LongestMatch, NoDerivation, is_free}
+use Rattle.cpp_syntax.specs.Longest.{NoDerivation, is_free}
 use Rattle.cpp_syntax.specs.View.{BuilderState, appended, IsMark}
 use Rattle.cpp_syntax.specs.Parsed.{ReadsLongest, NoneOf}
 use Rattle.cpp_syntax.proofs.DisjointFirstSets.{apart, never_both}

@@ -1,9 +1,8 @@
 -- What stands before the type of a declaration.
-use Rattle.std.proofs.Common.{◌≡◌, ℕ, ◌+◌, ◌<◌, ◌≤◌, true, false, refl, sym as back, ◌∙◌, ap, subst, arith, length, Option, Some, None}
+use Rattle.std.proofs.Common.{◌≡◌, ℕ, ◌+◌, ◌<◌, ◌≤◌, true, refl, subst, arith, length, Some, None}
 use Rattle.cpp_ast.specs.declared.kinds.NodeKind.TheVariants.{Attribute}
 use Rattle.cpp_syntax.specs.Source.{Source, terminal_at, position_at}
 use Rattle.cpp_syntax.specs.Terminals.{open_bracket, close_bracket, optimize_word}
-use Rattle.cpp_syntax.specs.Rules.{Rule, node}
 use Rattle.cpp_syntax.specs.Grammar.{attribute}
 use Rattle.cpp_syntax.specs.Derivations.{no_read, reads_node, kept_apart}
 use Rattle.cpp_syntax.specs.Lookahead.{lookahead}

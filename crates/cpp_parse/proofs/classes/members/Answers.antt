@@ -1,5 +1,4 @@
 use Rattle.std.proofs.Common.{ℕ, Option, None, refl, ap, arith}
-use Rattle.cpp_syntax.specs.declared.terminal.Terminal.TheVariants as terminal
 use Rattle.cpp_syntax.specs.Derivations.{first_or}
 use Rattle.cpp_syntax.proofs.Readers.{leaves_both, appended_none}
 use Rattle.cpp_syntax.proofs.ReaderLoops.{any_begins, any_more}

@@ -1,5 +1,4 @@
 use Rattle.std.proofs.Common.{refl}
-use Rattle.cpp_syntax.specs.declared.terminal.Terminal.TheVariants as terminal
 use Rattle.cpp_parse_expr.proofs.ReaderAnswers.{parsed_err}
 use Rattle.cpp_parse_expr.proofs.PostfixReaders.{parsed_seq}
 use Rattle.cpp_parse.proofs.constructors.constructor_body.Goals as goal

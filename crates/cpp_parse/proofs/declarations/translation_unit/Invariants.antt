@@ -1,5 +1,4 @@
 use Rattle.std.proofs.Common.{◌≡◌, ◌-◌, None, length}
-use Rattle.cpp_syntax.specs.declared.terminal.Terminal.TheVariants as terminal
 use Rattle.cpp_syntax.specs.Rules.{form, declaration}
 use Rattle.cpp_syntax.specs.Derivations.{no_read}
 use Rattle.cpp_syntax.proofs.ReaderLoops.{ReadsMany}

@@ -1,5 +1,4 @@
 use Rattle.std.proofs.Common.{refl}
-use Rattle.cpp_syntax.specs.declared.terminal.Terminal.TheVariants as terminal
 use Rattle.cpp_syntax.proofs.LongestMatches.{seq_none, node_none}
 use Rattle.cpp_syntax.proofs.Readers.{leaves_same, leaves_both, leaves_read, reads_seq, none_behind}
 use Rattle.cpp_syntax.proofs.ReaderLoops.{reads_mark_next}

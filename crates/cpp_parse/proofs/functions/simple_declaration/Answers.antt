@@ -1,5 +1,4 @@
 use Rattle.std.proofs.Common.{None, refl}
-use Rattle.cpp_syntax.specs.declared.terminal.Terminal.TheVariants as terminal
 use Rattle.cpp_syntax.specs.Rules.{simple_declaration}
 use Rattle.cpp_syntax.proofs.LongestMatches.{neither}
 use Rattle.cpp_parse_expr.proofs.ReaderAnswers.{parsed_left, parsed_right, parsed_form}

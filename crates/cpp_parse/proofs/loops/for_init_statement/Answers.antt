@@ -7,8 +7,8 @@ use Rattle.cpp_syntax.specs.Rules.{for_init_statement}
 use Rattle.cpp_syntax.specs.Derivations.{no_read, reads_node}
 use Rattle.cpp_syntax.specs.View.{appended}
 use Rattle.cpp_syntax.proofs.SingleTerminals.{passed, refused}
-use Rattle.cpp_syntax.proofs.LongestMatches.{word_none, neither, if_unseen, unless_none, unless_seen}
-use Rattle.cpp_syntax.proofs.Readers.{leaves_none, leaves_same, leaves_both, leaves_read, reads_seq, reads_word, reads_form, reads_left, reads_right, none_behind, none_form, none_seq}
+use Rattle.cpp_syntax.proofs.LongestMatches.{neither, if_unseen, unless_none, unless_seen}
+use Rattle.cpp_syntax.proofs.Readers.{leaves_none, leaves_same, leaves_both, reads_seq, reads_word, reads_form, reads_left, reads_right, none_form}
 use Rattle.cpp_syntax.proofs.ReaderLoops.{reads_unless}
 use Rattle.cpp_parse_expr.proofs.ReaderAnswers.{none_unlike, parsed_err, parsed_form, parsed_left}
 use Rattle.cpp_parse.proofs.StatementParts.{parsed_if, absent_there, none_left_out}

@@ -1,5 +1,4 @@
 use Rattle.std.proofs.Common.{None, refl, sym as back}
-use Rattle.cpp_syntax.specs.declared.terminal.Terminal.TheVariants as terminal
 use Rattle.cpp_syntax.specs.Terminals.{is_access}
 use Rattle.cpp_syntax.specs.Rules.{member_declaration}
 use Rattle.cpp_syntax.proofs.LongestMatches.{mark_none, seq_none, node_none, neither}

@@ -1,4 +1,3 @@
-use Rattle.cpp_syntax.specs.declared.terminal.Terminal.TheVariants as terminal
 use Rattle.cpp_syntax.proofs.LongestMatches.{neither}
 use Rattle.cpp_parse_expr.proofs.ReaderAnswers.{parsed_err, parsed_left, parsed_right}
 use Rattle.cpp_parse.proofs.LongestAlone.{parsed_from}

@@ -1,6 +1,5 @@
-use Rattle.std.proofs.Common.{rules, ◌≡◌, ◌∷◌, ◌++◌, [], length, drop, true, ap, sym, ◌∙◌, refl, List, ℕ}
+use Rattle.std.proofs.Common.{rules, length, ap, ◌∙◌, refl, List}
 use Rattle.cpp_ast.specs.Orders.{are_below}
-use Rattle.cpp_ast.specs.declared.arena.Node.{Node}
 use Rattle.cpp_ast.specs.declared.arena.NodeId.{NodeId}
 use Rattle.cpp_syntax.proofs.NodeValues.{below_drop}
 use Rattle.cpp_syntax.proofs.arena.gather.Goals as goal
