@@ -1,9 +1,10 @@
 -- What a builder is made of in the end.
-use Rattle.std.proofs.Common.{◌≡◌, ℕ, List, ◌++◌, length, length-take-le, drop, sym, ◌∙◌, ap, subst}
+use Rattle.std.proofs.Common.{◌≡◌, ℕ, ◌+◌, ◌≤◌, nat_lt, nat_le, ◌&&◌, if◌then◌else◌, List, ◌++◌, length, length-take-le, take, drop, refl, sym, ◌∙◌, ap, subst}
 use Rattle.std.proofs.lemmas.List.{take-append-drop}
 use Rattle.cpp_ast.specs.declared.arena.Node.{Node}
 use Rattle.cpp_ast.specs.declared.arena.NodeId.{NodeId}
 use Rattle.cpp_ast.specs.Trees.{Extends}
+use Rattle.cpp_ast.specs.Units.{times_in, times_a_kid}
 use Rattle.cpp_syntax.specs.declared.positions.OpenBody.{OpenBody}
 use Rattle.cpp_syntax.specs.View.{BuilderState, builder_state, IsBuilt, BuiltTrees}
 use Rattle.cpp_syntax.proofs.GatheredNodes.{all_of_each}

@@ -1,9 +1,11 @@
 -- The name that nodes declare.
-use Rattle.std.proofs.Common.{◌≡◌, ℕ, ◌+◌, ◌<◌, ◌≤◌, Bool, true, false, if◌then◌else◌, List, [], ◌∷◌, length, drop, get_or, slice_get, Option, Some, None, refl, sym, ◌∙◌, ap}
+use Rattle.std.proofs.Common.{◌≡◌, ℕ, zero, suc, ◌+◌, ◌<◌, ◌≤◌, Bool, true, false, if◌then◌else◌, List, [], ◌∷◌, length, drop, get_or, slice_get, drop-cons, Option, Some, None, option_map, refl, sym, ◌∙◌, ap, subst, arith}
+use Rattle.cpp_ast.specs.declared.arena.At.{At}
 use Rattle.cpp_ast.specs.declared.arena.Node.{Node}
 use Rattle.cpp_ast.specs.declared.arena.NodeId.{NodeId}
-use Rattle.cpp_ast.specs.Trees.{Tree, Trees, none, more, Shows, ShowsAll}
-use Rattle.cpp_syntax.proofs.NodeKids.{front_at, drop-past, parts_of}
+use Rattle.cpp_ast.specs.declared.kinds.NodeKind.{NodeKind}
+use Rattle.cpp_ast.specs.Trees.{Tree, node, Trees, none, more, NodeAt, Shows, ShowsAll}
+use Rattle.cpp_syntax.proofs.NodeKids.{front_at, drop-past, Parts, parts_of}
 use Rattle.cpp_syntax.specs.Gathers.{Leads}
 use Rattle.cpp_syntax.specs.Derivations.{is_of_declarator, declared, declared_in, leads_to_name, name_by, Name}
 

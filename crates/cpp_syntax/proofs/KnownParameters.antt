@@ -1,14 +1,14 @@
 -- Tables of parameters, and what is known from them.
-use Rattle.std.proofs.Common.{◌≡◌, ℕ, ◌+◌, ◌<◌, ◌≤◌, inl, inr, nat_lt, if◌then◌else◌, Bool, true, false, refl, sym as back, ◌∙◌, ap, subst, arith, List, length, get_or, slice_set, Option, Some, None, is_some, true≢false}
+use Rattle.std.proofs.Common.{◌≡◌, ℕ, ◌+◌, ◌-◌, ◌<◌, ◌≤◌, ◌⊎◌, inl, inr, nat_lt, if◌then◌else◌, Bool, true, false, refl, sym as back, ◌∙◌, ap, subst, arith, List, length, get_or, slice_set, Option, Some, None, is_some, true≢false}
 use Rattle.std.proofs.lemmas.Bool.{cases_lt}
 use Rattle.std.proofs.lemmas.List.{get_or_past, get_or-set_same, get_or-set_other, length-set}
 use Rattle.cpp_syntax.specs.declared.terminal.Terminal.TheVariants as terminal
-use Rattle.cpp_syntax.specs.Source.{Source}
+use Rattle.cpp_syntax.specs.Source.{Source, terminal_at}
 use Rattle.cpp_syntax.specs.Terminals.{open_paren, close_paren}
 use Rattle.cpp_syntax.specs.Balance.{partner_in}
 use Rattle.cpp_syntax.specs.Rules.{parameters}
 use Rattle.cpp_syntax.specs.Lookahead.{lookahead_types}
-use Rattle.cpp_syntax.specs.Shapes.{ParametersAt, KnownAt, KnownFrom, OwnIndices, KnownBelow, ParametersPassed}
+use Rattle.cpp_syntax.specs.Shapes.{ParametersAt, KnownAt, KnownFrom, OwnIndices, KnownBelow, ParametersPassed, BehindParameters}
 use Rattle.cpp_syntax.proofs.WithinTokens.{token_inside}
 use Rattle.cpp_syntax.proofs.ShapeDerivations.{parameters_seen}
 use Rattle.cpp_syntax.proofs.Recognisers.{span_ahead}

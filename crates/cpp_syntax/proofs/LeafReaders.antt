@@ -1,10 +1,10 @@
 -- What readers of one token answer.
-use Rattle.std.proofs.Common.{◌≡◌, ℕ, ◌<◌, Bool, true, false, sym as back, subst, length, Option, None, Result, Ok, Err}
+use Rattle.std.proofs.Common.{◌≡◌, ℕ, ◌+◌, ◌<◌, ◌≤◌, Bool, true, false, refl, sym as back, ◌∙◌, arith, subst, List, length, Option, Some, None, Result, Ok, Err}
 use Rattle.std.specs.declared.alloc.AllocError.{AllocError}
 use Rattle.cpp_ast.specs.declared.kinds.NodeKind.{NodeKind}
 use Rattle.cpp_syntax.specs.declared.terminal.Terminal.{Terminal}
 use Rattle.cpp_syntax.specs.Source.{Source, terminal_at}
-use Rattle.cpp_syntax.specs.Rules.{Rule, optional}
+use Rattle.cpp_syntax.specs.Rules.{Rule, mark, optional}
 use Rattle.cpp_syntax.specs.Grammar.{leaf}
 use Rattle.cpp_syntax.specs.FirstSets.{rule_nullable}
 use Rattle.cpp_syntax.specs.View.{BuilderState}

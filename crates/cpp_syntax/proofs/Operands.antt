@@ -1,8 +1,11 @@
 -- Where the operand of a cast begins.
-use Rattle.std.proofs.Common.{◌≡◌, ℕ, ◌+◌, true, false, refl, sym as back, ◌∙◌, true≢false}
+use Rattle.std.proofs.Common.{◌≡◌, ℕ, ◌+◌, Bool, true, false, refl, sym as back, ◌∙◌, subst, ap, true≢false}
+use Rattle.cpp_syntax.specs.declared.terminal.Terminal.{Terminal}
+use Rattle.cpp_syntax.specs.declared.terminal.Terminal.TheVariants as terminal
 use Rattle.cpp_syntax.specs.Source.{Source, terminal_at}
 use Rattle.cpp_syntax.specs.Terminals.{begins_operand, open_paren, close_paren, is_step}
 use Rattle.cpp_syntax.specs.Lookahead.{BeginsOperand, at_token, at_parenthesis, at_step}
+use Rattle.cpp_syntax.proofs.TerminalTables.{passes, at_each, implies, implied}
 use Rattle.cpp_syntax.proofs.DeclaratorForms.{differ}
 
 -- an operand begins at one index exactly where one does at the other

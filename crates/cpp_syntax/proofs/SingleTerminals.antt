@@ -1,5 +1,5 @@
 -- Tests that one terminal alone passes.
-use Rattle.std.proofs.Common.{◌≡◌, ℕ, zero, suc, Bool, true, false, not, ◌||◌, inl, inr, List, [], ◌∷◌, refl, sym as back, ◌∙◌, ap, get_or, true≢false}
+use Rattle.std.proofs.Common.{◌≡◌, ℕ, zero, suc, Bool, true, false, not, ◌||◌, ◌⊎◌, inl, inr, List, [], ◌∷◌, refl, sym as back, ◌∙◌, ap, get_or, true≢false}
 use Rattle.std.proofs.lemmas.Bool.{eqb-true, not-true, and_parts, or_cases}
 use Rattle.std.proofs.Math.Dec.{eqb}
 use Rattle.cpp_syntax.specs.declared.terminal.Terminal.{Terminal}

@@ -1,5 +1,5 @@
 -- Words of types, one behind the other, and when they spell a type.
-use Rattle.std.proofs.Common.{◌≡◌, ℕ, zero, suc, ◌+◌, ◌-◌, ◌<◌, ◌≤◌, inl, inr, nat_le, nat_eq, Bool, true, false, not, ◌&&◌, ◌||◌, refl, sym as back, ◌∙◌, subst, ap, arith, List, [], ◌∷◌, ◌++◌, take, drop, length, get_or, slice_range, count_by, true≢false}
+use Rattle.std.proofs.Common.{◌≡◌, ℕ, zero, suc, ◌+◌, ◌-◌, ◌<◌, ◌≤◌, ◌⊎◌, inl, inr, nat_le, nat_eq, Bool, true, false, not, ◌&&◌, ◌||◌, refl, sym as back, ◌∙◌, subst, ap, ap₂, arith, List, [], ◌∷◌, ◌++◌, take, drop, length, get_or, slice_range, count_by, Option, Some, None, true≢false}
 use Rattle.std.proofs.Math.Seq.{take-add}
 use Rattle.std.proofs.lemmas.List.{drop-drop}
 use Rattle.std.proofs.lemmas.List.Sums.{sum_by-append}
@@ -14,7 +14,7 @@ use Rattle.cpp_syntax.specs.Terminals.{is_type_word}
 use Rattle.cpp_syntax.specs.Types.{is_sign, is_char, is_short, is_int, is_long, is_integer_word, is_combination, is_spelling, spells_a_type}
 use Rattle.cpp_syntax.specs.Shapes.{AreTypeWords, BehindWords}
 use Rattle.cpp_syntax.specs.Tallies.{tally_of, is_tally, with_word, may_come, IntegerWords}
-use Rattle.cpp_syntax.proofs.TerminalTables.{at_each, implies, implied}
+use Rattle.cpp_syntax.proofs.TerminalTables.{passes, at_each, implies, implied}
 use Rattle.cpp_syntax.proofs.WithinTokens.{token_inside}
 
 -- Parts of a list.

@@ -1,9 +1,9 @@
 -- The longest text of a rule from an index, behind what was read before.
-use Rattle.std.specs.Prelude.{◌≡◌, ℕ, ◌<◌, ◌⊎◌, Bool, true, false, ◌&&◌, Option}
+use Rattle.std.specs.Prelude.{◌≡◌, ℕ, ◌<◌, ◌⊎◌, Bool, true, false, ◌&&◌, Option, None}
 use Rattle.cpp_syntax.specs.Source.{Source}
-use Rattle.cpp_syntax.specs.Rules.{Lookahead, Rule, nothing, word, mark, mark_next, mark_name, ◌·◌, ◌∣◌, many, form, node_at, wrap, with_body, where_, before_no, if_, unless}
-use Rattle.cpp_syntax.specs.Derivations.{Read, Bodies, Derives}
-use Rattle.cpp_syntax.specs.FirstSets.{ContinuesRule}
+use Rattle.cpp_syntax.specs.Rules.{Nonterminal, Lookahead, Rule, nothing, word, mark, mark_next, mark_name, ◌·◌, ◌∣◌, many, form, node_at, wrap, with_body, where_, before_no, if_, unless}
+use Rattle.cpp_syntax.specs.Derivations.{Read, no_read, and_then, Bodies, Derives}
+use Rattle.cpp_syntax.specs.FirstSets.{Continues, ContinuesRule}
 
 -- Beside the text that ends at one index, another ends before it, where texts of the rule may go on, or is the same.
 abbrev pub IsNoLonger : (Lookahead → ℕ → Type 0) → Source → Rule → ℕ → Option ℕ → Read → ℕ → Option ℕ → Read → Type 0

@@ -1,10 +1,10 @@
 -- What is seen of the shapes of tokens, and what derives from a form.
-use Rattle.std.specs.Prelude.{◌≡◌, ℕ, ◌+◌, true, false, length, [], Option, None}
+use Rattle.std.specs.Prelude.{◌≡◌, ℕ, zero, suc, ◌+◌, Bool, true, false, length, [], Option, None}
 use Rattle.cpp_ast.specs.Trees.{Trees}
 use Rattle.cpp_syntax.specs.Source.{Source, terminal_at}
 use Rattle.cpp_syntax.specs.Terminals.{begins_operand, open_paren, close_paren, is_step}
 use Rattle.cpp_syntax.specs.Rules.{by_shape, Nonterminal, type_id, parameter_declaration_clause, shaped_declaration, translation_unit, Lookahead, a_cast, a_type_in_parentheses, parameters, a_declaration, form}
-use Rattle.cpp_syntax.specs.Derivations.{Read, no_read, in_trees, kept_apart, Derives}
+use Rattle.cpp_syntax.specs.Derivations.{Body, Read, no_read, in_trees, kept_apart, Bodies, Derives}
 
 -- The operand of a cast begins at an index: with a token that begins one, with ( that no ) follows, or with ++ or --
 -- before such an index.

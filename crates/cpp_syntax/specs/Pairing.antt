@@ -1,5 +1,5 @@
 -- How brackets are paired with those that close them, token by token.
-use Rattle.std.specs.Prelude.{◌≡◌, ◌⊎◌, ℕ, ◌+◌, ◌<◌, nat_lt, if◌then◌else◌, true, List, [], ◌∷◌, length, get_or, Some, None}
+use Rattle.std.specs.Prelude.{◌≡◌, ◌⊎◌, ℕ, ◌+◌, ◌<◌, nat_lt, if◌then◌else◌, true, List, [], ◌∷◌, length, get_or, Option, Some, None}
 use Rattle.cpp_syntax.specs.declared.terminal.Terminal.{Terminal}
 use Rattle.cpp_syntax.specs.Balance.{terminal_in, Balanced, IsPartner}
 use Rattle.cpp_syntax.specs.FirstSets.{opens}

@@ -6,11 +6,11 @@ use Rattle.cpp_syntax.specs.Terminals.{is_name, is_type_name, is_type_word, std,
 use Rattle.cpp_syntax.specs.Types.{spells_a_type}
 use Rattle.cpp_syntax.specs.Balance.{partner_in}
 use Rattle.cpp_syntax.specs.Names.{may_name}
-use Rattle.cpp_syntax.specs.Rules.{by_shape, Naming, in_block, type_id, parameter_declaration_clause, parameters, Rule, form}
+use Rattle.cpp_syntax.specs.Rules.{by_shape, Naming, named, unnamed, either, in_block, type_id, parameter_declaration_clause, parameters, Lookahead, Rule, form}
 use Rattle.cpp_syntax.specs.Grammar.{declarator_id, declarator_head}
 use Rattle.cpp_syntax.specs.Derivations.{Read, no_read, kept_apart}
 use Rattle.cpp_syntax.specs.FirstSets.{need_not_name}
-use Rattle.cpp_syntax.specs.Lookahead.{lookahead_types, InParentheses}
+use Rattle.cpp_syntax.specs.Lookahead.{lookahead_types, InParentheses, BeginsOperand}
 use Rattle.cpp_syntax.specs.Longest.{LongestMatch, NoDerivation}
 
 -- The longest text of a rule, from one index to another, behind what was read before.

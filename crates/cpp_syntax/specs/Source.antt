@@ -1,5 +1,10 @@
 -- The tokens of a unit as the grammar sees them.
-use Rattle.std.specs.Prelude.{ℕ, List, slice_index_or}
+use Rattle.std.specs.Prelude.{ℕ, ◌+◌, Bool, true, false, List, [], ◌∷◌, ◌&&◌, ◌||◌, codes, length, map, take, slice_get, slice_index_or, get_or, Option, Some, None, if◌then◌else◌, zero, suc}
+use Rattle.std.specs.List.{list_any}
+use Rattle.std.specs.Str.{bytes_eq}
+use Rattle.cpp_lex.specs.Tokens.{Lexeme}
+use Rattle.cpp_lex.specs.declared.TokKind.{TokKind}
+use Rattle.cpp_lex.specs.declared.TokKind.TheVariants as token
 use Rattle.cpp_ast.specs.declared.arena.At.{At}
 use Rattle.cpp_syntax.specs.declared.terminal.Terminal.{Terminal}
 use Rattle.cpp_syntax.specs.declared.terminal.Terminal.TheVariants as terminal

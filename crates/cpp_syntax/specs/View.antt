@@ -1,6 +1,7 @@
 -- What a builder of trees shows: the trees and the bodies that are read so far.
-use Rattle.std.specs.Prelude.{◌≡◌, ℕ, ◌+◌, ◌≤◌, nat_lt, nat_le, ◌&&◌, Bool, true, false, List, [], ◌∷◌, ◌++◌, Option, Some, None, if◌then◌else◌, length, map, take, drop, get_or, slice_get}
+use Rattle.std.specs.Prelude.{◌≡◌, ℕ, zero, suc, ◌+◌, ◌-◌, ◌≤◌, nat_lt, nat_le, ◌&&◌, Bool, true, false, List, [], ◌∷◌, ◌++◌, Option, Some, None, if◌then◌else◌, length, map, take, drop, get_or, slice_get}
 use Rattle.std.specs.List.{concat, list_all}
+use Rattle.cpp_ast.specs.declared.arena.At.{At}
 use Rattle.cpp_ast.specs.declared.arena.Node.{Node}
 use Rattle.cpp_ast.specs.declared.arena.NodeId.{NodeId}
 use Rattle.cpp_ast.specs.declared.kinds.NodeKind.{NodeKind}
@@ -11,7 +12,7 @@ use Rattle.cpp_ast.specs.Orders.{are_below}
 use Rattle.cpp_syntax.specs.declared.positions.Checkpoint.{Checkpoint}
 use Rattle.cpp_syntax.specs.declared.positions.OpenBody.{OpenBody}
 use Rattle.cpp_syntax.specs.declared.positions.DeclaredName.{DeclaredName}
-use Rattle.cpp_syntax.specs.Derivations.{Body, Read, and_then, Name}
+use Rattle.cpp_syntax.specs.Derivations.{Body, Read, and_then, no_read, Name}
 
 -- The nodes that were there before, and what was read since.
 pub record BuilderState : Type 0 where

@@ -1,5 +1,5 @@
-use Rattle.std.proofs.Common.{refl, sym, ◌∙◌, arith, get_or}
-use Rattle.cpp_syntax.proofs.DeclaredNames.{found_at, none_at, past}
+use Rattle.std.proofs.Common.{refl, sym, ◌∙◌, arith, length, ◌≤◌, get_or}
+use Rattle.cpp_syntax.proofs.DeclaredNames.{at_first, found_at, none_at, past}
 use Rattle.cpp_syntax.proofs.arena.first_of_declarator.Goals as goal
 
 pub returns-then-is_of_declarator-clause-first : goal.returns-then-is_of_declarator-clause-first

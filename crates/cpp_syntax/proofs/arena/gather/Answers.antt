@@ -1,5 +1,6 @@
-use Rattle.std.proofs.Common.{rules, length, ap, ◌∙◌, refl, List}
+use Rattle.std.proofs.Common.{rules, ◌≡◌, ◌∷◌, ◌++◌, [], length, drop, true, ap, sym, ◌∙◌, refl, List, ℕ}
 use Rattle.cpp_ast.specs.Orders.{are_below}
+use Rattle.cpp_ast.specs.declared.arena.Node.{Node}
 use Rattle.cpp_ast.specs.declared.arena.NodeId.{NodeId}
 use Rattle.cpp_syntax.proofs.NodeValues.{below_drop}
 use Rattle.cpp_syntax.proofs.arena.gather.Goals as goal

@@ -1,4 +1,4 @@
-use Rattle.std.proofs.Common.{ℕ, ◌∙◌, ap, map, Option}
+use Rattle.std.proofs.Common.{ℕ, ◌≡◌, ◌∙◌, ap, map, Option}
 use Rattle.cpp_lex.specs.Tokens.{lexeme_of}
 use Rattle.cpp_syntax.specs.Classes.{names_type, or_here}
 use Rattle.cpp_syntax.proofs.TokenClasses.{type_index_more}

@@ -1,3 +1,4 @@
+use Rattle.std.proofs.Common.{ℕ}
 use Rattle.cpp_syntax.specs.Shapes.{OwnIndices}
 use Rattle.cpp_syntax.proofs.parameters.own_indices.Given as goal
 

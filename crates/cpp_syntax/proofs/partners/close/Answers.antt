@@ -1,4 +1,4 @@
-use Rattle.std.proofs.Common.{rules, ◌≡◌, ◌+◌, ◌<◌, ◌++◌, ◌∷◌, [], set, true, false, refl, sym, subst, arith, List, ℕ}
+use Rattle.std.proofs.Common.{rules, ◌≡◌, ◌+◌, ◌<◌, ◌++◌, ◌∷◌, [], length, set, true, false, refl, sym, subst, arith, List, ℕ}
 use Rattle.cpp_syntax.specs.Balance.{terminal_in, closes}
 use Rattle.cpp_syntax.specs.Pairing.{Paired}
 use Rattle.cpp_syntax.proofs.BracketPairs.{closed_one, last_before, left_all, left_last, stops_by}

@@ -1,5 +1,5 @@
 use Rattle.std.proofs.Common.{◌≡◌, ◌≤◌, length, arith}
-use Rattle.cpp_syntax.proofs.BracketPairs.{all_paired}
+use Rattle.cpp_syntax.proofs.BracketPairs.{all_paired, begun}
 use Rattle.cpp_syntax.proofs.partners.partners.Goals as goal
 
 pub returns : goal.returns

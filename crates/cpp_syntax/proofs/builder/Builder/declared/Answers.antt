@@ -1,4 +1,4 @@
-use Rattle.std.proofs.Common.{rules, ◌≡◌, List, length, drop, sym, ◌∙◌, ap, subst}
+use Rattle.std.proofs.Common.{rules, ◌≡◌, List, length, drop, true, sym, ◌∙◌, ap, subst}
 use Rattle.cpp_ast.specs.Orders.{are_below}
 use Rattle.cpp_ast.specs.declared.arena.NodeId.{NodeId}
 use Rattle.cpp_ast.specs.Trees.{ShowsAll}

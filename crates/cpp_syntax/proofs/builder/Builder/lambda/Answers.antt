@@ -1,5 +1,6 @@
-use Rattle.std.proofs.Common.{rules, Some}
+use Rattle.std.proofs.Common.{rules, length, Some}
 use Rattle.cpp_ast.specs.declared.kinds.NodeKind.TheVariants.{Lambda}
+use Rattle.cpp_syntax.specs.View.{lams_of}
 use Rattle.cpp_syntax.proofs.GatheredNodes.{built_gathered, one_lambda}
 use Rattle.cpp_syntax.proofs.BuilderViews.{lambda_shown}
 use Rattle.cpp_syntax.proofs.builder.Builder.lambda.Goals as goal

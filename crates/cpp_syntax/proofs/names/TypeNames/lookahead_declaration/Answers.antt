@@ -1,3 +1,4 @@
+use Rattle.std.proofs.Common.{◌≡◌, sym}
 use Rattle.cpp_syntax.proofs.names.TypeNames.lookahead_declaration.Goals as goal
 
 pub returns-clause-yes : goal.returns-clause-yes

@@ -1,4 +1,4 @@
-use Rattle.std.proofs.Common.{sym, ◌∙◌}
+use Rattle.std.proofs.Common.{◌≡◌, sym, ◌∙◌}
 use Rattle.cpp_syntax.proofs.KnownParameters.{passed_seen}
 use Rattle.cpp_syntax.proofs.names.TypeNames.lookahead_parameters.Goals as goal
 

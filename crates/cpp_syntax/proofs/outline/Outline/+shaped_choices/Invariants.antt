@@ -1,4 +1,4 @@
-use Rattle.std.proofs.Common.{◌+◌, ◌*◌, ◌-◌, length}
+use Rattle.std.proofs.Common.{◌≡◌, ℕ, ◌+◌, ◌*◌, ◌-◌, length}
 use Rattle.cpp_syntax.specs.Terminals.{is_chosen}
 use Rattle.cpp_syntax.specs.Grammar.{shaped_token}
 use Rattle.cpp_syntax.specs.Derivations.{no_read}

@@ -1,4 +1,4 @@
-use Rattle.std.proofs.Common.{◌+◌, ◌*◌}
+use Rattle.std.proofs.Common.{ℕ, ◌+◌, ◌*◌}
 use Rattle.cpp_syntax.proofs.outline.Outline.+shaped_declarators.Given as goal
 
 abbrev pub decreases-shaped_declarator : goal.decreases-shaped_declarator

@@ -1,4 +1,4 @@
-use Rattle.std.proofs.Common.{◌+◌, ◌*◌}
+use Rattle.std.proofs.Common.{ℕ, ◌+◌, ◌*◌}
 use Rattle.cpp_syntax.proofs.outline.Outline.+shaped_types.Given as goal
 
 abbrev pub decreases-shaped_type_id : goal.decreases-shaped_type_id

@@ -1,4 +1,4 @@
-use Rattle.std.proofs.Common.{refl, sym, ◌∙◌, ap}
+use Rattle.std.proofs.Common.{◌≡◌, refl, sym, ◌∙◌, ap}
 use Rattle.std.proofs.lemmas.Bool.{not-true, not-false}
 use Rattle.cpp_syntax.specs.declared.terminal.Terminal.TheVariants as terminal
 use Rattle.cpp_syntax.specs.Terminals.{begins_operand, open_paren, close_paren}

@@ -1,4 +1,4 @@
-use Rattle.std.proofs.Common.{◌-◌, length}
+use Rattle.std.proofs.Common.{◌≡◌, ℕ, ◌-◌, length}
 use Rattle.cpp_syntax.proofs.Operands.{SameOperand}
 use Rattle.cpp_syntax.proofs.outline.Outline.begins_operand.Given as goal
 

@@ -1,4 +1,4 @@
-use Rattle.std.proofs.Common.{◌-◌, length}
+use Rattle.std.proofs.Common.{◌≡◌, ℕ, ◌-◌, length}
 use Rattle.cpp_ast.specs.declared.kinds.NodeKind.TheVariants.{CvQualifier}
 use Rattle.cpp_syntax.specs.Terminals.{is_cv}
 use Rattle.cpp_syntax.specs.Grammar.{leaf}

@@ -1,4 +1,4 @@
-use Rattle.std.proofs.Common.{sym}
+use Rattle.std.proofs.Common.{◌≡◌, refl, sym}
 use Rattle.cpp_syntax.proofs.DeclaratorShapes.{id_name, id_qualified, id_missing}
 use Rattle.cpp_syntax.proofs.outline.Outline.behind_declarator_id.Goals as goal
 

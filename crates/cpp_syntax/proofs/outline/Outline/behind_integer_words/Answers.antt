@@ -1,4 +1,4 @@
-use Rattle.std.proofs.Common.{◌<◌, length, arith}
+use Rattle.std.proofs.Common.{◌≡◌, ◌<◌, ℕ, ◌+◌, length, arith}
 use Rattle.cpp_syntax.proofs.TypeWords.{tallied_none, tallied_more, tallied_all, came_inside}
 use Rattle.cpp_syntax.proofs.outline.Outline.behind_integer_words.Goals as goal
 

@@ -1,4 +1,4 @@
-use Rattle.std.proofs.Common.{◌-◌, length}
+use Rattle.std.proofs.Common.{◌≡◌, ℕ, ◌-◌, length}
 use Rattle.cpp_syntax.proofs.TypeWords.{Tallied}
 use Rattle.cpp_syntax.proofs.outline.Outline.behind_integer_words.Given as goal
 

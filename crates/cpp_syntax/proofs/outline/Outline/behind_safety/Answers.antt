@@ -1,4 +1,4 @@
-use Rattle.std.proofs.Common.{sym}
+use Rattle.std.proofs.Common.{◌≡◌, sym}
 use Rattle.cpp_syntax.proofs.DeclaratorShapes.{leaf_taken, leaf_left_out}
 use Rattle.cpp_syntax.proofs.outline.Outline.behind_safety.Goals as goal
 

@@ -1,4 +1,4 @@
-use Rattle.std.proofs.Common.{arith}
+use Rattle.std.proofs.Common.{◌≡◌, ◌<◌, ℕ, length, arith}
 use Rattle.cpp_syntax.specs.Rules.{unnamed}
 use Rattle.cpp_syntax.specs.Derivations.{no_read}
 use Rattle.cpp_syntax.proofs.Recognisers.{many_starts, many_ahead, known_later}

@@ -1,4 +1,4 @@
-use Rattle.std.proofs.Common.{refl, inl}
+use Rattle.std.proofs.Common.{◌≡◌, refl, inl}
 use Rattle.cpp_syntax.specs.declared.terminal.Terminal.TheVariants as terminal
 use Rattle.cpp_syntax.proofs.SingleTerminals.{passed}
 use Rattle.cpp_syntax.proofs.TypeWords.{is_lone_word, alone_behind, integers_behind, not_alone}

@@ -1,4 +1,4 @@
-use Rattle.std.proofs.Common.{refl, arith}
+use Rattle.std.proofs.Common.{◌≡◌, ◌<◌, ℕ, length, refl, arith}
 use Rattle.cpp_syntax.proofs.IndependentDerivations.{free_none}
 use Rattle.cpp_syntax.proofs.Recognisers.{behind_any, many_starts, many_goes, many_stops}
 use Rattle.cpp_syntax.proofs.DeclarationShapes.{token_starts}

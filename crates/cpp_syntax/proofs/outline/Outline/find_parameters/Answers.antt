@@ -1,4 +1,4 @@
-use Rattle.std.proofs.Common.{◌<◌, length, arith}
+use Rattle.std.proofs.Common.{◌≡◌, ◌<◌, length, arith}
 use Rattle.cpp_syntax.proofs.KnownParameters.{close_inside, known_none, known_set}
 use Rattle.cpp_syntax.proofs.outline.Outline.find_parameters.Goals as goal
 

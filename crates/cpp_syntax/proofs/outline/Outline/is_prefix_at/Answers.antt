@@ -1,4 +1,4 @@
-use Rattle.std.proofs.Common.{refl, sym, ◌∙◌}
+use Rattle.std.proofs.Common.{◌≡◌, true, refl, sym, ◌∙◌}
 use Rattle.cpp_syntax.specs.Terminals.{is_prefix}
 use Rattle.cpp_syntax.proofs.SingleTerminals.{token_by}
 use Rattle.cpp_syntax.proofs.outline.Outline.is_prefix_at.Goals as goal

@@ -1,4 +1,5 @@
-use Rattle.std.proofs.Common.{refl, sym, ◌∙◌}
+use Rattle.std.proofs.Common.{◌≡◌, ℕ, suc, refl, sym, ◌∙◌, ap}
+use Rattle.cpp_syntax.specs.Terminals.{level_of}
 use Rattle.cpp_syntax.proofs.SingleTerminals.{token_by, binds, binds_so}
 use Rattle.cpp_syntax.proofs.outline.Outline.level_at.Goals as goal
 

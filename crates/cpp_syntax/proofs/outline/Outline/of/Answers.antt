@@ -1,4 +1,4 @@
-use Rattle.std.proofs.Common.{rules, ◌≡◌, ◌≤◌, length, map, List, ℕ, subst, arith}
+use Rattle.std.proofs.Common.{rules, ◌≡◌, ◌≤◌, length, map, List, ℕ, ◌∙◌, ap, subst, arith}
 use Rattle.cpp_lex.specs.Tokens.{Lexeme, lexeme_of}
 use Rattle.cpp_syntax.specs.Balance.{IsPartner, partner_in}
 use Rattle.cpp_syntax.specs.Classes.{terminals_of}

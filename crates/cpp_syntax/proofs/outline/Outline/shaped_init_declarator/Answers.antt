@@ -1,3 +1,4 @@
+use Rattle.std.proofs.Common.{◌≡◌}
 use Rattle.cpp_syntax.proofs.Recognisers.{known_later, span_ahead}
 use Rattle.cpp_syntax.proofs.DeclarationShapes.{initialized, not_declared}
 use Rattle.cpp_syntax.proofs.outline.Outline.shaped_init_declarator.Goals as goal

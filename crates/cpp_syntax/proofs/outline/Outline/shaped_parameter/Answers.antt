@@ -1,3 +1,4 @@
+use Rattle.std.proofs.Common.{◌≡◌}
 use Rattle.cpp_syntax.proofs.Recognisers.{known_later, span_ahead}
 use Rattle.cpp_syntax.proofs.TypeShapes.{parameter_found, parameter_missing}
 use Rattle.cpp_syntax.proofs.outline.Outline.shaped_parameter.Goals as goal

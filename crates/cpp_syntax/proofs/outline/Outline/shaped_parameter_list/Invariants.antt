@@ -1,4 +1,4 @@
-use Rattle.std.proofs.Common.{◌-◌, length}
+use Rattle.std.proofs.Common.{◌≡◌, ℕ, ◌-◌, length}
 use Rattle.cpp_syntax.specs.Terminals.{comma}
 use Rattle.cpp_syntax.specs.Rules.{by_shape, parameter_declaration, word, ◌·◌, form}
 use Rattle.cpp_syntax.proofs.Recognisers.{SpansChain}

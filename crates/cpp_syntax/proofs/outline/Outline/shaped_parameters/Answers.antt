@@ -1,3 +1,4 @@
+use Rattle.std.proofs.Common.{◌≡◌}
 use Rattle.cpp_syntax.proofs.DeclaratorShapes.{list_found, list_missing}
 use Rattle.cpp_syntax.proofs.outline.Outline.shaped_parameters.Goals as goal
 

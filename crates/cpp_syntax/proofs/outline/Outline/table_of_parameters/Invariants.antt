@@ -1,4 +1,4 @@
-use Rattle.std.proofs.Common.{◌-◌, length}
+use Rattle.std.proofs.Common.{◌≡◌, ℕ, ◌-◌, length}
 use Rattle.cpp_syntax.specs.Shapes.{KnownBelow}
 use Rattle.cpp_syntax.proofs.outline.Outline.table_of_parameters.Given as goal
 

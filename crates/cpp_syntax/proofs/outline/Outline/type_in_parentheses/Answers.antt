@@ -1,4 +1,4 @@
-use Rattle.std.proofs.Common.{refl, arith}
+use Rattle.std.proofs.Common.{◌≡◌, refl, arith}
 use Rattle.cpp_syntax.specs.declared.terminal.Terminal.TheVariants as terminal
 use Rattle.cpp_syntax.specs.Terminals.{open_paren, close_paren}
 use Rattle.cpp_syntax.specs.Rules.{by_shape, type_id}
