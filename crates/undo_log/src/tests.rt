@@ -156,6 +156,29 @@ fn the_newest_mark_is_undone_word_by_word(rt: HostRuntime) -> Result<(), Fail> {
     Ok(())
 }
 
+#[test]
+fn notes_in_order_and_a_log_that_starts_over(rt: HostRuntime) -> Result<(), Fail> {
+    let mut log = Log::new(rt.alloc());
+    let _ = mark(&mut log)?;
+    note(&mut log, WORD, 5)?;
+    note(&mut log, OTHER, 6)?;
+    log.order_newest();
+    let greatest_first = [
+        Note {
+            word: OTHER,
+            old: 6,
+        },
+        Note { word: WORD, old: 5 },
+    ];
+    assert_eq!(rt; log.notes(), greatest_first.as_slice());
+    if !log.marks().is_empty() {
+        log.start_over();
+    }
+    assert_eq!(rt; log.notes().len(), 0);
+    assert_eq!(rt; log.marks(), [0].as_slice());
+    Ok(())
+}
+
 fn undo_newest(log: &mut Log, memory: &mut Memory) -> Option<u64> {
     let count = log.marks().len();
     if count == 0 {
