@@ -42,7 +42,15 @@ funcs = f
     ∷ []
 
 abbrev pub setting : Setting
-setting = record { classes = the_class ∷ []; slots = []; funcs = funcs; globals = record { symbol = []; typ = int_type; linkage = External; init = []; defined = true } ∷ []; function = f }
+setting = record {
+  classes = the_class
+      ∷ [];
+  slots = [];
+  funcs = funcs;
+  globals = record { symbol = []; typ = int_type; linkage = External; init = []; defined = true }
+      ∷ [];
+  function = f;
+}
 
 -- right in a block of f
 abbrev pub item_fits : Tree → Bool

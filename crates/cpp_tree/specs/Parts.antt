@@ -48,17 +48,20 @@ is_part_piece classes const volatile n c (Some b) (suc i) h = is_member_piece cl
 -- the pieces from a place on
 abbrev pub are_part_pieces : List Class → Bool → Bool → ℕ → Class → ℕ → List Head → Bool
 are_part_pieces classes const volatile n c i [] = true
-are_part_pieces classes const volatile n c i (h ∷ hs) = is_part_piece classes const volatile n c c.base i h && are_part_pieces classes const volatile n c (suc i) hs
+are_part_pieces classes const volatile n c i (h ∷ hs) = is_part_piece classes const volatile n c c.base i h
+    && are_part_pieces classes const volatile n c (suc i) hs
 
 abbrev pub count_of_parts : Class → ℕ
 count_of_parts c = length c.members + cond (is_some c.base) 1 0
 
 -- as many pieces as parts, which a node with ids of 32 bits can have
 abbrev pub are_all_parts : List Class → Bool → Bool → ℕ → List Head → Class → Bool
-are_all_parts classes const volatile n hs c = length hs == count_of_parts c && nat_lt (length hs) 4294967296 && are_part_pieces classes const volatile n c 0 hs
+are_all_parts classes const volatile n hs c = length hs == count_of_parts c && nat_lt (length hs) 4294967296
+    && are_part_pieces classes const volatile n c 0 hs
 
 abbrev pub are_class_pieces : List Class → Bool → Bool → ℕ → List Head → Bool
-are_class_pieces classes const volatile n hs = is_some (size_in classes (typ (class n) const volatile)) && passes (are_all_parts classes const volatile n hs) (slice_get classes n)
+are_class_pieces classes const volatile n hs = is_some (size_in classes (typ (class n) const volatile))
+    && passes (are_all_parts classes const volatile n hs) (slice_get classes n)
 
 -- Elements: a piece for each, or one for all of the rest
 
@@ -68,7 +71,8 @@ is_last (h ∷ hs) = false
 
 abbrev pub are_element_pieces : Typ → (size many : ℕ) → ℕ → List Head → Bool
 are_element_pieces e size many i [] = i == many
-are_element_pieces e size many i (h ∷ hs) = nat_lt i many && ((is_last hs && is_piece_at (i * size) (typ (array e (many - i)) false false) h) || (is_piece_at (i * size) e h && are_element_pieces e size many (suc i) hs))
+are_element_pieces e size many i (h ∷ hs) = nat_lt i many && ((is_last hs && is_piece_at (i * size) (typ (array e (many - i)) false false) h)
+    || (is_piece_at (i * size) e h && are_element_pieces e size many (suc i) hs))
 
 -- the pieces of an object of this type
 abbrev pub are_pieces : List Class → Typ → List Head → Bool
@@ -79,30 +83,35 @@ are_pieces classes t hs = false
 
 -- so many elements that are built alike, counted through the bounds of arrays of arrays; `before` is the product of the bounds further out
 abbrev pub are_elements : List Class → (count stride before : ℕ) → Typ → Head → Bool
-are_elements classes count stride before (typ (array e many) c v) h = nat_le (before * many) count && (before * many == count && builds e h && has_size classes e stride || are_elements classes count stride (before * many) e h)
+are_elements classes count stride before (typ (array e many) c v) h = nat_le (before * many) count && (before * many == count && builds e h
+    && has_size classes e stride || are_elements classes count stride (before * many) e h)
 are_elements classes count stride before t h = false
 
 -- Destructions
 
 -- all elements of an array of this class, or of arrays of it
 abbrev pub are_objects : List Class → (class count stride before : ℕ) → Typ → Bool
-are_objects classes n count stride before (typ (array e many) c v) = nat_le (before * many) count && (before * many == count && is_class n (form_in e) && has_size classes e stride || are_objects classes n count stride (before * many) e)
+are_objects classes n count stride before (typ (array e many) c v) = nat_le (before * many) count && (before * many == count && is_class n (form_in e)
+    && has_size classes e stride || are_objects classes n count stride (before * many) e)
 are_objects classes n count stride before t = false
 
 -- so many objects of a class of a size lie in a lambda's object, one behind the other
 abbrev pub are_within : (offset count stride size limit : ℕ) → Bool
-are_within offset count stride size limit = nat_lt 0 count && (stride == size || (count == 1 && stride == 0)) && nat_le (offset + (count - 1) * stride + size) limit
+are_within offset count stride size limit = nat_lt 0 count && (stride == size || (count == 1 && stride == 0))
+    && nat_le (offset + (count - 1) * stride + size) limit
 
 abbrev pub is_closure : Typ → Bool
 is_closure (typ (closure n) c v) = true
 is_closure t = false
 
 abbrev pub are_captures : List Class → (class offset count stride : ℕ) → Typ → Bool
-are_captures classes n offset count stride t = is_closure t && passes (λ (limit : ℕ). passes (λ (size : ℕ). are_within offset count stride size limit) (size_in classes (typ (class n) false false))) (size_in classes t)
+are_captures classes n offset count stride t = is_closure t
+    && passes (λ (limit : ℕ). passes (λ (size : ℕ). are_within offset count stride size limit) (size_in classes (typ (class n) false false))) (size_in classes t)
 
 -- objects of a class that are destroyed with an object of this type: itself, the elements of an array, or what a lambda captured
 abbrev pub are_destroyed : List Class → (class offset count stride : ℕ) → Typ → Bool
-are_destroyed classes n offset count stride t = (is_class n (form_in t) && offset == 0 && count == 1 && stride == 0) || (offset == 0 && nat_lt 0 count && are_objects classes n count stride 1 t) || are_captures classes n offset count stride t
+are_destroyed classes n offset count stride t = (is_class n (form_in t) && offset == 0 && count == 1 && stride == 0) || (offset == 0 && nat_lt 0 count
+    && are_objects classes n count stride 1 t) || are_captures classes n offset count stride t
 
 -- Exceptions
 
@@ -130,4 +139,5 @@ are_fields from limit (h ∷ hs) = begins_from from h.kind && are_fields (ends_a
 
 -- the scalars of an exception of this type, which has at most 64 bytes
 abbrev pub are_scalars : List Class → Typ → List Head → Bool
-are_scalars classes (typ f c v) hs = cond (is_object_form f) (passes (λ (size : ℕ). nat_le size 64 && are_fields 0 size hs) (size_in classes (typ f c v))) (passes (λ (k : IntKind). is_one_field k hs) (kind_in f))
+are_scalars classes (typ f c v) hs = cond (is_object_form f) (passes (λ (size : ℕ). nat_le size 64
+    && are_fields 0 size hs) (size_in classes (typ f c v))) (passes (λ (k : IntKind). is_one_field k hs) (kind_in f))

@@ -9,6 +9,7 @@ use Rattle.tx_ints.specs.Integers.{is_shift}
 use Rattle.cpp_types.specs.Typ.{Typ, typ, Form, void, int, ptr, ref, func, Signature, signature, Typs, none, more}
 use Rattle.cpp_types.specs.Class.{Class, Function}
 use Rattle.cpp_types.specs.Conversion.{is_lvalue}
+use Rattle.cpp_types.specs.Trivial.{takes_itself}
 use Rattle.cpp_types.specs.Equal.{name_eq, flag_eq, kind_eq, typ_eq, form_eq}
 use Rattle.cpp_types.specs.declared.ranks.Cat.{Cat}
 use Rattle.cpp_types.specs.declared.ranks.Cat.TheVariants.{Lvalue, Prvalue}
@@ -117,7 +118,8 @@ abbrev pub is_result_address : Typ → Head → Bool
 is_result_address result h = is_class_typ result && is_first_place h.kind
 
 abbrev pub is_load : Typ → IntKind → Bool → Typ → Cat → Head → Bool
-is_load result k volatile t Prvalue h = (is_scalar_value t && is_read k volatile t h) || (kind_eq k ULong && not volatile && typ_eq t (typ void false false) && is_result_address result h)
+is_load result k volatile t Prvalue h = (is_scalar_value t && is_read k volatile t h) || (kind_eq k ULong && not volatile
+    && typ_eq t (typ void false false) && is_result_address result h)
 is_load result k volatile t Lvalue h = kind_eq k ULong && not volatile && is_lvalue h.cat && is_slot t h.typ
 
 abbrev pub is_zero_literal : TKind → Bool
@@ -142,6 +144,10 @@ abbrev pub is_add : BinOp → Bool
 is_add Add = true
 is_add op = false
 
+abbrev pub is_loaded : TKind → Bool
+is_loaded (Load k volatile) = true
+is_loaded kind = false
+
 abbrev pub is_literal : TKind → Bool
 is_literal (Literal w) = true
 is_literal kind = false
@@ -152,7 +158,8 @@ is_right op k h = cond (is_shift op) (gives_promoted (word_kind h.typ h.cat)) (g
 
 abbrev pub is_binary : BinOp → IntKind → Typ → Cat → Head → Head → Bool
 is_binary op k t Lvalue a b = is_add op && kind_eq k ULong && gives ULong a && gives ULong b && is_literal b.kind
-is_binary op k t Prvalue a b = is_promoted k && gives k a && is_right op k b && cond (is_comparison op) (is_bool (record { kind = a.kind; typ = t; cat = Prvalue })) (is_scalar_value t && scalar_of k t)
+is_binary op k t Prvalue a b = is_promoted k && gives k a && is_right op k b
+    && cond (is_comparison op) (is_bool (record { kind = a.kind; typ = t; cat = Prvalue })) (is_scalar_value t && scalar_of k t)
 
 abbrev pub is_branch : Typ → Cat → Head → Bool
 is_branch t Lvalue h = is_throw h.kind || is_lvalue_of t h
@@ -167,13 +174,15 @@ is_updated true t cat h = is_prvalue cat && typ_eq t (unqualified h.typ)
 is_updated false t cat h = is_lvalue cat && typ_eq t h.typ
 
 abbrev pub is_update : BinOp → IntKind → IntKind → Bool → Bool → Typ → Cat → Head → Head → Bool
-is_update op stored operation volatile old t cat a r = is_lvalue a.cat && is_access stored volatile a.typ && is_promoted operation && is_right op operation r && is_updated old t cat a
+is_update op stored operation volatile old t cat a r = is_lvalue a.cat && is_access stored volatile a.typ && is_promoted operation
+    && is_right op operation r && is_updated old t cat a
 
 abbrev pub is_copied_from : Typ → Head → Bool
 is_copied_from t h = is_lvalue h.cat && (same_shape t h.typ || same_shape t (without_exception h.typ))
 
 abbrev pub is_destruction : Setting → Typ → TKind → Bool
-is_destruction s t (Destroy f offset count stride) = passes (λ (g : Func). is_destructor g.kind && passes (λ (n : ℕ). are_destroyed s.classes n offset count stride t) g.class) (slice_get s.funcs f)
+is_destruction s t (Destroy f offset count stride) = passes (λ (g : Func). is_destructor g.kind
+    && passes (λ (n : ℕ). are_destroyed s.classes n offset count stride t) g.class) (slice_get s.funcs f)
 is_destruction s t kind = false
 
 -- the destructions of an object of this type
@@ -245,35 +254,46 @@ row_fits s (Global g) t cat hs = is_lvalue cat && passes (λ (found : GlobalReco
 row_fits s (FunctionAddress f) t cat hs = is_lvalue cat && passes (λ (g : Func). typ_eq t (typ (func g.declared.signature) false false)) (slice_get s.funcs f)
 row_fits s (ClassTable n) t cat hs = is_prvalue cat && typ_eq t (typ (int ULong) false false) && nat_lt n (length s.classes)
 row_fits s (Load k volatile) t cat hs = kid 0 (is_load (result_of s.function) k volatile t cat) hs
-row_fits s (Convert k) t cat hs = is_prvalue cat && is_scalar_value t && scalar_of k t && kid 0 (λ h. is_prvalue h.cat && is_some (kind_in (form_in h.typ))) hs
+row_fits s (Convert k) t cat hs = is_prvalue cat && is_scalar_value t && scalar_of k t && kid 0 (λ h. is_prvalue h.cat
+    && is_some (kind_in (form_in h.typ))) hs
 row_fits s Retype t cat hs = kid 0 (is_retyped t cat) hs
 row_fits s (Binary op k) t cat hs = two_kids (is_binary op k t cat) hs
 row_fits s Conditional t cat hs = kid 0 is_bool hs && kid 1 (is_branch t cat) hs && kid 2 (is_branch t cat) hs
 row_fits s Comma t cat hs = kid 1 (same_value t cat) hs
 row_fits s (Assign k volatile) t cat hs = is_lvalue cat && is_access k volatile t && kid 0 (is_lvalue_of t) hs && kid 1 (is_prvalue_of (unqualified t)) hs
 row_fits s (Update op stored operation volatile old) t cat hs = two_kids (is_update op stored operation volatile old t cat) hs
-row_fits s CopyAssign t cat hs = is_lvalue cat && is_class_typ t && kid 0 (is_lvalue_of t) hs && kid 1 (λ h. is_lvalue h.cat && form_eq (form_in t) (form_in h.typ)) hs && kid 2 (builds t) hs
-row_fits s (Materialize place argument) t cat hs = is_lvalue cat && at_place s.function.frame place t && kid 0 (builds t) hs && are_destructions s t (drop 1 hs)
+row_fits s CopyAssign t cat hs = is_lvalue cat && is_class_typ t && kid 0 (is_lvalue_of t) hs && kid 1 (λ h. is_lvalue h.cat
+    && form_eq (form_in t) (form_in h.typ)) hs && kid 2 (builds t) hs
+row_fits s (Materialize place argument) t cat hs = is_lvalue cat && at_place s.function.frame place t && kid 0 (builds t) hs
+    && are_destructions s t (drop 1 hs)
 row_fits s FullExpression t cat hs = kid 0 (same_value t cat) hs
-row_fits s (Call f) t cat hs = passes (λ (g : Func). not (is_special g.kind) && is_result (result_of g) t cat && are_words (words_of g) hs) (slice_get s.funcs f)
-row_fits s (VirtualCall f n slot pointer) t cat hs = passes (λ (g : Func). is_virtual_call s n slot t cat g && are_words (words_of g) hs) (slice_get s.funcs f) && kid 0 (λ h. has_pointer_at s.classes pointer h.typ) hs
-row_fits s PointerCall t cat hs = kid 0 (λ h. is_prvalue h.cat && passes (λ (g : Signature). is_result (result_in Plain g) t cat && are_words (signature_words None g) (drop 1 hs)) (called_in (form_in h.typ))) hs
+row_fits s (Call f) t cat hs = passes (λ (g : Func). not (is_special g.kind) && is_result (result_of g) t cat
+    && are_words (words_of g) hs) (slice_get s.funcs f)
+row_fits s (VirtualCall f n slot pointer) t cat hs = passes (λ (g : Func). is_virtual_call s n slot t cat g
+    && are_words (words_of g) hs) (slice_get s.funcs f) && kid 0 (λ h. has_pointer_at s.classes pointer h.typ) hs
+row_fits s PointerCall t cat hs = kid 0 (λ h. is_prvalue h.cat && passes (λ (g : Signature). is_result (result_in Plain g) t cat
+    && are_words (signature_words None g) (drop 1 hs)) (called_in (form_in h.typ))) hs
 row_fits s (CallBuiltin b) t cat hs = is_prvalue cat && typ_eq t (typ (builtin_result b) false false) && are_words (builtin_words b) hs
 row_fits s Throw t cat hs = is_prvalue cat && typ_eq t (unqualified t) && kid 0 (is_thrown t) hs && are_scalars s.classes t (drop 1 hs)
 row_fits s Rethrow t cat hs = is_statement_typ t cat
 row_fits s (Store k volatile) t cat hs = is_prvalue cat && is_access k volatile t && kid 0 (initialises t) hs
 row_fits s (CopyScalar k volatile) t cat hs = is_prvalue cat && is_access k volatile t
-row_fits s (Construct f) t cat hs = is_prvalue cat && passes (λ (g : Func). is_constructor_of t g.kind g.class && are_words (signature_words None g.declared.signature) hs) (slice_get s.funcs f)
-row_fits s (CopyConstruct f) t cat hs = is_prvalue cat && passes (λ (g : Func). is_constructor_of t g.kind g.class && length (words_of g) == 2) (slice_get s.funcs f)
+row_fits s (Construct f) t cat hs = is_prvalue cat && passes (λ (g : Func). is_constructor_of t g.kind g.class
+    && are_words (signature_words None g.declared.signature) hs) (slice_get s.funcs f)
+row_fits s (CopyConstruct f) t cat hs = is_prvalue cat && passes (λ (g : Func). is_constructor g.kind && passes (λ (n : ℕ). is_class n (form_in t)
+    && takes_itself n g.declared.signature) g.class) (slice_get s.funcs f)
 row_fits s CopyFrom t cat hs = is_prvalue cat && kid 0 (is_copied_from t) hs && kid 1 (builds t) hs
 row_fits s Pieces t cat hs = is_prvalue cat && are_pieces s.classes t hs
 row_fits s (Piece offset) t cat hs = is_prvalue cat && kid 0 (builds t) hs && are_destructions s t (drop 1 hs)
-row_fits s (Elements count stride) t cat hs = is_prvalue cat && nat_lt 0 count && kid 0 (λ h. are_elements s.classes count stride 1 t h && are_destructions s h.typ (drop 1 hs)) hs
+row_fits s (Elements count stride) t cat hs = is_prvalue cat && nat_lt 0 count && kid 0 (λ h. are_elements s.classes count stride 1 t h
+    && are_destructions s h.typ (drop 1 hs)) hs
 row_fits s (Block subobjects) t cat hs = is_statement_typ t cat
-row_fits s Init t cat hs = is_statement_typ t cat && two_kids (λ address init. is_lvalue address.cat && builds address.typ init && are_destructions s address.typ (drop 2 hs) || is_prvalue address.cat && is_void address.typ && length hs == 2) hs
+row_fits s Init t cat hs = is_statement_typ t cat && two_kids (λ address init. is_lvalue address.cat && builds address.typ init
+    && are_destructions s address.typ (drop 2 hs) || is_prvalue address.cat && is_void address.typ && is_loaded address.kind && length hs == 2) hs
 row_fits s Defer t cat hs = is_statement_typ t cat && kid 0 (λ h. is_lvalue h.cat && are_destructions s h.typ (drop 1 hs)) hs
 row_fits s (Loop test_first) t cat hs = is_statement_typ t cat && kid 0 is_bool hs
-row_fits s Switch t cat hs = is_statement_typ t cat && kid 0 (λ h. is_prvalue h.cat && gives_promoted (kind_in (form_in h.typ)) && are_cases (kind_in (form_in h.typ)) (drop 1 hs)) hs
+row_fits s Switch t cat hs = is_statement_typ t cat && kid 0 (λ h. is_prvalue h.cat && gives_promoted (kind_in (form_in h.typ))
+    && are_cases (kind_in (form_in h.typ)) (drop 1 hs)) hs
 row_fits s (Case w) t cat hs = is_statement_typ t cat
 row_fits s Default t cat hs = is_statement_typ t cat
 row_fits s Break t cat hs = is_statement_typ t cat

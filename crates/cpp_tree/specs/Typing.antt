@@ -61,7 +61,8 @@ is_class n (class k) = k == n
 is_class n (closure k) = k == n
 is_class n f = false
 
--- a part of this type in an object with these qualifiers: an array is qualified where its elements are, and what a reference refers to keeps its own (C++14 3.9.3, 5.2.5)
+-- a part of this type in an object with these qualifiers: an array is qualified where its elements are, and what a reference refers to keeps its own
+-- (C++14 3.9.3, 5.2.5)
 abbrev pub qualified : Bool → Bool → Typ → Typ
 qualified c v (typ (array t n) d w) = typ (array (qualified c v t) n) d w
 qualified c v (typ (ref t) d w) = typ (ref t) d w
@@ -183,7 +184,8 @@ is_argument kind = false
 -- the object; the argument's own object for a parameter of class type; or a value
 abbrev pub is_word : Word → Head → Bool
 is_word (object n) h = is_lvalue h.cat && is_class n (form_in h.typ) && not (is_argument h.kind)
-is_word (passed (typ f c v)) h = cond (is_object_form f) (is_argument h.kind && is_lvalue_of (typ f false false) h) (not (is_argument h.kind) && initialises (typ f c v) h)
+is_word (passed (typ f c v)) h = cond (is_object_form f) (is_argument h.kind && is_lvalue_of (typ f false false) h) (not (is_argument h.kind)
+    && initialises (typ f c v) h)
 
 -- one for each word
 abbrev pub are_words : List Word → List Head → Bool

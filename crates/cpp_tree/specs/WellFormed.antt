@@ -6,12 +6,12 @@ use Rattle.cpp_types.specs.Class.{InOrder, classes_of}
 use Rattle.cpp_types.specs.Equal.{flag_eq, typ_eq}
 use Rattle.cpp_types.specs.declared.ranks.Cat.{Cat}
 use Rattle.cpp_tree.specs.declared.kinds.TKind.{TKind}
-use Rattle.cpp_tree.specs.declared.kinds.TKind.TheVariants.{Literal, Local, Materialize, FullExpression, Store, Pieces, Piece, Elements, Block, Init, Defer, Loop, Switch, Break, Continue, Return, Handler}
+use Rattle.cpp_tree.specs.declared.kinds.TKind.TheVariants.{Literal, Local, Conditional, Materialize, FullExpression, Store, Pieces, Piece, Elements, Block, Init, Defer, Loop, Switch, Break, Continue, Return, Handler}
 use Rattle.cpp_tree.specs.declared.arena.TNode.{TNode}
 use Rattle.cpp_tree.specs.declared.arena.TNodeId.{TNodeId}
 use Rattle.cpp_tree.specs.declared.roles.Position.{Position}
 use Rattle.cpp_tree.specs.declared.roles.Role.{Role}
-use Rattle.cpp_tree.specs.declared.roles.Role.TheVariants.{Value, Zero, ZeroWord, ZeroPart, Statement}
+use Rattle.cpp_tree.specs.declared.roles.Role.TheVariants.{Value, Zero, ZeroWord, ZeroPart, Statement, BlockItem, SwitchItem}
 use Rattle.cpp_tree.specs.declared.program.FuncKind.{FuncKind}
 use Rattle.cpp_tree.specs.declared.program.TFunc.{TFunc}
 use Rattle.cpp_tree.specs.declared.program.UnitTree.{UnitTree}
@@ -20,7 +20,7 @@ use Rattle.cpp_tree.specs.Trees.{Tree, node, Trees, none, more, kind_of, kids_of
 use Rattle.cpp_tree.specs.Arena.{IsOrdered, IsForest, trees_of, trees_at, tree_at}
 use Rattle.cpp_tree.specs.Units.{Func, Param, func_of, global_of, slot_of}
 use Rattle.cpp_tree.specs.Typing.{Head, head_of, passes, form_in, is_void, is_class_typ, is_class, is_prvalue, is_statement_typ}
-use Rattle.cpp_tree.specs.Roles.{Kids, kids_for, role_at, serves, way_fits, is_label}
+use Rattle.cpp_tree.specs.Roles.{Kids, kids_for, role_at, serves, way_fits, is_throw, is_label}
 use Rattle.cpp_tree.specs.Rows.{Setting, row_fits, is_constructor, is_destructor, result_of, object_words, words_of}
 
 -- Positions: what is open round a node
@@ -35,7 +35,8 @@ inside (Loop test_first) p = record p { breaks = true; continues = true }
 inside Switch p = record p { breaks = true }
 inside kind p = p
 
--- a node may stand there: with destructions as a temporary only in a full-expression, a jump only in what it leaves, and what a destructor puts off only in one
+-- a node may stand there: with destructions as a temporary only in a full-expression, a jump only in what it leaves, and what a destructor puts off
+-- only in one
 abbrev pub may_stand : FuncKind → Position → TKind → (many : ℕ) → Bool
 may_stand f p (Materialize place argument) many = argument || many == 1 || p.full
 may_stand f p Break many = p.breaks
@@ -106,8 +107,23 @@ kids_in role kind t hs = kids_for role kind (is_void t) (no_object hs)
 abbrev pub row_or_zero : Setting → Role → TKind → Typ → Cat → List Head → Bool
 row_or_zero s role kind t cat hs = cond (is_zero_role role) (is_statement_typ t cat) (row_fits s kind t cat hs)
 
+-- a conditional without a type has operands without one, but as a statement
+abbrev pub is_statement_role : Role → Bool
+is_statement_role Statement = true
+is_statement_role BlockItem = true
+is_statement_role SwitchItem = true
+is_statement_role role = false
+
+abbrev pub has_no_typ : Head → Bool
+has_no_typ h = is_throw h.kind || is_void h.typ
+
+abbrev pub branches_fit : Role → TKind → Typ → List Head → Bool
+branches_fit role Conditional t hs = is_statement_role role || not (is_void t) || list_all has_no_typ (drop 1 hs)
+branches_fit role kind t hs = true
+
 abbrev pub stands : Setting → Position → Role → TKind → Typ → Cat → List Head → Bool
-stands s p role kind t cat hs = serves role kind && way_fits role kind t cat && may_stand s.function.kind p kind (length hs) && row_or_zero s role kind t cat hs
+stands s p role kind t cat hs = serves role kind && way_fits role kind t cat && may_stand s.function.kind p kind (length hs)
+    && branches_fit role kind t hs && row_or_zero s role kind t cat hs
 
 abbrev pub enough : Kids → ℕ → Bool
 enough kids many = nat_le (length kids.fixed) many
@@ -128,7 +144,8 @@ abbrev mutual
   -- the kids from a place on
   pub kids_fit : Setting → Position → Kids → ℕ → Trees → Bool
   kids_fit s p kids i none = true
-  kids_fit s p kids i (more t ts) = is_some (role_at kids i) && is_kid (kind_of t) && fits s p (unwrap_or (role_at kids i) Value) t && kids_fit s p kids (suc i) ts
+  kids_fit s p kids i (more t ts) = is_some (role_at kids i) && is_kid (kind_of t) && fits s p (unwrap_or (role_at kids i) Value) t
+      && kids_fit s p kids (suc i) ts
 
 -- Bodies of functions
 
@@ -149,7 +166,8 @@ last_is_return last (more t ts) = last_is_return (is_return (kind_of t)) ts
 abbrev pub ends_well : Typ → Tree → Bool
 ends_well result body = is_void result || last_is_return false (kids_of body)
 
--- the words of a call are the first items of the frame: a pointer where the result is a class, a pointer for the object, and each parameter, one of class type as a pointer
+-- the words of a call are the first items of the frame: a pointer where the result is a class, a pointer for the object, and each parameter, one of
+-- class type as a pointer
 abbrev pub result_items : Typ → List Typ
 result_items t = cond (is_class_typ t) (typ (ptr t) false false ∷ []) []
 
@@ -172,13 +190,15 @@ object_and_params (Some n) params [] = false
 object_and_params (Some n) params (item ∷ items) = is_object_item n item && begin_with params items
 
 abbrev pub words_begin : Func → Bool
-words_begin f = begin_with (result_items (result_of f)) f.frame && object_and_params f.class (map param_item f.params) (drop (length (result_items (result_of f))) f.frame)
+words_begin f = begin_with (result_items (result_of f)) f.frame
+    && object_and_params f.class (map param_item f.params) (drop (length (result_items (result_of f))) f.frame)
 
 abbrev pub count_of_words : Func → ℕ
 count_of_words f = length (result_items (result_of f)) + length (words_of f)
 
 abbrev pub words_fit : Func → Bool
-words_fit f = f.words == count_of_words f && count_of_words f == length (result_items (result_of f)) + length (object_words f.class) + length f.params && words_begin f
+words_fit f = f.words == count_of_words f && count_of_words f == length (result_items (result_of f)) + length (object_words f.class) + length f.params
+    && words_begin f
 
 -- Places of the frame
 
@@ -208,7 +228,8 @@ is_free_place f place = nat_le f.words place && nat_lt place (length f.frame)
 abbrev pub times : ℕ → List ℕ → ℕ
 times n ns = count_by (λ (m : ℕ). nat_eq m n) ns
 
--- A body of a function: its nodes fit; it is the block that its function asks for and ends as that does; the words of a call are the first items of the frame, and what is made in the body has the other items, each its own
+-- A body of a function: its nodes fit; it is the block that its function asks for and ends as that does; the words of a call are the first items of
+-- the frame, and what is made in the body has the other items, each its own
 pub record WellFormedBody (s : Setting) (body : Tree) : Type 0 where
   pub nodes : fits s outermost Statement body ≡ true
   pub block : is_body_of s.function.kind (kind_of body) ≡ true
@@ -223,7 +244,8 @@ are_distinct [] = true
 are_distinct (n ∷ ns) = times n ns == 0 && are_distinct ns
 
 abbrev pub body_fits : Setting → Tree → Bool
-body_fits s body = fits s outermost Statement body && is_body_of s.function.kind (kind_of body) && ends_well (result_of s.function) body && words_fit s.function && list_all (is_free_place s.function) (places_of body) && are_distinct (places_of body)
+body_fits s body = fits s outermost Statement body && is_body_of s.function.kind (kind_of body) && ends_well (result_of s.function) body
+    && words_fit s.function && list_all (is_free_place s.function) (places_of body) && are_distinct (places_of body)
 
 abbrev pub setting_of : Program → UnitTree → TFunc → Setting
 setting_of p u f = record { classes = classes_of p.classes.items; slots = map (λ slots. map slot_of slots.items) p.slots.items; funcs = map (func_of (trees_of u.nodes.items)) u.funcs.items; globals = map global_of u.globals.items; function = func_of (trees_of u.nodes.items) f }

@@ -1,10 +1,10 @@
 //! Trees that are well-formed, and for each rule of well-formed programs the nearest ones that are not. A function
 //! here does nothing: its clauses are computed by the check.
 ghost use Rattle.std.specs.Prelude.{◌≡◌, ◌∷◌, [], Some, None, true, false};
-ghost use Rattle.tx_ints.specs.declared.kinds.IntKind.TheVariants.{Int, Long, ULong};
+ghost use Rattle.tx_ints.specs.declared.kinds.IntKind.TheVariants.{Bool as BoolKind, Int, Long, ULong};
 ghost use Rattle.tx_ints.specs.declared.kinds.BinOp.TheVariants.{Add};
 ghost use Rattle.cpp_types.specs.Typ.{int, array};
-ghost use Rattle.cpp_tree.specs.declared.kinds.TKind.TheVariants.{Literal, Local, Global, Load, Binary, Assign, FullExpression, Call, Store, CopyScalar, Elements, Block, Init, Defer, Case, Default, Break, Continue, Return, Try, Handler, Destroy};
+ghost use Rattle.cpp_tree.specs.declared.kinds.TKind.TheVariants.{Literal, Local, Global, Load, Binary, Conditional, Comma, Assign, FullExpression, Call, Store, CopyScalar, Elements, Block, Init, Defer, Case, Default, Break, Continue, Return, Try, Handler, Destroy};
 ghost use Rattle.cpp_tree.specs.Notation.{plain, effect, prvalue, lvalue};
 ghost use Rattle.cpp_tree.specs.Examples.{item_fits, body, int_type, d, number, place, read, returned, block, build, destroy, variable, stored, temporary, member, argument, loop, switch, thrown, field, when};
 
@@ -24,12 +24,15 @@ pub fn well_formed()
 {}
 
 /// A node has the kids, the type and the category of its row, and numbers that are indexes and sizes.
+#[tactic(auto, unfolding(tx_ints::specs::Integers::reduced, tx_ints::specs::Words::word_of))]
 pub fn rows()
     ensures kids { item_fits (returned (prvalue (Load Int false) int_type [])) ≡ false }
     ensures more_kids { item_fits (returned (prvalue (Load Int false) int_type (place 0 ∷ place 0 ∷ []))) ≡ false }
     ensures index { item_fits (returned (read (place 9))) ≡ false }
     ensures typ { item_fits (returned (prvalue (Load Int false) int_type (lvalue (Local 1) int_type [] ∷ []))) ≡ false }
     ensures category { item_fits (returned (read (prvalue (Local 0) int_type []))) ≡ false }
+    ensures branches { item_fits (effect Conditional (prvalue (Literal 1) (plain (int BoolKind)) [] ∷ number 1 ∷ number 2 ∷ [])) ≡ true }
+    ensures void_branches { item_fits (prvalue Comma int_type (effect Conditional (prvalue (Literal 1) (plain (int BoolKind)) [] ∷ number 1 ∷ number 2 ∷ []) ∷ number 3 ∷ [])) ≡ false }
     ensures stride { item_fits (effect Init (lvalue (Local 1) d [] ∷ prvalue (Elements 1 4) d (build ∷ []) ∷ [])) ≡ false }
 {}
 

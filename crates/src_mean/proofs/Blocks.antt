@@ -25,8 +25,8 @@ use Rattle.cpp_tree.specs.declared.kinds.TKind.TheVariants.{Literal, Local, Glob
 use Rattle.cpp_tree.specs.Trees.{Tree, node, Trees, none, more, kind_of, typ_in}
 use Rattle.src_mean.specs.Linked.{Func, Program}
 use Rattle.src_mean.specs.Exceptions.{Exception, is_object_typ, catches, read_bytes}
-use Rattle.src_mean.specs.Frames.{Here, Way, Exit, throws, returns, breaks, continues, Waiting, Owner, Callee, known, virtual, pointer, builtin, Frame, Run, Gives, Leaves, Loads, Loaded, Replied, StoreTo, UpdateAt, UpdateOld, Filled, Converts, Apply, UpdateBy, Words, Slot, Pointer, Passes, Called, Full, Scope, Waits, Cleans, Due, Destroys, Parts, Each, Items, Test, Body, Compares, Switches, Returning, Opens, Within, Closes, Fills, Tries, Trying, Takes, Taking, Handling, Starts, Halted, Ended, State, at, blocks_of, handled, puts, puts_some, same_owner}
-use Rattle.src_mean.specs.Source.{trap_of, finish, enter, enter_found, enter_pointed, is_safe, spawn, built_in, invoke, next_word, call, call_slot, halt, leave, leave_call, try_first, is_throw, rethrow, return_value, first_part, destroy, handle, take_field, fill_field, run_node, give, reply_word, result_words, target_of, source_of, case_word, applied, read, write, converted, updated, plus, stored_bytes, begins, main_state, empty_stack, pointed_func, thread_signature, source}
+use Rattle.src_mean.specs.Frames.{Here, Way, Exit, throws, returns, breaks, continues, Waiting, Owner, Callee, known, virtual, pointer, builtin, Frame, Run, Gives, Leaves, Loads, Loaded, Replied, StoreTo, UpdateAt, UpdateOld, Filled, Converts, Apply, UpdateBy, Words, Slot, Pointer, Passes, Called, Full, Scope, Waits, Cleans, Due, Destroys, Parts, Each, Items, Test, Body, Picks, Compares, Switches, Returning, Opens, Within, Closes, Fills, Tries, Trying, Takes, Taking, Handling, Starts, Halted, Ended, State, at, blocks_of, handled, puts, puts_some, same_owner}
+use Rattle.src_mean.specs.Source.{trap_of, finish, enter, enter_found, enter_pointed, is_safe, spawn, built_in, invoke, next_word, call, call_slot, halt, leave, leave_call, try_first, is_throw, rethrow, return_value, first_part, destroy, handle, take_field, fill_field, compare, from_label, is_case, run_node, give, reply_word, result_words, target_of, source_of, case_word, applied, read, write, converted, updated, plus, stored_bytes, begins, main_state, empty_stack, pointed_func, thread_signature, source}
 use Rattle.src_mean.specs.Laws.{closes_block, LeftOnce, is_passed, is_last, quiet, opens, closes, is_plain, is_done, settled, IsSettled, follows, is_hidden, GoesOn, Begins, StaysSafe, IsSafeState}
 
 -- a settled state with these blocks
@@ -248,6 +248,10 @@ fills : (h : Here) (t : Typ) (from : ℕ) (kind : TKind) (ts : Trees) (bytes : L
 fills h t from (Field o c) ts bytes k q = either (is_object_typ t) (blocks_of k) _ _ (reads h (plus from o) c false (Filled t from o c ts bytes ∷ k) q) (record { settled = q; same = refl })
 fills h t from kind ts bytes k q = record { settled = q; same = refl }
 
+compares : (h : Here) (w : ℕ) (ts items : Trees) (k : List Frame) → quiet k ≡ true → Good (blocks_of k) (compare h w ts items k)
+compares h w none items k q = record { settled = q; same = refl }
+compares h w (more t ts) items k q = record { settled = q; same = refl }
+
 gives : (p : Program) (h : Here) (v : ℕ) (k : List Frame) → quiet k ≡ true → Good (blocks_of k) (give p h v k)
 gives p h v [] q = record { settled = refl; same = refl }
 gives p h v (Opens block body ∷ k) q = absurd (false≢true q)
@@ -283,8 +287,8 @@ gives p h v (Each init ds stride (suc n) t s ∷ k) q = record { settled = q; sa
 gives p h v (Items none ∷ k) q = gives p h 0 k q
 gives p h v (Items (more t ts) ∷ k) q = record { settled = q; same = refl }
 gives p h v (Test test body step ∷ k) q = either (v == 0) (blocks_of k) _ _ (record { settled = q; same = refl }) (record { settled = q; same = refl })
-gives p h v (Compares w none items ∷ k) q = record { settled = q; same = refl }
-gives p h v (Compares w (more t ts) items ∷ k) q = either (case_word (kind_of t) == w) (blocks_of k) _ _ (record { settled = q; same = refl }) (record { settled = q; same = refl })
+gives p h v (Picks items ∷ k) q = compares h v (from_label is_case items) items k q
+gives p h v (Compares w label ts items ∷ k) q = either (case_word label == w) (blocks_of k) _ _ (record { settled = q; same = refl }) (compares h w (from_label is_case ts) items k q)
 gives p h v (Switches ∷ k) q = gives p h 0 k q
 gives p h v (Returning ∷ k) q = leaves h (returns v) k q
 gives p h v (Within Sync ∷ k) q = record { settled = q; same = refl }

@@ -23,7 +23,7 @@ abbrev pub return_zero_main : Func
 return_zero_main = defined (codes "main()") (codes "main") Plain None
     (signature none_typs (plain (int Int)) false) false false 0
     [] [] (
-  effect (Block false) (
+    effect (Block false) (
     (effect Return ((prvalue (Literal 0) (plain (int Int)) []) ∷ [])) ∷
     (effect Return ((prvalue (Literal 0) (plain (int Int)) []) ∷ [])) ∷ []))
 
@@ -45,18 +45,18 @@ abbrev pub thin_path_main : Func
 thin_path_main = defined (codes "main()") (codes "main") Plain None
     (signature none_typs (plain (int Int)) false) false false 0
     [] [] (
-  effect (Block false) (
+    effect (Block false) (
     (effect (Atomic NoExcept) (
-      (effect (Block false) (
-        (lvalue (Assign Int false) (plain (int Int)) (
-          (lvalue (Global 0) (plain (int Int)) []) ∷
-          (prvalue (Binary Add Int) (plain (int Int)) (
-            (prvalue (Load Int false) (plain (int Int)) ((lvalue (Global 0) (plain (int Int)) []) ∷ [])) ∷
-            (prvalue (Literal 1) (plain (int Int)) []) ∷ [])) ∷ [])) ∷ [])) ∷ [])) ∷
+    (effect (Block false) (
+    (lvalue (Assign Int false) (plain (int Int)) (
+    (lvalue (Global 0) (plain (int Int)) []) ∷
+    (prvalue (Binary Add Int) (plain (int Int)) (
+    (prvalue (Load Int false) (plain (int Int)) ((lvalue (Global 0) (plain (int Int)) []) ∷ [])) ∷
+    (prvalue (Literal 1) (plain (int Int)) []) ∷ [])) ∷ [])) ∷ [])) ∷ [])) ∷
     (prvalue (Builtin PutChar) (plain (int Int)) (
-      (prvalue (Binary Add Int) (plain (int Int)) (
-        (prvalue (Convert Int) (plain (int Int)) ((prvalue (Literal 48) (plain (int Char)) []) ∷ [])) ∷
-        (prvalue (Load Int false) (plain (int Int)) ((lvalue (Global 0) (plain (int Int)) []) ∷ [])) ∷ [])) ∷ [])) ∷
+    (prvalue (Binary Add Int) (plain (int Int)) (
+    (prvalue (Convert Int) (plain (int Int)) ((prvalue (Literal 48) (plain (int Char)) []) ∷ [])) ∷
+    (prvalue (Load Int false) (plain (int Int)) ((lvalue (Global 0) (plain (int Int)) []) ∷ [])) ∷ [])) ∷ [])) ∷
     (effect Return ((prvalue (Literal 0) (plain (int Int)) []) ∷ [])) ∷
     (effect Return ((prvalue (Literal 0) (plain (int Int)) []) ∷ [])) ∷ []))
 
@@ -79,15 +79,15 @@ abbrev pub thin_path_overflow_main : Func
 thin_path_overflow_main = defined (codes "main()") (codes "main") Plain None
     (signature none_typs (plain (int Int)) false) false false 0
     [] [] (
-  effect (Block false) (
+    effect (Block false) (
     (lvalue (Assign Int false) (plain (int Int)) (
-      (lvalue (Global 0) (plain (int Int)) []) ∷
-      (prvalue (Literal 2147483647) (plain (int Int)) []) ∷ [])) ∷
+    (lvalue (Global 0) (plain (int Int)) []) ∷
+    (prvalue (Literal 2147483647) (plain (int Int)) []) ∷ [])) ∷
     (lvalue (Assign Int false) (plain (int Int)) (
-      (lvalue (Global 0) (plain (int Int)) []) ∷
-      (prvalue (Binary Add Int) (plain (int Int)) (
-        (prvalue (Load Int false) (plain (int Int)) ((lvalue (Global 0) (plain (int Int)) []) ∷ [])) ∷
-        (prvalue (Literal 1) (plain (int Int)) []) ∷ [])) ∷ [])) ∷
+    (lvalue (Global 0) (plain (int Int)) []) ∷
+    (prvalue (Binary Add Int) (plain (int Int)) (
+    (prvalue (Load Int false) (plain (int Int)) ((lvalue (Global 0) (plain (int Int)) []) ∷ [])) ∷
+    (prvalue (Literal 1) (plain (int Int)) []) ∷ [])) ∷ [])) ∷
     (effect Return ((prvalue (Literal 0) (plain (int Int)) []) ∷ [])) ∷
     (effect Return ((prvalue (Literal 0) (plain (int Int)) []) ∷ [])) ∷ []))
 
@@ -114,65 +114,66 @@ abbrev pub cancelled_block_main : Func
 cancelled_block_main = defined (codes "main()") (codes "main") Plain None
     (signature none_typs (plain (int Int)) false) false false 0
     [] ((plain (int Int)) ∷ (plain (tx_ex (plain (int Int)))) ∷ (const (tx_ex (plain (int Int)))) ∷ []) (
-  effect (Block false) (
+    effect (Block false) (
     (effect Init (
-      (lvalue (Local 0) (plain (int Int)) []) ∷
-      (prvalue (Store Int false) (plain (int Int)) ((prvalue (Literal 4) (plain (int Int)) []) ∷ [])) ∷ [])) ∷
+    (lvalue (Local 0) (plain (int Int)) []) ∷
+    (prvalue (Store Int false) (plain (int Int)) ((prvalue (Literal 4) (plain (int Int)) []) ∷ [])) ∷ [])) ∷
     (effect Try (
-      (effect (Block false) (
-        (effect (Atomic Cancel) (
-          (effect (Block false) (
-            (lvalue (Assign Int false) (plain (int Int)) (
-              (lvalue (Global 1) (plain (int Int)) []) ∷
-              (prvalue (Literal 7) (plain (int Int)) []) ∷ [])) ∷
-            (lvalue (Assign Int false) (plain (int Int)) (
-              (lvalue Retype (plain (int Int)) (
-                (prvalue (Binary Add ULong) (plain (ptr (plain (int Int)))) (
-                  (prvalue Retype (plain (ptr (plain (int Int)))) ((lvalue (Global 0) (plain (array (plain (int Int)) 2)) []) ∷ [])) ∷
-                  (prvalue (Binary Mul ULong) (plain (int ULong)) (
-                    (prvalue (Convert ULong) (plain (int ULong)) ((prvalue (Literal 1) (plain (int Int)) []) ∷ [])) ∷
-                    (prvalue (Literal 4) (plain (int ULong)) []) ∷ [])) ∷ [])) ∷ [])) ∷
-              (prvalue (Literal 8) (plain (int Int)) []) ∷ [])) ∷
-            (lvalue (Assign Int false) (plain (int Int)) (
-              (lvalue (Local 0) (plain (int Int)) []) ∷
-              (prvalue (Literal 9) (plain (int Int)) []) ∷ [])) ∷
-            (prvalue Throw (plain (tx_ex (plain (int Int)))) (
-              (lvalue (Materialize 1 false) (plain (tx_ex (plain (int Int)))) (
-                (prvalue (Store Int false) (plain (int Int)) ((prvalue (Literal 5) (plain (int Int)) []) ∷ [])) ∷ [])) ∷
-              (effect (Field 0 Int) []) ∷ [])) ∷ [])) ∷ [])) ∷ [])) ∷
-      (prvalue (Handler (Some 2)) (plain (ref (const (tx_ex (plain (int Int)))))) (
-        (effect (Block false) (
-          (prvalue (Builtin PutChar) (plain (int Int)) (
-            (prvalue (Binary Add Int) (plain (int Int)) (
-              (prvalue (Convert Int) (plain (int Int)) ((prvalue (Literal 48) (plain (int Char)) []) ∷ [])) ∷
-              (prvalue (Load Int false) (plain (int Int)) ((lvalue (Global 1) (plain (int Int)) []) ∷ [])) ∷ [])) ∷ [])) ∷
-          (prvalue (Builtin PutChar) (plain (int Int)) (
-            (prvalue (Binary Add Int) (plain (int Int)) (
-              (prvalue (Convert Int) (plain (int Int)) ((prvalue (Literal 48) (plain (int Char)) []) ∷ [])) ∷
-              (prvalue (Load Int false) (plain (int Int)) (
-                (lvalue Retype (plain (int Int)) (
-                  (prvalue (Binary Add ULong) (plain (ptr (plain (int Int)))) (
-                    (prvalue Retype (plain (ptr (plain (int Int)))) ((lvalue (Global 0) (plain (array (plain (int Int)) 2)) []) ∷ [])) ∷
-                    (prvalue (Binary Mul ULong) (plain (int ULong)) (
-                      (prvalue (Convert ULong) (plain (int ULong)) ((prvalue (Literal 1) (plain (int Int)) []) ∷ [])) ∷
-                      (prvalue (Literal 4) (plain (int ULong)) []) ∷ [])) ∷ [])) ∷ [])) ∷ [])) ∷ [])) ∷ [])) ∷
-          (prvalue (Builtin PutChar) (plain (int Int)) (
-            (prvalue (Binary Add Int) (plain (int Int)) (
-              (prvalue (Convert Int) (plain (int Int)) ((prvalue (Literal 48) (plain (int Char)) []) ∷ [])) ∷
-              (prvalue (Load Int false) (plain (int Int)) ((lvalue (Local 0) (plain (int Int)) []) ∷ [])) ∷ [])) ∷ [])) ∷
-          (prvalue (Builtin PutChar) (plain (int Int)) (
-            (prvalue (Binary Add Int) (plain (int Int)) (
-              (prvalue (Convert Int) (plain (int Int)) ((prvalue (Literal 48) (plain (int Char)) []) ∷ [])) ∷
-              (prvalue (Load Int false) (plain (int Int)) ((lvalue (Local 2) (const (tx_ex (plain (int Int)))) []) ∷ [])) ∷ [])) ∷ [])) ∷ [])) ∷
-        (effect (Field 0 Int) []) ∷ [])) ∷ [])) ∷
+    (effect (Block false) (
+    (effect (Atomic Cancel) (
+    (effect (Block false) (
+    (lvalue (Assign Int false) (plain (int Int)) (
+    (lvalue (Global 1) (plain (int Int)) []) ∷
+    (prvalue (Literal 7) (plain (int Int)) []) ∷ [])) ∷
+    (lvalue (Assign Int false) (plain (int Int)) (
+    (lvalue Retype (plain (int Int)) (
+    (prvalue (Binary Add ULong) (plain (ptr (plain (int Int)))) (
+    (prvalue Retype (plain (ptr (plain (int Int)))) ((lvalue (Global 0) (plain (array (plain (int Int)) 2)) []) ∷ [])) ∷
+    (prvalue (Binary Mul ULong) (plain (int ULong)) (
+    (prvalue (Convert ULong) (plain (int ULong)) ((prvalue (Literal 1) (plain (int Int)) []) ∷ [])) ∷
+    (prvalue (Literal 4) (plain (int ULong)) []) ∷ [])) ∷ [])) ∷ [])) ∷
+    (prvalue (Literal 8) (plain (int Int)) []) ∷ [])) ∷
+    (lvalue (Assign Int false) (plain (int Int)) (
+    (lvalue (Local 0) (plain (int Int)) []) ∷
+    (prvalue (Literal 9) (plain (int Int)) []) ∷ [])) ∷
+    (prvalue Throw (plain (tx_ex (plain (int Int)))) (
+    (lvalue (Materialize 1 false) (plain (tx_ex (plain (int Int)))) (
+    (prvalue (Store Int false) (plain (int Int)) ((prvalue (Literal 5) (plain (int Int)) []) ∷ [])) ∷ [])) ∷
+    (effect (Field 0 Int) []) ∷ [])) ∷ [])) ∷ [])) ∷ [])) ∷
+    (prvalue (Handler (Some 2)) (plain (ref (const (tx_ex (plain (int Int)))))) (
+    (effect (Block false) (
+    (prvalue (Builtin PutChar) (plain (int Int)) (
+    (prvalue (Binary Add Int) (plain (int Int)) (
+    (prvalue (Convert Int) (plain (int Int)) ((prvalue (Literal 48) (plain (int Char)) []) ∷ [])) ∷
+    (prvalue (Load Int false) (plain (int Int)) ((lvalue (Global 1) (plain (int Int)) []) ∷ [])) ∷ [])) ∷ [])) ∷
+    (prvalue (Builtin PutChar) (plain (int Int)) (
+    (prvalue (Binary Add Int) (plain (int Int)) (
+    (prvalue (Convert Int) (plain (int Int)) ((prvalue (Literal 48) (plain (int Char)) []) ∷ [])) ∷
+    (prvalue (Load Int false) (plain (int Int)) (
+    (lvalue Retype (plain (int Int)) (
+    (prvalue (Binary Add ULong) (plain (ptr (plain (int Int)))) (
+    (prvalue Retype (plain (ptr (plain (int Int)))) ((lvalue (Global 0) (plain (array (plain (int Int)) 2)) []) ∷ [])) ∷
+    (prvalue (Binary Mul ULong) (plain (int ULong)) (
+    (prvalue (Convert ULong) (plain (int ULong)) ((prvalue (Literal 1) (plain (int Int)) []) ∷ [])) ∷
+    (prvalue (Literal 4) (plain (int ULong)) []) ∷ [])) ∷ [])) ∷ [])) ∷ [])) ∷ [])) ∷ [])) ∷
+    (prvalue (Builtin PutChar) (plain (int Int)) (
+    (prvalue (Binary Add Int) (plain (int Int)) (
+    (prvalue (Convert Int) (plain (int Int)) ((prvalue (Literal 48) (plain (int Char)) []) ∷ [])) ∷
+    (prvalue (Load Int false) (plain (int Int)) ((lvalue (Local 0) (plain (int Int)) []) ∷ [])) ∷ [])) ∷ [])) ∷
+    (prvalue (Builtin PutChar) (plain (int Int)) (
+    (prvalue (Binary Add Int) (plain (int Int)) (
+    (prvalue (Convert Int) (plain (int Int)) ((prvalue (Literal 48) (plain (int Char)) []) ∷ [])) ∷
+    (prvalue (Load Int false) (plain (int Int)) ((lvalue (Local 2) (const (tx_ex (plain (int Int)))) []) ∷ [])) ∷ [])) ∷ [])) ∷ [])) ∷
+    (effect (Field 0 Int) []) ∷ [])) ∷ [])) ∷
     (effect Return ((prvalue (Literal 0) (plain (int Int)) []) ∷ [])) ∷
     (effect Return ((prvalue (Literal 0) (plain (int Int)) []) ∷ [])) ∷ []))
 
 abbrev pub cancelled_block : TypedProgram
 cancelled_block = one_unit
     (cancelled_block_main ∷ [])
-    ((global_of (codes "a") (plain (array (plain (int Int)) 2)) (record { offset = 0; size = 4; what = Number; value = 2; symbol = [] } ∷ record { offset = 4; size = 4; what = Number; value = 3; symbol = [] } ∷ [])) ∷
-     (global_of (codes "g") (plain (int Int)) (record { offset = 0; size = 4; what = Number; value = 1; symbol = [] } ∷ [])) ∷ [])
+    ((global_of (codes "a") (plain (array (plain (int Int)) 2)) (record { offset = 0; size = 4; what = Number; value = 2; symbol = [] }
+    ∷ record { offset = 4; size = 4; what = Number; value = 3; symbol = [] } ∷ [])) ∷
+    (global_of (codes "g") (plain (int Int)) (record { offset = 0; size = 4; what = Number; value = 1; symbol = [] } ∷ [])) ∷ [])
     []
     []
 
@@ -190,28 +191,28 @@ abbrev pub inner_cancel_main : Func
 inner_cancel_main = defined (codes "main()") (codes "main") Plain None
     (signature none_typs (plain (int Int)) false) false false 0
     [] ((plain (tx_ex (plain (int Int)))) ∷ []) (
-  effect (Block false) (
+    effect (Block false) (
     (effect (Atomic Commit) (
-      (effect (Block false) (
-        (lvalue (Assign Int false) (plain (int Int)) (
-          (lvalue (Global 0) (plain (int Int)) []) ∷
-          (prvalue (Literal 1) (plain (int Int)) []) ∷ [])) ∷
-        (effect Try (
-          (effect (Block false) (
-            (effect (Atomic Cancel) (
-              (effect (Block false) (
-                (lvalue (Assign Int false) (plain (int Int)) (
-                  (lvalue (Global 0) (plain (int Int)) []) ∷
-                  (prvalue (Literal 2) (plain (int Int)) []) ∷ [])) ∷
-                (prvalue Throw (plain (tx_ex (plain (int Int)))) (
-                  (lvalue (Materialize 0 false) (plain (tx_ex (plain (int Int)))) (
-                    (prvalue (Store Int false) (plain (int Int)) ((prvalue (Literal 0) (plain (int Int)) []) ∷ [])) ∷ [])) ∷
-                  (effect (Field 0 Int) []) ∷ [])) ∷ [])) ∷ [])) ∷ [])) ∷
-          (effect (Handler None) ((effect (Block false) []) ∷ [])) ∷ [])) ∷ [])) ∷ [])) ∷
+    (effect (Block false) (
+    (lvalue (Assign Int false) (plain (int Int)) (
+    (lvalue (Global 0) (plain (int Int)) []) ∷
+    (prvalue (Literal 1) (plain (int Int)) []) ∷ [])) ∷
+    (effect Try (
+    (effect (Block false) (
+    (effect (Atomic Cancel) (
+    (effect (Block false) (
+    (lvalue (Assign Int false) (plain (int Int)) (
+    (lvalue (Global 0) (plain (int Int)) []) ∷
+    (prvalue (Literal 2) (plain (int Int)) []) ∷ [])) ∷
+    (prvalue Throw (plain (tx_ex (plain (int Int)))) (
+    (lvalue (Materialize 0 false) (plain (tx_ex (plain (int Int)))) (
+    (prvalue (Store Int false) (plain (int Int)) ((prvalue (Literal 0) (plain (int Int)) []) ∷ [])) ∷ [])) ∷
+    (effect (Field 0 Int) []) ∷ [])) ∷ [])) ∷ [])) ∷ [])) ∷
+    (effect (Handler None) ((effect (Block false) []) ∷ [])) ∷ [])) ∷ [])) ∷ [])) ∷
     (prvalue (Builtin PutChar) (plain (int Int)) (
-      (prvalue (Binary Add Int) (plain (int Int)) (
-        (prvalue (Convert Int) (plain (int Int)) ((prvalue (Literal 48) (plain (int Char)) []) ∷ [])) ∷
-        (prvalue (Load Int false) (plain (int Int)) ((lvalue (Global 0) (plain (int Int)) []) ∷ [])) ∷ [])) ∷ [])) ∷
+    (prvalue (Binary Add Int) (plain (int Int)) (
+    (prvalue (Convert Int) (plain (int Int)) ((prvalue (Literal 48) (plain (int Char)) []) ∷ [])) ∷
+    (prvalue (Load Int false) (plain (int Int)) ((lvalue (Global 0) (plain (int Int)) []) ∷ [])) ∷ [])) ∷ [])) ∷
     (effect Return ((prvalue (Literal 0) (plain (int Int)) []) ∷ [])) ∷
     (effect Return ((prvalue (Literal 0) (plain (int Int)) []) ∷ [])) ∷ []))
 
@@ -234,26 +235,26 @@ abbrev pub commit_on_throw_main : Func
 commit_on_throw_main = defined (codes "main()") (codes "main") Plain None
     (signature none_typs (plain (int Int)) false) false false 0
     [] ((plain (int Int)) ∷ []) (
-  effect (Block false) (
+    effect (Block false) (
     (effect Try (
-      (effect (Block false) (
-        (effect (Atomic Commit) (
-          (effect (Block false) (
-            (lvalue (Assign Int false) (plain (int Int)) (
-              (lvalue (Global 0) (plain (int Int)) []) ∷
-              (prvalue (Literal 5) (plain (int Int)) []) ∷ [])) ∷
-            (prvalue Throw (plain (int Int)) ((prvalue (Literal 7) (plain (int Int)) []) ∷ (effect (Field 0 Int) []) ∷ [])) ∷ [])) ∷ [])) ∷ [])) ∷
-      (prvalue (Handler (Some 0)) (plain (int Int)) (
-        (effect (Block false) (
-          (prvalue (Builtin PutChar) (plain (int Int)) (
-            (prvalue (Binary Add Int) (plain (int Int)) (
-              (prvalue (Convert Int) (plain (int Int)) ((prvalue (Literal 48) (plain (int Char)) []) ∷ [])) ∷
-              (prvalue (Load Int false) (plain (int Int)) ((lvalue (Global 0) (plain (int Int)) []) ∷ [])) ∷ [])) ∷ [])) ∷
-          (prvalue (Builtin PutChar) (plain (int Int)) (
-            (prvalue (Binary Add Int) (plain (int Int)) (
-              (prvalue (Convert Int) (plain (int Int)) ((prvalue (Literal 48) (plain (int Char)) []) ∷ [])) ∷
-              (prvalue (Load Int false) (plain (int Int)) ((lvalue (Local 0) (plain (int Int)) []) ∷ [])) ∷ [])) ∷ [])) ∷ [])) ∷
-        (effect (Field 0 Int) []) ∷ [])) ∷ [])) ∷
+    (effect (Block false) (
+    (effect (Atomic Commit) (
+    (effect (Block false) (
+    (lvalue (Assign Int false) (plain (int Int)) (
+    (lvalue (Global 0) (plain (int Int)) []) ∷
+    (prvalue (Literal 5) (plain (int Int)) []) ∷ [])) ∷
+    (prvalue Throw (plain (int Int)) ((prvalue (Literal 7) (plain (int Int)) []) ∷ (effect (Field 0 Int) []) ∷ [])) ∷ [])) ∷ [])) ∷ [])) ∷
+    (prvalue (Handler (Some 0)) (plain (int Int)) (
+    (effect (Block false) (
+    (prvalue (Builtin PutChar) (plain (int Int)) (
+    (prvalue (Binary Add Int) (plain (int Int)) (
+    (prvalue (Convert Int) (plain (int Int)) ((prvalue (Literal 48) (plain (int Char)) []) ∷ [])) ∷
+    (prvalue (Load Int false) (plain (int Int)) ((lvalue (Global 0) (plain (int Int)) []) ∷ [])) ∷ [])) ∷ [])) ∷
+    (prvalue (Builtin PutChar) (plain (int Int)) (
+    (prvalue (Binary Add Int) (plain (int Int)) (
+    (prvalue (Convert Int) (plain (int Int)) ((prvalue (Literal 48) (plain (int Char)) []) ∷ [])) ∷
+    (prvalue (Load Int false) (plain (int Int)) ((lvalue (Local 0) (plain (int Int)) []) ∷ [])) ∷ [])) ∷ [])) ∷ [])) ∷
+    (effect (Field 0 Int) []) ∷ [])) ∷ [])) ∷
     (effect Return ((prvalue (Literal 0) (plain (int Int)) []) ∷ [])) ∷
     (effect Return ((prvalue (Literal 0) (plain (int Int)) []) ∷ [])) ∷ []))
 
@@ -276,16 +277,16 @@ abbrev pub cancel_of_int_main : Func
 cancel_of_int_main = defined (codes "main()") (codes "main") Plain None
     (signature none_typs (plain (int Int)) false) false false 0
     [] [] (
-  effect (Block false) (
+    effect (Block false) (
     (effect Try (
-      (effect (Block false) (
-        (effect (Atomic Cancel) (
-          (effect (Block false) (
-            (prvalue Throw (plain (int Int)) ((prvalue (Literal 7) (plain (int Int)) []) ∷ (effect (Field 0 Int) []) ∷ [])) ∷ [])) ∷ [])) ∷ [])) ∷
-      (effect (Handler None) (
-        (effect (Block false) (
-          (prvalue (Builtin PutChar) (plain (int Int)) (
-            (prvalue (Convert Int) (plain (int Int)) ((prvalue (Literal 99) (plain (int Char)) []) ∷ [])) ∷ [])) ∷ [])) ∷ [])) ∷ [])) ∷
+    (effect (Block false) (
+    (effect (Atomic Cancel) (
+    (effect (Block false) (
+    (prvalue Throw (plain (int Int)) ((prvalue (Literal 7) (plain (int Int)) []) ∷ (effect (Field 0 Int) []) ∷ [])) ∷ [])) ∷ [])) ∷ [])) ∷
+    (effect (Handler None) (
+    (effect (Block false) (
+    (prvalue (Builtin PutChar) (plain (int Int)) (
+    (prvalue (Convert Int) (plain (int Int)) ((prvalue (Literal 99) (plain (int Char)) []) ∷ [])) ∷ [])) ∷ [])) ∷ [])) ∷ [])) ∷
     (effect Return ((prvalue (Literal 0) (plain (int Int)) []) ∷ [])) ∷
     (effect Return ((prvalue (Literal 0) (plain (int Int)) []) ∷ [])) ∷ []))
 

@@ -20,7 +20,7 @@ abbrev pub terminate_main : Func
 terminate_main = defined (codes "main()") (codes "main") Plain None
     (signature none_typs (plain (int Int)) false) false false 0
     [] [] (
-  effect (Block false) (
+    effect (Block false) (
     (prvalue Throw (plain (int Int)) ((prvalue (Literal 1) (plain (int Int)) []) ∷ (effect (Field 0 Int) []) ∷ [])) ∷
     (effect Return ((prvalue (Literal 0) (plain (int Int)) []) ∷ [])) ∷ []))
 
@@ -42,7 +42,7 @@ abbrev pub terminate_in_noexcept_0 : Func
 terminate_in_noexcept_0 = defined (codes "f()") (codes "f") Plain None
     (signature none_typs (plain void) false) false true 0
     [] [] (
-  effect (Block false) (
+    effect (Block false) (
     (prvalue Throw (plain (int Int)) ((prvalue (Literal 1) (plain (int Int)) []) ∷ (effect (Field 0 Int) []) ∷ [])) ∷ []))
 
 -- main()
@@ -50,7 +50,7 @@ abbrev pub terminate_in_noexcept_main : Func
 terminate_in_noexcept_main = defined (codes "main()") (codes "main") Plain None
     (signature none_typs (plain (int Int)) false) false false 0
     [] [] (
-  effect (Block false) (
+    effect (Block false) (
     (effect Try ((effect (Block false) ((effect (Call 0) []) ∷ [])) ∷ (effect (Handler None) ((effect (Block false) []) ∷ [])) ∷ [])) ∷
     (effect Return ((prvalue (Literal 0) (plain (int Int)) []) ∷ [])) ∷
     (effect Return ((prvalue (Literal 0) (plain (int Int)) []) ∷ [])) ∷ []))
@@ -84,50 +84,50 @@ abbrev pub rethrow_main : Func
 rethrow_main = defined (codes "main()") (codes "main") Plain None
     (signature none_typs (plain (int Int)) false) false false 0
     [] ((plain (int Int)) ∷ (plain (int Int)) ∷ (const (int Int)) ∷ (plain (int Char)) ∷ []) (
-  effect (Block false) (
+    effect (Block false) (
     (effect Init (
-      (lvalue (Local 0) (plain (int Int)) []) ∷
-      (prvalue (Store Int false) (plain (int Int)) ((prvalue (Literal 0) (plain (int Int)) []) ∷ [])) ∷ [])) ∷
+    (lvalue (Local 0) (plain (int Int)) []) ∷
+    (prvalue (Store Int false) (plain (int Int)) ((prvalue (Literal 0) (plain (int Int)) []) ∷ [])) ∷ [])) ∷
     (effect Try (
-      (effect (Block false) (
-        (effect Try (
-          (effect (Block false) (
-            (prvalue Throw (plain (int Int)) ((prvalue (Literal 4) (plain (int Int)) []) ∷ (effect (Field 0 Int) []) ∷ [])) ∷ [])) ∷
-          (prvalue (Handler (Some 1)) (plain (int Int)) (
-            (effect (Block false) (
-              (lvalue (Assign Int false) (plain (int Int)) (
-                (lvalue (Local 0) (plain (int Int)) []) ∷
-                (prvalue (Load Int false) (plain (int Int)) ((lvalue (Local 1) (plain (int Int)) []) ∷ [])) ∷ [])) ∷
-              (effect Rethrow []) ∷ [])) ∷
-            (effect (Field 0 Int) []) ∷ [])) ∷ [])) ∷ [])) ∷
-      (prvalue (Handler (Some 2)) (plain (ref (const (int Int)))) (
-        (effect (Block false) (
-          (lvalue (Update Add Int Int false false) (plain (int Int)) (
-            (lvalue (Local 0) (plain (int Int)) []) ∷
-            (prvalue (Load Int false) (plain (int Int)) ((lvalue (Local 2) (const (int Int)) []) ∷ [])) ∷ [])) ∷ [])) ∷
-        (effect (Field 0 Int) []) ∷ [])) ∷ [])) ∷
+    (effect (Block false) (
     (effect Try (
-      (effect (Block false) (
-        (effect Try (
-          (effect (Block false) (
-            (prvalue Throw (plain (int Char)) ((prvalue (Literal 120) (plain (int Char)) []) ∷ (effect (Field 0 Char) []) ∷ [])) ∷ [])) ∷
-          (effect (Handler None) (
-            (effect (Block false) (
-              (effect Try (
-                (effect (Block false) (
-                  (prvalue Throw (plain (int Int)) ((prvalue (Literal 2) (plain (int Int)) []) ∷ (effect (Field 0 Int) []) ∷ [])) ∷ [])) ∷
-                (prvalue (Handler None) (plain (int Int)) ((effect (Block false) []) ∷ [])) ∷ [])) ∷
-              (effect Rethrow []) ∷ [])) ∷ [])) ∷ [])) ∷ [])) ∷
-      (prvalue (Handler (Some 3)) (plain (int Char)) (
-        (effect (Block false) (
-          (lvalue (Update Add Int Int false false) (plain (int Int)) (
-            (lvalue (Local 0) (plain (int Int)) []) ∷
-            (prvalue (Convert Int) (plain (int Int)) (
-              (prvalue (Binary Eq Int) (plain (int BoolKind)) (
-                (prvalue (Convert Int) (plain (int Int)) (
-                  (prvalue (Load Char false) (plain (int Char)) ((lvalue (Local 3) (plain (int Char)) []) ∷ [])) ∷ [])) ∷
-                (prvalue (Convert Int) (plain (int Int)) ((prvalue (Literal 120) (plain (int Char)) []) ∷ [])) ∷ [])) ∷ [])) ∷ [])) ∷ [])) ∷
-        (effect (Field 0 Char) []) ∷ [])) ∷ [])) ∷
+    (effect (Block false) (
+    (prvalue Throw (plain (int Int)) ((prvalue (Literal 4) (plain (int Int)) []) ∷ (effect (Field 0 Int) []) ∷ [])) ∷ [])) ∷
+    (prvalue (Handler (Some 1)) (plain (int Int)) (
+    (effect (Block false) (
+    (lvalue (Assign Int false) (plain (int Int)) (
+    (lvalue (Local 0) (plain (int Int)) []) ∷
+    (prvalue (Load Int false) (plain (int Int)) ((lvalue (Local 1) (plain (int Int)) []) ∷ [])) ∷ [])) ∷
+    (effect Rethrow []) ∷ [])) ∷
+    (effect (Field 0 Int) []) ∷ [])) ∷ [])) ∷ [])) ∷
+    (prvalue (Handler (Some 2)) (plain (ref (const (int Int)))) (
+    (effect (Block false) (
+    (lvalue (Update Add Int Int false false) (plain (int Int)) (
+    (lvalue (Local 0) (plain (int Int)) []) ∷
+    (prvalue (Load Int false) (plain (int Int)) ((lvalue (Local 2) (const (int Int)) []) ∷ [])) ∷ [])) ∷ [])) ∷
+    (effect (Field 0 Int) []) ∷ [])) ∷ [])) ∷
+    (effect Try (
+    (effect (Block false) (
+    (effect Try (
+    (effect (Block false) (
+    (prvalue Throw (plain (int Char)) ((prvalue (Literal 120) (plain (int Char)) []) ∷ (effect (Field 0 Char) []) ∷ [])) ∷ [])) ∷
+    (effect (Handler None) (
+    (effect (Block false) (
+    (effect Try (
+    (effect (Block false) (
+    (prvalue Throw (plain (int Int)) ((prvalue (Literal 2) (plain (int Int)) []) ∷ (effect (Field 0 Int) []) ∷ [])) ∷ [])) ∷
+    (prvalue (Handler None) (plain (int Int)) ((effect (Block false) []) ∷ [])) ∷ [])) ∷
+    (effect Rethrow []) ∷ [])) ∷ [])) ∷ [])) ∷ [])) ∷
+    (prvalue (Handler (Some 3)) (plain (int Char)) (
+    (effect (Block false) (
+    (lvalue (Update Add Int Int false false) (plain (int Int)) (
+    (lvalue (Local 0) (plain (int Int)) []) ∷
+    (prvalue (Convert Int) (plain (int Int)) (
+    (prvalue (Binary Eq Int) (plain (int BoolKind)) (
+    (prvalue (Convert Int) (plain (int Int)) (
+    (prvalue (Load Char false) (plain (int Char)) ((lvalue (Local 3) (plain (int Char)) []) ∷ [])) ∷ [])) ∷
+    (prvalue (Convert Int) (plain (int Int)) ((prvalue (Literal 120) (plain (int Char)) []) ∷ [])) ∷ [])) ∷ [])) ∷ [])) ∷ [])) ∷
+    (effect (Field 0 Char) []) ∷ [])) ∷ [])) ∷
     (effect Return ((prvalue (Load Int false) (plain (int Int)) ((lvalue (Local 0) (plain (int Int)) []) ∷ [])) ∷ [])) ∷
     (effect Return ((prvalue (Literal 0) (plain (int Int)) []) ∷ [])) ∷ []))
 
@@ -154,13 +154,13 @@ abbrev pub return_through_scopes_0 : Func
 return_through_scopes_0 = defined (codes "D::D(int)") (codes "D") Constructor (Some 0)
     (signature (more_typs (plain (int Int)) none_typs) (plain void) false) false false 2
     ((plain (int Int)) ∷ []) ((plain (ptr (plain (class 0)))) ∷ (plain (int Int)) ∷ []) (
-  effect (Block true) (
+    effect (Block true) (
     (effect Init (
-      (lvalue (Binary Add ULong) (plain (int Int)) (
-        (prvalue (Load ULong false) (plain (ptr (plain (class 0)))) ((lvalue (Local 0) (plain (ptr (plain (class 0)))) []) ∷ [])) ∷
-        (prvalue (Literal 0) (plain (int ULong)) []) ∷ [])) ∷
-      (prvalue (Store Int false) (plain (int Int)) (
-        (prvalue (Load Int false) (plain (int Int)) ((lvalue (Local 1) (plain (int Int)) []) ∷ [])) ∷ [])) ∷ [])) ∷
+    (lvalue (Binary Add ULong) (plain (int Int)) (
+    (prvalue (Load ULong false) (plain (ptr (plain (class 0)))) ((lvalue (Local 0) (plain (ptr (plain (class 0)))) []) ∷ [])) ∷
+    (prvalue (Literal 0) (plain (int ULong)) []) ∷ [])) ∷
+    (prvalue (Store Int false) (plain (int Int)) (
+    (prvalue (Load Int false) (plain (int Int)) ((lvalue (Local 1) (plain (int Int)) []) ∷ [])) ∷ [])) ∷ [])) ∷
     (effect (Block false) []) ∷ []))
 
 -- D::~D()
@@ -168,39 +168,39 @@ abbrev pub return_through_scopes_1 : Func
 return_through_scopes_1 = defined (codes "D::~D()") (codes "~D") Destructor (Some 0)
     (signature none_typs (plain void) false) false true 1
     [] ((plain (ptr (plain (class 0)))) ∷ []) (
-  effect (Block false) (
+    effect (Block false) (
     (effect (Block false) (
-      (prvalue (Builtin PutChar) (plain (int Int)) (
-        (prvalue (Binary Add Int) (plain (int Int)) (
-          (prvalue (Convert Int) (plain (int Int)) ((prvalue (Literal 48) (plain (int Char)) []) ∷ [])) ∷
-          (prvalue (Load Int false) (plain (int Int)) (
-            (lvalue (Binary Add ULong) (plain (int Int)) (
-              (lvalue Retype (plain (class 0)) (
-                (prvalue (Load ULong false) (plain (ptr (plain (class 0)))) ((lvalue (Local 0) (plain (ptr (plain (class 0)))) []) ∷ [])) ∷ [])) ∷
-              (prvalue (Literal 0) (plain (int ULong)) []) ∷ [])) ∷ [])) ∷ [])) ∷ [])) ∷ [])) ∷ []))
+    (prvalue (Builtin PutChar) (plain (int Int)) (
+    (prvalue (Binary Add Int) (plain (int Int)) (
+    (prvalue (Convert Int) (plain (int Int)) ((prvalue (Literal 48) (plain (int Char)) []) ∷ [])) ∷
+    (prvalue (Load Int false) (plain (int Int)) (
+    (lvalue (Binary Add ULong) (plain (int Int)) (
+    (lvalue Retype (plain (class 0)) (
+    (prvalue (Load ULong false) (plain (ptr (plain (class 0)))) ((lvalue (Local 0) (plain (ptr (plain (class 0)))) []) ∷ [])) ∷ [])) ∷
+    (prvalue (Literal 0) (plain (int ULong)) []) ∷ [])) ∷ [])) ∷ [])) ∷ [])) ∷ [])) ∷ []))
 
 -- f()
 abbrev pub return_through_scopes_2 : Func
 return_through_scopes_2 = defined (codes "f()") (codes "f") Plain None
     (signature none_typs (plain (int Int)) false) false false 0
     [] ((plain (class 0)) ∷ (plain (class 0)) ∷ (plain (class 0)) ∷ []) (
-  effect (Block false) (
+    effect (Block false) (
     (effect Init (
-      (lvalue (Local 0) (plain (class 0)) []) ∷
-      (prvalue (Construct 0) (plain (class 0)) ((prvalue (Literal 1) (plain (int Int)) []) ∷ [])) ∷
-      (effect (Destroy 1 0 1 0) []) ∷ [])) ∷
+    (lvalue (Local 0) (plain (class 0)) []) ∷
+    (prvalue (Construct 0) (plain (class 0)) ((prvalue (Literal 1) (plain (int Int)) []) ∷ [])) ∷
+    (effect (Destroy 1 0 1 0) []) ∷ [])) ∷
     (effect (Block false) (
-      (effect Init (
-        (lvalue (Local 1) (plain (class 0)) []) ∷
-        (prvalue (Construct 0) (plain (class 0)) ((prvalue (Literal 2) (plain (int Int)) []) ∷ [])) ∷
-        (effect (Destroy 1 0 1 0) []) ∷ [])) ∷
-      (effect Synchronized (
-        (effect (Block false) (
-          (effect Init (
-            (lvalue (Local 2) (plain (class 0)) []) ∷
-            (prvalue (Construct 0) (plain (class 0)) ((prvalue (Literal 3) (plain (int Int)) []) ∷ [])) ∷
-            (effect (Destroy 1 0 1 0) []) ∷ [])) ∷
-          (effect Return ((prvalue (Literal 7) (plain (int Int)) []) ∷ [])) ∷ [])) ∷ [])) ∷ [])) ∷
+    (effect Init (
+    (lvalue (Local 1) (plain (class 0)) []) ∷
+    (prvalue (Construct 0) (plain (class 0)) ((prvalue (Literal 2) (plain (int Int)) []) ∷ [])) ∷
+    (effect (Destroy 1 0 1 0) []) ∷ [])) ∷
+    (effect Synchronized (
+    (effect (Block false) (
+    (effect Init (
+    (lvalue (Local 2) (plain (class 0)) []) ∷
+    (prvalue (Construct 0) (plain (class 0)) ((prvalue (Literal 3) (plain (int Int)) []) ∷ [])) ∷
+    (effect (Destroy 1 0 1 0) []) ∷ [])) ∷
+    (effect Return ((prvalue (Literal 7) (plain (int Int)) []) ∷ [])) ∷ [])) ∷ [])) ∷ [])) ∷
     (effect Return ((prvalue (Literal 0) (plain (int Int)) []) ∷ [])) ∷ []))
 
 -- main()
@@ -208,11 +208,11 @@ abbrev pub return_through_scopes_main : Func
 return_through_scopes_main = defined (codes "main()") (codes "main") Plain None
     (signature none_typs (plain (int Int)) false) false false 0
     [] [] (
-  effect (Block false) (
+    effect (Block false) (
     (prvalue (Builtin PutChar) (plain (int Int)) (
-      (prvalue (Binary Add Int) (plain (int Int)) (
-        (prvalue (Convert Int) (plain (int Int)) ((prvalue (Literal 48) (plain (int Char)) []) ∷ [])) ∷
-        (prvalue (Call 2) (plain (int Int)) []) ∷ [])) ∷ [])) ∷
+    (prvalue (Binary Add Int) (plain (int Int)) (
+    (prvalue (Convert Int) (plain (int Int)) ((prvalue (Literal 48) (plain (int Char)) []) ∷ [])) ∷
+    (prvalue (Call 2) (plain (int Int)) []) ∷ [])) ∷ [])) ∷
     (effect Return ((prvalue (Literal 0) (plain (int Int)) []) ∷ [])) ∷
     (effect Return ((prvalue (Literal 0) (plain (int Int)) []) ∷ [])) ∷ []))
 
@@ -240,22 +240,22 @@ abbrev pub switch_skips_a_label_main : Func
 switch_skips_a_label_main = defined (codes "main()") (codes "main") Plain None
     (signature none_typs (plain (int Int)) false) false false 0
     [] [] (
-  effect (Block false) (
+    effect (Block false) (
     (effect Switch (
-      (prvalue (Literal 2) (plain (int Int)) []) ∷
-      (effect (Case 1) []) ∷
-      (prvalue (Builtin PutChar) (plain (int Int)) (
-        (prvalue (Convert Int) (plain (int Int)) ((prvalue (Literal 49) (plain (int Char)) []) ∷ [])) ∷ [])) ∷
-      (effect (Case 2) []) ∷
-      (prvalue (Builtin PutChar) (plain (int Int)) (
-        (prvalue (Convert Int) (plain (int Int)) ((prvalue (Literal 50) (plain (int Char)) []) ∷ [])) ∷ [])) ∷
-      (effect Default []) ∷
-      (prvalue (Builtin PutChar) (plain (int Int)) (
-        (prvalue (Convert Int) (plain (int Int)) ((prvalue (Literal 51) (plain (int Char)) []) ∷ [])) ∷ [])) ∷
-      (effect Break []) ∷
-      (effect (Case 4) []) ∷
-      (prvalue (Builtin PutChar) (plain (int Int)) (
-        (prvalue (Convert Int) (plain (int Int)) ((prvalue (Literal 52) (plain (int Char)) []) ∷ [])) ∷ [])) ∷ [])) ∷
+    (prvalue (Literal 2) (plain (int Int)) []) ∷
+    (effect (Case 1) []) ∷
+    (prvalue (Builtin PutChar) (plain (int Int)) (
+    (prvalue (Convert Int) (plain (int Int)) ((prvalue (Literal 49) (plain (int Char)) []) ∷ [])) ∷ [])) ∷
+    (effect (Case 2) []) ∷
+    (prvalue (Builtin PutChar) (plain (int Int)) (
+    (prvalue (Convert Int) (plain (int Int)) ((prvalue (Literal 50) (plain (int Char)) []) ∷ [])) ∷ [])) ∷
+    (effect Default []) ∷
+    (prvalue (Builtin PutChar) (plain (int Int)) (
+    (prvalue (Convert Int) (plain (int Int)) ((prvalue (Literal 51) (plain (int Char)) []) ∷ [])) ∷ [])) ∷
+    (effect Break []) ∷
+    (effect (Case 4) []) ∷
+    (prvalue (Builtin PutChar) (plain (int Int)) (
+    (prvalue (Convert Int) (plain (int Int)) ((prvalue (Literal 52) (plain (int Char)) []) ∷ [])) ∷ [])) ∷ [])) ∷
     (effect Return ((prvalue (Literal 0) (plain (int Int)) []) ∷ [])) ∷
     (effect Return ((prvalue (Literal 0) (plain (int Int)) []) ∷ [])) ∷ []))
 
@@ -278,51 +278,51 @@ abbrev pub third_element_throws_0 : Func
 third_element_throws_0 = defined (codes "E::E()") (codes "E") Constructor (Some 0)
     (signature none_typs (plain void) false) false false 1
     [] ((plain (ptr (plain (class 0)))) ∷ []) (
-  effect (Block true) (
+    effect (Block true) (
     (effect (Block false) (
-      (prvalue (Update Add Int Int false true) (plain (int Int)) (
-        (lvalue (Global 0) (plain (int Int)) []) ∷
-        (prvalue (Literal 1) (plain (int Int)) []) ∷ [])) ∷
-      (effect Conditional (
-        (prvalue (Binary Eq Int) (plain (int BoolKind)) (
-          (prvalue (Load Int false) (plain (int Int)) ((lvalue (Global 0) (plain (int Int)) []) ∷ [])) ∷
-          (prvalue (Literal 3) (plain (int Int)) []) ∷ [])) ∷
-        (prvalue Throw (plain (int Int)) ((prvalue (Literal 1) (plain (int Int)) []) ∷ (effect (Field 0 Int) []) ∷ [])) ∷
-        (effect (Block false) []) ∷ [])) ∷ [])) ∷ []))
+    (prvalue (Update Add Int Int false true) (plain (int Int)) (
+    (lvalue (Global 0) (plain (int Int)) []) ∷
+    (prvalue (Literal 1) (plain (int Int)) []) ∷ [])) ∷
+    (effect Conditional (
+    (prvalue (Binary Eq Int) (plain (int BoolKind)) (
+    (prvalue (Load Int false) (plain (int Int)) ((lvalue (Global 0) (plain (int Int)) []) ∷ [])) ∷
+    (prvalue (Literal 3) (plain (int Int)) []) ∷ [])) ∷
+    (prvalue Throw (plain (int Int)) ((prvalue (Literal 1) (plain (int Int)) []) ∷ (effect (Field 0 Int) []) ∷ [])) ∷
+    (effect (Block false) []) ∷ [])) ∷ [])) ∷ []))
 
 -- E::~E()
 abbrev pub third_element_throws_1 : Func
 third_element_throws_1 = defined (codes "E::~E()") (codes "~E") Destructor (Some 0)
     (signature none_typs (plain void) false) false true 1
     [] ((plain (ptr (plain (class 0)))) ∷ []) (
-  effect (Block false) (
+    effect (Block false) (
     (effect (Block false) (
-      (prvalue (Builtin PutChar) (plain (int Int)) (
-        (prvalue (Binary Add Int) (plain (int Int)) (
-          (prvalue (Convert Int) (plain (int Int)) ((prvalue (Literal 48) (plain (int Char)) []) ∷ [])) ∷
-          (prvalue (Load Int false) (plain (int Int)) ((lvalue (Global 0) (plain (int Int)) []) ∷ [])) ∷ [])) ∷ [])) ∷
-      (prvalue (Update Sub Int Int false true) (plain (int Int)) (
-        (lvalue (Global 0) (plain (int Int)) []) ∷
-        (prvalue (Literal 1) (plain (int Int)) []) ∷ [])) ∷ [])) ∷ []))
+    (prvalue (Builtin PutChar) (plain (int Int)) (
+    (prvalue (Binary Add Int) (plain (int Int)) (
+    (prvalue (Convert Int) (plain (int Int)) ((prvalue (Literal 48) (plain (int Char)) []) ∷ [])) ∷
+    (prvalue (Load Int false) (plain (int Int)) ((lvalue (Global 0) (plain (int Int)) []) ∷ [])) ∷ [])) ∷ [])) ∷
+    (prvalue (Update Sub Int Int false true) (plain (int Int)) (
+    (lvalue (Global 0) (plain (int Int)) []) ∷
+    (prvalue (Literal 1) (plain (int Int)) []) ∷ [])) ∷ [])) ∷ []))
 
 -- main()
 abbrev pub third_element_throws_main : Func
 third_element_throws_main = defined (codes "main()") (codes "main") Plain None
     (signature none_typs (plain (int Int)) false) false false 0
     [] ((plain (array (plain (class 0)) 4)) ∷ []) (
-  effect (Block false) (
+    effect (Block false) (
     (effect Try (
-      (effect (Block false) (
-        (effect Init (
-          (lvalue (Local 0) (plain (array (plain (class 0)) 4)) []) ∷
-          (prvalue (Elements 4 1) (plain (array (plain (class 0)) 4)) (
-            (prvalue (Construct 0) (plain (class 0)) []) ∷
-            (effect (Destroy 1 0 1 0) []) ∷ [])) ∷
-          (effect (Destroy 1 0 4 1) []) ∷ [])) ∷ [])) ∷
-      (effect (Handler None) (
-        (effect (Block false) (
-          (prvalue (Builtin PutChar) (plain (int Int)) (
-            (prvalue (Convert Int) (plain (int Int)) ((prvalue (Literal 55) (plain (int Char)) []) ∷ [])) ∷ [])) ∷ [])) ∷ [])) ∷ [])) ∷
+    (effect (Block false) (
+    (effect Init (
+    (lvalue (Local 0) (plain (array (plain (class 0)) 4)) []) ∷
+    (prvalue (Elements 4 1) (plain (array (plain (class 0)) 4)) (
+    (prvalue (Construct 0) (plain (class 0)) []) ∷
+    (effect (Destroy 1 0 1 0) []) ∷ [])) ∷
+    (effect (Destroy 1 0 4 1) []) ∷ [])) ∷ [])) ∷
+    (effect (Handler None) (
+    (effect (Block false) (
+    (prvalue (Builtin PutChar) (plain (int Int)) (
+    (prvalue (Convert Int) (plain (int Int)) ((prvalue (Literal 55) (plain (int Char)) []) ∷ [])) ∷ [])) ∷ [])) ∷ [])) ∷ [])) ∷
     (effect Return ((prvalue (Literal 0) (plain (int Int)) []) ∷ [])) ∷
     (effect Return ((prvalue (Literal 0) (plain (int Int)) []) ∷ [])) ∷ []))
 

@@ -7,6 +7,7 @@ use Rattle.tx_events.specs.declared.Event.{Event}
 use Rattle.tx_events.specs.Thread.{Open}
 use Rattle.cpp_types.specs.Typ.{Typ, Signature}
 use Rattle.cpp_tree.specs.declared.kinds.Builtin.{Builtin}
+use Rattle.cpp_tree.specs.declared.kinds.TKind.{TKind}
 use Rattle.cpp_tree.specs.Trees.{Tree, Trees, none, more}
 use Rattle.src_mean.specs.Linked.{WordPlace}
 use Rattle.src_mean.specs.Exceptions.{Exception}
@@ -16,7 +17,8 @@ pub record Waiting : Type 0 where
   pub address : Tree
   pub destroys : Trees
 
--- the frame at hand: its address, the stack pointer behind it, the end of the thread's stack, the unit of its function, the offsets of its places, and the temporaries of the full-expression at hand that wait, the newest first
+-- the frame at hand: its address, the stack pointer behind it, the end of the thread's stack, the unit of its function, the offsets of its places,
+-- and the temporaries of the full-expression at hand that wait, the newest first
 pub record Here : Type 0 where
   pub frame : ℕ
   pub end : ℕ
@@ -104,7 +106,7 @@ pub data Frame : Type 0 where
   Body : (test body step : Tree) → Frame  -- the loop's body
   Step : (test body step : Tree) → Frame  -- the loop's step
   Picks : Trees → Frame  -- the value is that of a switch
-  Compares : (word : ℕ) → (from items : Trees) → Frame
+  Compares : (word : ℕ) → (label : TKind) → (behind items : Trees) → Frame  -- the label is compared with the value
   Switches : Frame  -- a switch's body
   Returning : Frame  -- the value is returned
   -- blocks and exceptions

@@ -50,18 +50,21 @@ sorted (d ∷ ds) = insert d (sorted ds)
 
 abbrev pub funcs_defined : ℕ → ℕ → List UnitFunc → List Def
 funcs_defined u n [] = []
-funcs_defined u n (f ∷ fs) = cond (is_some f.body) (record { unit = u; place = n; symbol = f.symbol; internal = is_internal f.linkage } ∷ funcs_defined u (suc n) fs) (funcs_defined u (suc n) fs)
+funcs_defined u n (f ∷ fs) = cond (is_some f.body) (record { unit = u; place = n; symbol = f.symbol; internal = is_internal f.linkage }
+    ∷ funcs_defined u (suc n) fs) (funcs_defined u (suc n) fs)
 
 abbrev pub globals_defined : ℕ → ℕ → List Global → List Def
 globals_defined u n [] = []
-globals_defined u n (g ∷ gs) = cond g.defined (record { unit = u; place = n; symbol = g.symbol; internal = is_internal g.linkage } ∷ globals_defined u (suc n) gs) (globals_defined u (suc n) gs)
+globals_defined u n (g ∷ gs) = cond g.defined (record { unit = u; place = n; symbol = g.symbol; internal = is_internal g.linkage }
+    ∷ globals_defined u (suc n) gs) (globals_defined u (suc n) gs)
 
 abbrev pub class_name : List Class → ℕ → List ℕ
 class_name classes n = unwrap_or (option_map (λ (c : Class). c.name) (slice_get classes n)) []
 
 abbrev pub classes_defined : List Class → ℕ → ℕ → List Definition → List Def
 classes_defined classes u n [] = []
-classes_defined classes u n (d ∷ ds) = record { unit = u; place = d.class; symbol = class_name classes d.class; internal = false } ∷ classes_defined classes u (suc n) ds
+classes_defined classes u n (d ∷ ds) = record { unit = u; place = d.class; symbol = class_name classes d.class; internal = false }
+    ∷ classes_defined classes u (suc n) ds
 
 -- a string's symbol has a colon, which no name has but one behind another
 abbrev pub is_string : Def → Bool
@@ -161,7 +164,8 @@ unsafe (signature ps r safe) = signature ps r false
 
 -- no member, and of this type, safety aside
 abbrev pub has_type : List Class → Signature → UnitFunc → Bool
-has_type classes sig f = is_plain_func f.kind && not (is_some f.class) && name_eq (function_spelling classes (unsafe sig) []) (function_spelling classes (unsafe f.declared.signature) [])
+has_type classes sig f = is_plain_func f.kind && not (is_some f.class)
+    && name_eq (function_spelling classes (unsafe sig) []) (function_spelling classes (unsafe f.declared.signature) [])
 
 -- the first number whose address this is
 abbrev pub numbered : ℕ → (ℕ → ℕ) → ℕ → List Def → Option (Def × ℕ)
@@ -174,7 +178,8 @@ number_if false n = None
 
 -- a function that is found by its symbol, where a slot names it
 abbrev pub number_of_symbol : List ℕ → List Def → Option ℕ
-number_of_symbol symbol ds = number_if (list_any (λ (d : Def). name_eq d.symbol symbol && not d.internal) ds) (number_in (record { unit = 0; place = 0; symbol = symbol; internal = false }) ds)
+number_of_symbol symbol ds = number_if (list_any (λ (d : Def). name_eq d.symbol symbol
+    && not d.internal) ds) (number_in (record { unit = 0; place = 0; symbol = symbol; internal = false }) ds)
 
 -- the class itself or one of its bases has this name
 abbrev pub is_or_has_base : List Class → ℕ → List ℕ → Bool
@@ -219,12 +224,14 @@ cell_value t p u FuncAddr value symbol = function_address (p.number u (func_plac
 
 abbrev pub cells_at : TypedProgram → Program → ℕ → ℕ → List Cell → List GlobalCell
 cells_at t p u offset [] = []
-cells_at t p u offset (c ∷ cs) = record { offset = offset + c.offset; size = c.size; value = cell_value t p u c.what c.value c.symbol } ∷ cells_at t p u offset cs
+cells_at t p u offset (c ∷ cs) = record { offset = offset + c.offset; size = c.size; value = cell_value t p u c.what c.value c.symbol }
+    ∷ cells_at t p u offset cs
 
 abbrev pub all_cells : TypedProgram → Program → List Def → List ℕ → List GlobalCell
 all_cells t p [] offsets = []
 all_cells t p (d ∷ ds) [] = []
-all_cells t p (d ∷ ds) (o ∷ os) = cells_at t p d.unit o (unwrap_or (option_map (λ (g : Global). g.init) (global_at t d.unit d.place)) []) ++ all_cells t p ds os
+all_cells t p (d ∷ ds) (o
+    ∷ os) = cells_at t p d.unit o (unwrap_or (option_map (λ (g : Global). g.init) (global_at t d.unit d.place)) []) ++ all_cells t p ds os
 
 abbrev pub first_cells : TypedProgram → Program → List GlobalCell
 first_cells t p = all_cells t p (kept_globals t) (global_offsets 0 (map (global_size t) (kept_globals t)))

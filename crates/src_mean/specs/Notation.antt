@@ -20,7 +20,8 @@ declared name s virtual no_except = record { name = name; signature = s; is_cons
 abbrev pub param : Typ → Param
 param t = record { typ = t; at = nowhere }
 
--- a function: its symbol and name, its kind and class, its type, whether it is virtual and noexcept, the words of a call, its parameters, its frame and its body
+-- a function: its symbol and name, its kind and class, its type, whether it is virtual and noexcept, the words of a call, its parameters, its frame
+-- and its body
 abbrev pub defined : (symbol name : List ℕ) → FuncKind → Option ℕ → Signature → (virtual no_except : Bool) → (words : ℕ) → (params frame : List Typ) → Tree → Func
 defined symbol name kind class s virtual no_except words params frame body = record { symbol = symbol; declared = declared name s virtual no_except; linkage = External; text = []; kind = kind; class = class; implicit = false; words = words; params = map param params; frame = frame; body = Some body; closed_at = 0 }
 
@@ -46,7 +47,12 @@ defined_classes n [] = []
 defined_classes n (c ∷ cs) = record { class = n; text = [] } ∷ defined_classes (suc n) cs
 
 abbrev pub one_unit : List Func → List Global → List Class → List (List SlotFunc) → TypedProgram
-one_unit funcs globals classes slots = record { units = record { funcs = funcs; globals = globals; classes = defined_classes 0 classes } ∷ []; classes = classes; slots = slots }
+one_unit funcs globals classes slots = record {
+  units = record { funcs = funcs; globals = globals; classes = defined_classes 0 classes }
+      ∷ [];
+  classes = classes;
+  slots = slots;
+}
 
 -- the symbol of a slot's function, where it has no parameters
 abbrev pub slot_symbol : List Class → SlotFunc → Option (List ℕ)

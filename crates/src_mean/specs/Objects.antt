@@ -22,13 +22,13 @@ abbrev pub destruction_0 : Func
 destruction_0 = defined (codes "D::D(int)") (codes "D") Constructor (Some 0)
     (signature (more_typs (plain (int Int)) none_typs) (plain void) false) false false 2
     ((plain (int Int)) ∷ []) ((plain (ptr (plain (class 0)))) ∷ (plain (int Int)) ∷ []) (
-  effect (Block true) (
+    effect (Block true) (
     (effect Init (
-      (lvalue (Binary Add ULong) (plain (int Int)) (
-        (prvalue (Load ULong false) (plain (ptr (plain (class 0)))) ((lvalue (Local 0) (plain (ptr (plain (class 0)))) []) ∷ [])) ∷
-        (prvalue (Literal 0) (plain (int ULong)) []) ∷ [])) ∷
-      (prvalue (Store Int false) (plain (int Int)) (
-        (prvalue (Load Int false) (plain (int Int)) ((lvalue (Local 1) (plain (int Int)) []) ∷ [])) ∷ [])) ∷ [])) ∷
+    (lvalue (Binary Add ULong) (plain (int Int)) (
+    (prvalue (Load ULong false) (plain (ptr (plain (class 0)))) ((lvalue (Local 0) (plain (ptr (plain (class 0)))) []) ∷ [])) ∷
+    (prvalue (Literal 0) (plain (int ULong)) []) ∷ [])) ∷
+    (prvalue (Store Int false) (plain (int Int)) (
+    (prvalue (Load Int false) (plain (int Int)) ((lvalue (Local 1) (plain (int Int)) []) ∷ [])) ∷ [])) ∷ [])) ∷
     (effect (Block false) []) ∷ []))
 
 -- D::~D()
@@ -36,36 +36,36 @@ abbrev pub destruction_1 : Func
 destruction_1 = defined (codes "D::~D()") (codes "~D") Destructor (Some 0)
     (signature none_typs (plain void) false) false true 1
     [] ((plain (ptr (plain (class 0)))) ∷ []) (
-  effect (Block false) (
+    effect (Block false) (
     (effect (Block false) (
-      (prvalue (Builtin PutChar) (plain (int Int)) (
-        (prvalue (Binary Add Int) (plain (int Int)) (
-          (prvalue (Convert Int) (plain (int Int)) ((prvalue (Literal 48) (plain (int Char)) []) ∷ [])) ∷
-          (prvalue (Load Int false) (plain (int Int)) (
-            (lvalue (Binary Add ULong) (plain (int Int)) (
-              (lvalue Retype (plain (class 0)) (
-                (prvalue (Load ULong false) (plain (ptr (plain (class 0)))) ((lvalue (Local 0) (plain (ptr (plain (class 0)))) []) ∷ [])) ∷ [])) ∷
-              (prvalue (Literal 0) (plain (int ULong)) []) ∷ [])) ∷ [])) ∷ [])) ∷ [])) ∷ [])) ∷ []))
+    (prvalue (Builtin PutChar) (plain (int Int)) (
+    (prvalue (Binary Add Int) (plain (int Int)) (
+    (prvalue (Convert Int) (plain (int Int)) ((prvalue (Literal 48) (plain (int Char)) []) ∷ [])) ∷
+    (prvalue (Load Int false) (plain (int Int)) (
+    (lvalue (Binary Add ULong) (plain (int Int)) (
+    (lvalue Retype (plain (class 0)) (
+    (prvalue (Load ULong false) (plain (ptr (plain (class 0)))) ((lvalue (Local 0) (plain (ptr (plain (class 0)))) []) ∷ [])) ∷ [])) ∷
+    (prvalue (Literal 0) (plain (int ULong)) []) ∷ [])) ∷ [])) ∷ [])) ∷ [])) ∷ [])) ∷ []))
 
 -- main()
 abbrev pub destruction_main : Func
 destruction_main = defined (codes "main()") (codes "main") Plain None
     (signature none_typs (plain (int Int)) false) false false 0
     [] ((plain (class 0)) ∷ (plain (class 0)) ∷ (plain (class 0)) ∷ []) (
-  effect (Block false) (
+    effect (Block false) (
     (effect Init (
-      (lvalue (Local 0) (plain (class 0)) []) ∷
-      (prvalue (Construct 0) (plain (class 0)) ((prvalue (Literal 1) (plain (int Int)) []) ∷ [])) ∷
-      (effect (Destroy 1 0 1 0) []) ∷ [])) ∷
+    (lvalue (Local 0) (plain (class 0)) []) ∷
+    (prvalue (Construct 0) (plain (class 0)) ((prvalue (Literal 1) (plain (int Int)) []) ∷ [])) ∷
+    (effect (Destroy 1 0 1 0) []) ∷ [])) ∷
     (effect (Block false) (
-      (effect Init (
-        (lvalue (Local 1) (plain (class 0)) []) ∷
-        (prvalue (Construct 0) (plain (class 0)) ((prvalue (Literal 2) (plain (int Int)) []) ∷ [])) ∷
-        (effect (Destroy 1 0 1 0) []) ∷ [])) ∷
-      (effect Init (
-        (lvalue (Local 2) (plain (class 0)) []) ∷
-        (prvalue (Construct 0) (plain (class 0)) ((prvalue (Literal 3) (plain (int Int)) []) ∷ [])) ∷
-        (effect (Destroy 1 0 1 0) []) ∷ [])) ∷ [])) ∷
+    (effect Init (
+    (lvalue (Local 1) (plain (class 0)) []) ∷
+    (prvalue (Construct 0) (plain (class 0)) ((prvalue (Literal 2) (plain (int Int)) []) ∷ [])) ∷
+    (effect (Destroy 1 0 1 0) []) ∷ [])) ∷
+    (effect Init (
+    (lvalue (Local 2) (plain (class 0)) []) ∷
+    (prvalue (Construct 0) (plain (class 0)) ((prvalue (Literal 3) (plain (int Int)) []) ∷ [])) ∷
+    (effect (Destroy 1 0 1 0) []) ∷ [])) ∷ [])) ∷
     (effect Return ((prvalue (Literal 0) (plain (int Int)) []) ∷ [])) ∷
     (effect Return ((prvalue (Literal 0) (plain (int Int)) []) ∷ [])) ∷ []))
 
@@ -94,13 +94,13 @@ abbrev pub destruction_of_parts_0 : Func
 destruction_of_parts_0 = defined (codes "D::D(int)") (codes "D") Constructor (Some 0)
     (signature (more_typs (plain (int Int)) none_typs) (plain void) false) false false 2
     ((plain (int Int)) ∷ []) ((plain (ptr (plain (class 0)))) ∷ (plain (int Int)) ∷ []) (
-  effect (Block true) (
+    effect (Block true) (
     (effect Init (
-      (lvalue (Binary Add ULong) (plain (int Int)) (
-        (prvalue (Load ULong false) (plain (ptr (plain (class 0)))) ((lvalue (Local 0) (plain (ptr (plain (class 0)))) []) ∷ [])) ∷
-        (prvalue (Literal 0) (plain (int ULong)) []) ∷ [])) ∷
-      (prvalue (Store Int false) (plain (int Int)) (
-        (prvalue (Load Int false) (plain (int Int)) ((lvalue (Local 1) (plain (int Int)) []) ∷ [])) ∷ [])) ∷ [])) ∷
+    (lvalue (Binary Add ULong) (plain (int Int)) (
+    (prvalue (Load ULong false) (plain (ptr (plain (class 0)))) ((lvalue (Local 0) (plain (ptr (plain (class 0)))) []) ∷ [])) ∷
+    (prvalue (Literal 0) (plain (int ULong)) []) ∷ [])) ∷
+    (prvalue (Store Int false) (plain (int Int)) (
+    (prvalue (Load Int false) (plain (int Int)) ((lvalue (Local 1) (plain (int Int)) []) ∷ [])) ∷ [])) ∷ [])) ∷
     (effect (Block false) []) ∷ []))
 
 -- D::~D()
@@ -108,54 +108,54 @@ abbrev pub destruction_of_parts_1 : Func
 destruction_of_parts_1 = defined (codes "D::~D()") (codes "~D") Destructor (Some 0)
     (signature none_typs (plain void) false) false true 1
     [] ((plain (ptr (plain (class 0)))) ∷ []) (
-  effect (Block false) (
+    effect (Block false) (
     (effect (Block false) (
-      (prvalue (Builtin PutChar) (plain (int Int)) (
-        (prvalue (Binary Add Int) (plain (int Int)) (
-          (prvalue (Convert Int) (plain (int Int)) ((prvalue (Literal 48) (plain (int Char)) []) ∷ [])) ∷
-          (prvalue (Load Int false) (plain (int Int)) (
-            (lvalue (Binary Add ULong) (plain (int Int)) (
-              (lvalue Retype (plain (class 0)) (
-                (prvalue (Load ULong false) (plain (ptr (plain (class 0)))) ((lvalue (Local 0) (plain (ptr (plain (class 0)))) []) ∷ [])) ∷ [])) ∷
-              (prvalue (Literal 0) (plain (int ULong)) []) ∷ [])) ∷ [])) ∷ [])) ∷ [])) ∷ [])) ∷ []))
+    (prvalue (Builtin PutChar) (plain (int Int)) (
+    (prvalue (Binary Add Int) (plain (int Int)) (
+    (prvalue (Convert Int) (plain (int Int)) ((prvalue (Literal 48) (plain (int Char)) []) ∷ [])) ∷
+    (prvalue (Load Int false) (plain (int Int)) (
+    (lvalue (Binary Add ULong) (plain (int Int)) (
+    (lvalue Retype (plain (class 0)) (
+    (prvalue (Load ULong false) (plain (ptr (plain (class 0)))) ((lvalue (Local 0) (plain (ptr (plain (class 0)))) []) ∷ [])) ∷ [])) ∷
+    (prvalue (Literal 0) (plain (int ULong)) []) ∷ [])) ∷ [])) ∷ [])) ∷ [])) ∷ [])) ∷ []))
 
 -- M::M()
 abbrev pub destruction_of_parts_2 : Func
 destruction_of_parts_2 = defined (codes "M::M()") (codes "M") Constructor (Some 1)
     (signature none_typs (plain void) false) false false 1
     [] ((plain (ptr (plain (class 1)))) ∷ []) (
-  effect (Block true) (
+    effect (Block true) (
     (effect Init (
-      (lvalue (Binary Add ULong) (plain (class 0)) (
-        (prvalue (Load ULong false) (plain (ptr (plain (class 1)))) ((lvalue (Local 0) (plain (ptr (plain (class 1)))) []) ∷ [])) ∷
-        (prvalue (Literal 0) (plain (int ULong)) []) ∷ [])) ∷
-      (prvalue (Construct 0) (plain (class 0)) ((prvalue (Literal 1) (plain (int Int)) []) ∷ [])) ∷
-      (effect (Destroy 1 0 1 0) []) ∷ [])) ∷
+    (lvalue (Binary Add ULong) (plain (class 0)) (
+    (prvalue (Load ULong false) (plain (ptr (plain (class 1)))) ((lvalue (Local 0) (plain (ptr (plain (class 1)))) []) ∷ [])) ∷
+    (prvalue (Literal 0) (plain (int ULong)) []) ∷ [])) ∷
+    (prvalue (Construct 0) (plain (class 0)) ((prvalue (Literal 1) (plain (int Int)) []) ∷ [])) ∷
+    (effect (Destroy 1 0 1 0) []) ∷ [])) ∷
     (effect Init (
-      (lvalue (Binary Add ULong) (plain (class 0)) (
-        (prvalue (Load ULong false) (plain (ptr (plain (class 1)))) ((lvalue (Local 0) (plain (ptr (plain (class 1)))) []) ∷ [])) ∷
-        (prvalue (Literal 4) (plain (int ULong)) []) ∷ [])) ∷
-      (prvalue (Construct 0) (plain (class 0)) ((prvalue (Literal 2) (plain (int Int)) []) ∷ [])) ∷
-      (effect (Destroy 1 0 1 0) []) ∷ [])) ∷
+    (lvalue (Binary Add ULong) (plain (class 0)) (
+    (prvalue (Load ULong false) (plain (ptr (plain (class 1)))) ((lvalue (Local 0) (plain (ptr (plain (class 1)))) []) ∷ [])) ∷
+    (prvalue (Literal 4) (plain (int ULong)) []) ∷ [])) ∷
+    (prvalue (Construct 0) (plain (class 0)) ((prvalue (Literal 2) (plain (int Int)) []) ∷ [])) ∷
+    (effect (Destroy 1 0 1 0) []) ∷ [])) ∷
     (effect (Block false) (
-      (prvalue Throw (plain (int Int)) ((prvalue (Literal 5) (plain (int Int)) []) ∷ (effect (Field 0 Int) []) ∷ [])) ∷ [])) ∷ []))
+    (prvalue Throw (plain (int Int)) ((prvalue (Literal 5) (plain (int Int)) []) ∷ (effect (Field 0 Int) []) ∷ [])) ∷ [])) ∷ []))
 
 -- M::~M()
 abbrev pub destruction_of_parts_3 : Func
 destruction_of_parts_3 = defined (codes "M::~M()") (codes "~M") Destructor (Some 1)
     (signature none_typs (plain void) false) false true 1
     [] ((plain (ptr (plain (class 1)))) ∷ []) (
-  effect (Block false) (
+    effect (Block false) (
     (effect Defer (
-      (lvalue (Binary Add ULong) (plain (class 0)) (
-        (prvalue (Load ULong false) (plain (ptr (plain (class 1)))) ((lvalue (Local 0) (plain (ptr (plain (class 1)))) []) ∷ [])) ∷
-        (prvalue (Literal 0) (plain (int ULong)) []) ∷ [])) ∷
-      (effect (Destroy 1 0 1 0) []) ∷ [])) ∷
+    (lvalue (Binary Add ULong) (plain (class 0)) (
+    (prvalue (Load ULong false) (plain (ptr (plain (class 1)))) ((lvalue (Local 0) (plain (ptr (plain (class 1)))) []) ∷ [])) ∷
+    (prvalue (Literal 0) (plain (int ULong)) []) ∷ [])) ∷
+    (effect (Destroy 1 0 1 0) []) ∷ [])) ∷
     (effect Defer (
-      (lvalue (Binary Add ULong) (plain (class 0)) (
-        (prvalue (Load ULong false) (plain (ptr (plain (class 1)))) ((lvalue (Local 0) (plain (ptr (plain (class 1)))) []) ∷ [])) ∷
-        (prvalue (Literal 4) (plain (int ULong)) []) ∷ [])) ∷
-      (effect (Destroy 1 0 1 0) []) ∷ [])) ∷
+    (lvalue (Binary Add ULong) (plain (class 0)) (
+    (prvalue (Load ULong false) (plain (ptr (plain (class 1)))) ((lvalue (Local 0) (plain (ptr (plain (class 1)))) []) ∷ [])) ∷
+    (prvalue (Literal 4) (plain (int ULong)) []) ∷ [])) ∷
+    (effect (Destroy 1 0 1 0) []) ∷ [])) ∷
     (effect (Block false) []) ∷ []))
 
 -- main()
@@ -163,17 +163,17 @@ abbrev pub destruction_of_parts_main : Func
 destruction_of_parts_main = defined (codes "main()") (codes "main") Plain None
     (signature none_typs (plain (int Int)) false) false false 0
     [] ((plain (class 1)) ∷ []) (
-  effect (Block false) (
+    effect (Block false) (
     (effect Try (
-      (effect (Block false) (
-        (effect Init (
-          (lvalue (Local 0) (plain (class 1)) []) ∷
-          (prvalue (Construct 2) (plain (class 1)) []) ∷
-          (effect (Destroy 3 0 1 0) []) ∷ [])) ∷ [])) ∷
-      (prvalue (Handler None) (plain (int Int)) (
-        (effect (Block false) (
-          (prvalue (Builtin PutChar) (plain (int Int)) (
-            (prvalue (Convert Int) (plain (int Int)) ((prvalue (Literal 120) (plain (int Char)) []) ∷ [])) ∷ [])) ∷ [])) ∷ [])) ∷ [])) ∷
+    (effect (Block false) (
+    (effect Init (
+    (lvalue (Local 0) (plain (class 1)) []) ∷
+    (prvalue (Construct 2) (plain (class 1)) []) ∷
+    (effect (Destroy 3 0 1 0) []) ∷ [])) ∷ [])) ∷
+    (prvalue (Handler None) (plain (int Int)) (
+    (effect (Block false) (
+    (prvalue (Builtin PutChar) (plain (int Int)) (
+    (prvalue (Convert Int) (plain (int Int)) ((prvalue (Literal 120) (plain (int Char)) []) ∷ [])) ∷ [])) ∷ [])) ∷ [])) ∷ [])) ∷
     (effect Return ((prvalue (Literal 0) (plain (int Int)) []) ∷ [])) ∷
     (effect Return ((prvalue (Literal 0) (plain (int Int)) []) ∷ [])) ∷ []))
 
@@ -200,40 +200,40 @@ abbrev pub virtual_in_constructor_0 : Func
 virtual_in_constructor_0 = defined (codes "A::A()") (codes "A") Constructor (Some 0)
     (signature none_typs (plain void) false) false false 1
     [] ((plain (ptr (plain (class 0)))) ∷ []) (
-  effect (Block true) (
+    effect (Block true) (
     (lvalue (Assign ULong false) (plain (int ULong)) (
-      (lvalue (Binary Add ULong) (plain (int ULong)) (
-        (prvalue (Load ULong false) (plain (ptr (plain (class 0)))) ((lvalue (Local 0) (plain (ptr (plain (class 0)))) []) ∷ [])) ∷
-        (prvalue (Literal 0) (plain (int ULong)) []) ∷ [])) ∷
-      (prvalue (ClassTable 0) (plain (int ULong)) []) ∷ [])) ∷
+    (lvalue (Binary Add ULong) (plain (int ULong)) (
+    (prvalue (Load ULong false) (plain (ptr (plain (class 0)))) ((lvalue (Local 0) (plain (ptr (plain (class 0)))) []) ∷ [])) ∷
+    (prvalue (Literal 0) (plain (int ULong)) []) ∷ [])) ∷
+    (prvalue (ClassTable 0) (plain (int ULong)) []) ∷ [])) ∷
     (effect (Block false) (
-      (effect (VirtualCall 1 0 0 0) (
-        (lvalue Retype (plain (class 0)) (
-          (prvalue (Load ULong false) (plain (ptr (plain (class 0)))) ((lvalue (Local 0) (plain (ptr (plain (class 0)))) []) ∷ [])) ∷ [])) ∷ [])) ∷ [])) ∷ []))
+    (effect (VirtualCall 1 0 0 0) (
+    (lvalue Retype (plain (class 0)) (
+    (prvalue (Load ULong false) (plain (ptr (plain (class 0)))) ((lvalue (Local 0) (plain (ptr (plain (class 0)))) []) ∷ [])) ∷ [])) ∷ [])) ∷ [])) ∷ []))
 
 -- A::f()
 abbrev pub virtual_in_constructor_1 : Func
 virtual_in_constructor_1 = defined (codes "A::f()") (codes "f") Plain (Some 0)
     (signature none_typs (plain void) false) true false 1
     [] ((plain (ptr (plain (class 0)))) ∷ []) (
-  effect (Block false) (
+    effect (Block false) (
     (prvalue (Builtin PutChar) (plain (int Int)) (
-      (prvalue (Convert Int) (plain (int Int)) ((prvalue (Literal 65) (plain (int Char)) []) ∷ [])) ∷ [])) ∷ []))
+    (prvalue (Convert Int) (plain (int Int)) ((prvalue (Literal 65) (plain (int Char)) []) ∷ [])) ∷ [])) ∷ []))
 
 -- B::B()
 abbrev pub virtual_in_constructor_2 : Func
 virtual_in_constructor_2 = defined (codes "B::B()") (codes "B") Constructor (Some 1)
     (signature none_typs (plain void) false) false false 1
     [] ((plain (ptr (plain (class 1)))) ∷ []) (
-  effect (Block true) (
+    effect (Block true) (
     (effect Init (
-      (lvalue (Load ULong false) (plain (class 0)) ((lvalue (Local 0) (plain (ptr (plain (class 1)))) []) ∷ [])) ∷
-      (prvalue (Construct 0) (plain (class 0)) []) ∷ [])) ∷
+    (lvalue (Load ULong false) (plain (class 0)) ((lvalue (Local 0) (plain (ptr (plain (class 1)))) []) ∷ [])) ∷
+    (prvalue (Construct 0) (plain (class 0)) []) ∷ [])) ∷
     (lvalue (Assign ULong false) (plain (int ULong)) (
-      (lvalue (Binary Add ULong) (plain (int ULong)) (
-        (prvalue (Load ULong false) (plain (ptr (plain (class 1)))) ((lvalue (Local 0) (plain (ptr (plain (class 1)))) []) ∷ [])) ∷
-        (prvalue (Literal 0) (plain (int ULong)) []) ∷ [])) ∷
-      (prvalue (ClassTable 1) (plain (int ULong)) []) ∷ [])) ∷
+    (lvalue (Binary Add ULong) (plain (int ULong)) (
+    (prvalue (Load ULong false) (plain (ptr (plain (class 1)))) ((lvalue (Local 0) (plain (ptr (plain (class 1)))) []) ∷ [])) ∷
+    (prvalue (Literal 0) (plain (int ULong)) []) ∷ [])) ∷
+    (prvalue (ClassTable 1) (plain (int ULong)) []) ∷ [])) ∷
     (effect (Block false) []) ∷ []))
 
 -- B::f()
@@ -241,16 +241,16 @@ abbrev pub virtual_in_constructor_3 : Func
 virtual_in_constructor_3 = defined (codes "B::f()") (codes "f") Plain (Some 1)
     (signature none_typs (plain void) false) true false 1
     [] ((plain (ptr (plain (class 1)))) ∷ []) (
-  effect (Block false) (
+    effect (Block false) (
     (prvalue (Builtin PutChar) (plain (int Int)) (
-      (prvalue (Convert Int) (plain (int Int)) ((prvalue (Literal 66) (plain (int Char)) []) ∷ [])) ∷ [])) ∷ []))
+    (prvalue (Convert Int) (plain (int Int)) ((prvalue (Literal 66) (plain (int Char)) []) ∷ [])) ∷ [])) ∷ []))
 
 -- main()
 abbrev pub virtual_in_constructor_main : Func
 virtual_in_constructor_main = defined (codes "main()") (codes "main") Plain None
     (signature none_typs (plain (int Int)) false) false false 0
     [] ((plain (class 1)) ∷ []) (
-  effect (Block false) (
+    effect (Block false) (
     (effect Init ((lvalue (Local 0) (plain (class 1)) []) ∷ (prvalue (Construct 2) (plain (class 1)) []) ∷ [])) ∷
     (effect (VirtualCall 3 1 0 0) ((lvalue (Local 0) (plain (class 1)) []) ∷ [])) ∷
     (effect Return ((prvalue (Literal 0) (plain (int Int)) []) ∷ [])) ∷
@@ -277,19 +277,19 @@ abbrev pub lambda_capture_0 : Func
 lambda_capture_0 = defined (codes "lambda:0:35(int)") (codes "lambda:0:35") ClosureCall (Some 0)
     (signature (more_typs (plain (int Int)) none_typs) (plain (int Int)) false) false false 2
     ((plain (int Int)) ∷ []) ((plain (ptr (const (closure 0)))) ∷ (plain (int Int)) ∷ []) (
-  effect (Block false) (
+    effect (Block false) (
     (lvalue (Update Add Int Int false false) (plain (int Int)) (
-      (lvalue (Load ULong false) (plain (int Int)) (
-        (lvalue (Binary Add ULong) (plain (ref (plain (int Int)))) (
-          (prvalue (Load ULong false) (plain (ptr (const (closure 0)))) ((lvalue (Local 0) (plain (ptr (const (closure 0)))) []) ∷ [])) ∷
-          (prvalue (Literal 0) (plain (int ULong)) []) ∷ [])) ∷ [])) ∷
-      (prvalue (Load Int false) (plain (int Int)) ((lvalue (Local 1) (plain (int Int)) []) ∷ [])) ∷ [])) ∷
+    (lvalue (Load ULong false) (plain (int Int)) (
+    (lvalue (Binary Add ULong) (plain (ref (plain (int Int)))) (
+    (prvalue (Load ULong false) (plain (ptr (const (closure 0)))) ((lvalue (Local 0) (plain (ptr (const (closure 0)))) []) ∷ [])) ∷
+    (prvalue (Literal 0) (plain (int ULong)) []) ∷ [])) ∷ [])) ∷
+    (prvalue (Load Int false) (plain (int Int)) ((lvalue (Local 1) (plain (int Int)) []) ∷ [])) ∷ [])) ∷
     (effect Return (
-      (prvalue (Load Int false) (plain (int Int)) (
-        (lvalue (Load ULong false) (plain (int Int)) (
-          (lvalue (Binary Add ULong) (plain (ref (plain (int Int)))) (
-            (prvalue (Load ULong false) (plain (ptr (const (closure 0)))) ((lvalue (Local 0) (plain (ptr (const (closure 0)))) []) ∷ [])) ∷
-            (prvalue (Literal 0) (plain (int ULong)) []) ∷ [])) ∷ [])) ∷ [])) ∷ [])) ∷
+    (prvalue (Load Int false) (plain (int Int)) (
+    (lvalue (Load ULong false) (plain (int Int)) (
+    (lvalue (Binary Add ULong) (plain (ref (plain (int Int)))) (
+    (prvalue (Load ULong false) (plain (ptr (const (closure 0)))) ((lvalue (Local 0) (plain (ptr (const (closure 0)))) []) ∷ [])) ∷
+    (prvalue (Literal 0) (plain (int ULong)) []) ∷ [])) ∷ [])) ∷ [])) ∷ [])) ∷
     (effect Return ((prvalue (Literal 0) (plain (int Int)) []) ∷ [])) ∷ []))
 
 -- main()
@@ -297,22 +297,22 @@ abbrev pub lambda_capture_main : Func
 lambda_capture_main = defined (codes "main()") (codes "main") Plain None
     (signature none_typs (plain (int Int)) false) false false 0
     [] ((plain (int Int)) ∷ (plain (closure 0)) ∷ []) (
-  effect (Block false) (
+    effect (Block false) (
     (effect Init (
-      (lvalue (Local 0) (plain (int Int)) []) ∷
-      (prvalue (Store Int false) (plain (int Int)) ((prvalue (Literal 4) (plain (int Int)) []) ∷ [])) ∷ [])) ∷
+    (lvalue (Local 0) (plain (int Int)) []) ∷
+    (prvalue (Store Int false) (plain (int Int)) ((prvalue (Literal 4) (plain (int Int)) []) ∷ [])) ∷ [])) ∷
     (effect Init (
-      (lvalue (Local 1) (plain (closure 0)) []) ∷
-      (prvalue Pieces (plain (closure 0)) (
-        (prvalue (Piece 0) (plain (ref (plain (int Int)))) (
-          (prvalue (Store ULong false) (plain (ref (plain (int Int)))) ((lvalue (Local 0) (plain (int Int)) []) ∷ [])) ∷ [])) ∷ [])) ∷ [])) ∷
+    (lvalue (Local 1) (plain (closure 0)) []) ∷
+    (prvalue Pieces (plain (closure 0)) (
+    (prvalue (Piece 0) (plain (ref (plain (int Int)))) (
+    (prvalue (Store ULong false) (plain (ref (plain (int Int)))) ((lvalue (Local 0) (plain (int Int)) []) ∷ [])) ∷ [])) ∷ [])) ∷ [])) ∷
     (effect (Atomic NoExcept) (
-      (effect (Block false) (
-        (prvalue (Call 0) (plain (int Int)) ((lvalue (Local 1) (plain (closure 0)) []) ∷ (prvalue (Literal 3) (plain (int Int)) []) ∷ [])) ∷ [])) ∷ [])) ∷
+    (effect (Block false) (
+    (prvalue (Call 0) (plain (int Int)) ((lvalue (Local 1) (plain (closure 0)) []) ∷ (prvalue (Literal 3) (plain (int Int)) []) ∷ [])) ∷ [])) ∷ [])) ∷
     (prvalue (Builtin PutChar) (plain (int Int)) (
-      (prvalue (Binary Add Int) (plain (int Int)) (
-        (prvalue (Convert Int) (plain (int Int)) ((prvalue (Literal 48) (plain (int Char)) []) ∷ [])) ∷
-        (prvalue (Load Int false) (plain (int Int)) ((lvalue (Local 0) (plain (int Int)) []) ∷ [])) ∷ [])) ∷ [])) ∷
+    (prvalue (Binary Add Int) (plain (int Int)) (
+    (prvalue (Convert Int) (plain (int Int)) ((prvalue (Literal 48) (plain (int Char)) []) ∷ [])) ∷
+    (prvalue (Load Int false) (plain (int Int)) ((lvalue (Local 0) (plain (int Int)) []) ∷ [])) ∷ [])) ∷ [])) ∷
     (effect Return ((prvalue (Literal 0) (plain (int Int)) []) ∷ [])) ∷
     (effect Return ((prvalue (Literal 0) (plain (int Int)) []) ∷ [])) ∷ []))
 
@@ -339,13 +339,13 @@ abbrev pub conditional_temporary_0 : Func
 conditional_temporary_0 = defined (codes "D::D(int)") (codes "D") Constructor (Some 0)
     (signature (more_typs (plain (int Int)) none_typs) (plain void) false) false false 2
     ((plain (int Int)) ∷ []) ((plain (ptr (plain (class 0)))) ∷ (plain (int Int)) ∷ []) (
-  effect (Block true) (
+    effect (Block true) (
     (effect Init (
-      (lvalue (Binary Add ULong) (plain (int Int)) (
-        (prvalue (Load ULong false) (plain (ptr (plain (class 0)))) ((lvalue (Local 0) (plain (ptr (plain (class 0)))) []) ∷ [])) ∷
-        (prvalue (Literal 0) (plain (int ULong)) []) ∷ [])) ∷
-      (prvalue (Store Int false) (plain (int Int)) (
-        (prvalue (Load Int false) (plain (int Int)) ((lvalue (Local 1) (plain (int Int)) []) ∷ [])) ∷ [])) ∷ [])) ∷
+    (lvalue (Binary Add ULong) (plain (int Int)) (
+    (prvalue (Load ULong false) (plain (ptr (plain (class 0)))) ((lvalue (Local 0) (plain (ptr (plain (class 0)))) []) ∷ [])) ∷
+    (prvalue (Literal 0) (plain (int ULong)) []) ∷ [])) ∷
+    (prvalue (Store Int false) (plain (int Int)) (
+    (prvalue (Load Int false) (plain (int Int)) ((lvalue (Local 1) (plain (int Int)) []) ∷ [])) ∷ [])) ∷ [])) ∷
     (effect (Block false) []) ∷ []))
 
 -- D::~D()
@@ -353,26 +353,26 @@ abbrev pub conditional_temporary_1 : Func
 conditional_temporary_1 = defined (codes "D::~D()") (codes "~D") Destructor (Some 0)
     (signature none_typs (plain void) false) false true 1
     [] ((plain (ptr (plain (class 0)))) ∷ []) (
-  effect (Block false) ((effect (Block false) []) ∷ []))
+    effect (Block false) ((effect (Block false) []) ∷ []))
 
 -- f(int)
 abbrev pub conditional_temporary_2 : Func
 conditional_temporary_2 = defined (codes "f(int)") (codes "f") Plain None
     (signature (more_typs (plain (int Int)) none_typs) (plain (int Int)) false) false false 1
     ((plain (int Int)) ∷ []) ((plain (int Int)) ∷ (plain (class 0)) ∷ []) (
-  effect (Block false) (
+    effect (Block false) (
     (effect Return (
-      (prvalue FullExpression (plain (int Int)) (
-        (prvalue Conditional (plain (int Int)) (
-          (prvalue (Convert BoolKind) (plain (int BoolKind)) (
-            (prvalue (Load Int false) (plain (int Int)) ((lvalue (Local 0) (plain (int Int)) []) ∷ [])) ∷ [])) ∷
-          (prvalue (Load Int false) (plain (int Int)) (
-            (lvalue (Binary Add ULong) (plain (int Int)) (
-              (lvalue (Materialize 1 false) (plain (class 0)) (
-                (prvalue (Construct 0) (plain (class 0)) ((prvalue (Literal 1) (plain (int Int)) []) ∷ [])) ∷
-                (effect (Destroy 1 0 1 0) []) ∷ [])) ∷
-              (prvalue (Literal 0) (plain (int ULong)) []) ∷ [])) ∷ [])) ∷
-          (prvalue (Literal 2) (plain (int Int)) []) ∷ [])) ∷ [])) ∷ [])) ∷
+    (prvalue FullExpression (plain (int Int)) (
+    (prvalue Conditional (plain (int Int)) (
+    (prvalue (Convert BoolKind) (plain (int BoolKind)) (
+    (prvalue (Load Int false) (plain (int Int)) ((lvalue (Local 0) (plain (int Int)) []) ∷ [])) ∷ [])) ∷
+    (prvalue (Load Int false) (plain (int Int)) (
+    (lvalue (Binary Add ULong) (plain (int Int)) (
+    (lvalue (Materialize 1 false) (plain (class 0)) (
+    (prvalue (Construct 0) (plain (class 0)) ((prvalue (Literal 1) (plain (int Int)) []) ∷ [])) ∷
+    (effect (Destroy 1 0 1 0) []) ∷ [])) ∷
+    (prvalue (Literal 0) (plain (int ULong)) []) ∷ [])) ∷ [])) ∷
+    (prvalue (Literal 2) (plain (int Int)) []) ∷ [])) ∷ [])) ∷ [])) ∷
     (effect Return ((prvalue (Literal 0) (plain (int Int)) []) ∷ [])) ∷ []))
 
 -- main()
@@ -380,7 +380,7 @@ abbrev pub conditional_temporary_main : Func
 conditional_temporary_main = defined (codes "main()") (codes "main") Plain None
     (signature none_typs (plain (int Int)) false) false false 0
     [] [] (
-  effect (Block false) (
+    effect (Block false) (
     (prvalue (Call 2) (plain (int Int)) ((prvalue (Literal 1) (plain (int Int)) []) ∷ [])) ∷
     (prvalue (Call 2) (plain (int Int)) ((prvalue (Literal 0) (plain (int Int)) []) ∷ [])) ∷
     (effect Return ((prvalue (Literal 0) (plain (int Int)) []) ∷ [])) ∷
@@ -408,13 +408,13 @@ abbrev pub argument_object_0 : Func
 argument_object_0 = defined (codes "D::D(int)") (codes "D") Constructor (Some 0)
     (signature (more_typs (plain (int Int)) none_typs) (plain void) false) false false 2
     ((plain (int Int)) ∷ []) ((plain (ptr (plain (class 0)))) ∷ (plain (int Int)) ∷ []) (
-  effect (Block true) (
+    effect (Block true) (
     (effect Init (
-      (lvalue (Binary Add ULong) (plain (int Int)) (
-        (prvalue (Load ULong false) (plain (ptr (plain (class 0)))) ((lvalue (Local 0) (plain (ptr (plain (class 0)))) []) ∷ [])) ∷
-        (prvalue (Literal 0) (plain (int ULong)) []) ∷ [])) ∷
-      (prvalue (Store Int false) (plain (int Int)) (
-        (prvalue (Load Int false) (plain (int Int)) ((lvalue (Local 1) (plain (int Int)) []) ∷ [])) ∷ [])) ∷ [])) ∷
+    (lvalue (Binary Add ULong) (plain (int Int)) (
+    (prvalue (Load ULong false) (plain (ptr (plain (class 0)))) ((lvalue (Local 0) (plain (ptr (plain (class 0)))) []) ∷ [])) ∷
+    (prvalue (Literal 0) (plain (int ULong)) []) ∷ [])) ∷
+    (prvalue (Store Int false) (plain (int Int)) (
+    (prvalue (Load Int false) (plain (int Int)) ((lvalue (Local 1) (plain (int Int)) []) ∷ [])) ∷ [])) ∷ [])) ∷
     (effect (Block false) []) ∷ []))
 
 -- D::~D()
@@ -422,30 +422,30 @@ abbrev pub argument_object_1 : Func
 argument_object_1 = defined (codes "D::~D()") (codes "~D") Destructor (Some 0)
     (signature none_typs (plain void) false) false true 1
     [] ((plain (ptr (plain (class 0)))) ∷ []) (
-  effect (Block false) (
+    effect (Block false) (
     (effect (Block false) (
-      (prvalue (Builtin PutChar) (plain (int Int)) (
-        (prvalue (Binary Add Int) (plain (int Int)) (
-          (prvalue (Convert Int) (plain (int Int)) ((prvalue (Literal 48) (plain (int Char)) []) ∷ [])) ∷
-          (prvalue (Load Int false) (plain (int Int)) (
-            (lvalue (Binary Add ULong) (plain (int Int)) (
-              (lvalue Retype (plain (class 0)) (
-                (prvalue (Load ULong false) (plain (ptr (plain (class 0)))) ((lvalue (Local 0) (plain (ptr (plain (class 0)))) []) ∷ [])) ∷ [])) ∷
-              (prvalue (Literal 0) (plain (int ULong)) []) ∷ [])) ∷ [])) ∷ [])) ∷ [])) ∷ [])) ∷ []))
+    (prvalue (Builtin PutChar) (plain (int Int)) (
+    (prvalue (Binary Add Int) (plain (int Int)) (
+    (prvalue (Convert Int) (plain (int Int)) ((prvalue (Literal 48) (plain (int Char)) []) ∷ [])) ∷
+    (prvalue (Load Int false) (plain (int Int)) (
+    (lvalue (Binary Add ULong) (plain (int Int)) (
+    (lvalue Retype (plain (class 0)) (
+    (prvalue (Load ULong false) (plain (ptr (plain (class 0)))) ((lvalue (Local 0) (plain (ptr (plain (class 0)))) []) ∷ [])) ∷ [])) ∷
+    (prvalue (Literal 0) (plain (int ULong)) []) ∷ [])) ∷ [])) ∷ [])) ∷ [])) ∷ [])) ∷ []))
 
 -- get(D)
 abbrev pub argument_object_2 : Func
 argument_object_2 = defined (codes "get(D)") (codes "get") Plain None
     (signature (more_typs (plain (class 0)) none_typs) (plain (int Int)) false) false false 1
     ((plain (class 0)) ∷ []) ((plain (ptr (plain (class 0)))) ∷ []) (
-  effect (Block false) (
+    effect (Block false) (
     (effect Return (
-      (prvalue (Binary Add Int) (plain (int Int)) (
-        (prvalue (Load Int false) (plain (int Int)) (
-          (lvalue (Binary Add ULong) (plain (int Int)) (
-            (lvalue (Load ULong false) (plain (class 0)) ((lvalue (Local 0) (plain (ptr (plain (class 0)))) []) ∷ [])) ∷
-            (prvalue (Literal 0) (plain (int ULong)) []) ∷ [])) ∷ [])) ∷
-        (prvalue (Literal 1) (plain (int Int)) []) ∷ [])) ∷ [])) ∷
+    (prvalue (Binary Add Int) (plain (int Int)) (
+    (prvalue (Load Int false) (plain (int Int)) (
+    (lvalue (Binary Add ULong) (plain (int Int)) (
+    (lvalue (Load ULong false) (plain (class 0)) ((lvalue (Local 0) (plain (ptr (plain (class 0)))) []) ∷ [])) ∷
+    (prvalue (Literal 0) (plain (int ULong)) []) ∷ [])) ∷ [])) ∷
+    (prvalue (Literal 1) (plain (int Int)) []) ∷ [])) ∷ [])) ∷
     (effect Return ((prvalue (Literal 0) (plain (int Int)) []) ∷ [])) ∷ []))
 
 -- main()
@@ -453,14 +453,14 @@ abbrev pub argument_object_main : Func
 argument_object_main = defined (codes "main()") (codes "main") Plain None
     (signature none_typs (plain (int Int)) false) false false 0
     [] ((plain (class 0)) ∷ []) (
-  effect (Block false) (
+    effect (Block false) (
     (prvalue (Builtin PutChar) (plain (int Int)) (
-      (prvalue (Binary Add Int) (plain (int Int)) (
-        (prvalue (Convert Int) (plain (int Int)) ((prvalue (Literal 48) (plain (int Char)) []) ∷ [])) ∷
-        (prvalue (Call 2) (plain (int Int)) (
-          (lvalue (Materialize 0 true) (plain (class 0)) (
-            (prvalue (Construct 0) (plain (class 0)) ((prvalue (Literal 2) (plain (int Int)) []) ∷ [])) ∷
-            (effect (Destroy 1 0 1 0) []) ∷ [])) ∷ [])) ∷ [])) ∷ [])) ∷
+    (prvalue (Binary Add Int) (plain (int Int)) (
+    (prvalue (Convert Int) (plain (int Int)) ((prvalue (Literal 48) (plain (int Char)) []) ∷ [])) ∷
+    (prvalue (Call 2) (plain (int Int)) (
+    (lvalue (Materialize 0 true) (plain (class 0)) (
+    (prvalue (Construct 0) (plain (class 0)) ((prvalue (Literal 2) (plain (int Int)) []) ∷ [])) ∷
+    (effect (Destroy 1 0 1 0) []) ∷ [])) ∷ [])) ∷ [])) ∷ [])) ∷
     (effect Return ((prvalue (Literal 0) (plain (int Int)) []) ∷ [])) ∷
     (effect Return ((prvalue (Literal 0) (plain (int Int)) []) ∷ [])) ∷ []))
 

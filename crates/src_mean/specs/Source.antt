@@ -198,7 +198,8 @@ called_signature (typ f c v) = signature_in f
 
 -- the destructions at this address, of which this one is first
 abbrev pub destroy : Program → Here → ℕ → TKind → Trees → List Frame → State
-destroy p h address (Destroy f offset count stride) others k = at Silent h (Destroys (p.number h.unit f) (plus address offset) stride count ∷ Gives address ∷ Due others ∷ k)
+destroy p h address (Destroy f offset count stride) others k = at Silent h (Destroys (p.number h.unit f) (plus address offset) stride count
+    ∷ Gives address ∷ Due others ∷ k)
 destroy p h address kind others k = at Silent h (Gives address ∷ Due others ∷ k)
 
 abbrev pub kept : Bool → List Waiting → List Waiting
@@ -234,6 +235,11 @@ case_word kind = 0
 
 abbrev pub run_items : Here → Trees → List Frame → State
 run_items h items k = at Silent h (Items items ∷ Scope of_block true [] ∷ Switches ∷ k)
+
+-- the next label is compared; where there is none, the items go on from `default`
+abbrev pub compare : Here → ℕ → Trees → Trees → List Frame → State
+compare h w none items k = run_items h (from_label is_default items) k
+compare h w (more t ts) items k = at Silent h (Compares w (kind_of t) ts items ∷ k)
 
 -- Handlers
 
@@ -286,14 +292,19 @@ run_node p h way (Binary op kind) kids done k = at Silent h (Run value (first ki
 run_node p h way Conditional kids done k = at Silent h (Run value (first kids) ∷ Choose way (second kids) (third kids) ∷ k)
 run_node p h way Comma kids done k = at Silent h (Run value (first kids) ∷ Then way (second kids) ∷ k)
 run_node p h way (Assign kind volatile) kids done k = at Silent h (Run value (first kids) ∷ AssignTo kind volatile (second kids) ∷ k)
-run_node p h way (Update op stored operation volatile old) kids done k = at Silent h (Run value (first kids) ∷ UpdateAt (record { op = op; stored = stored; operation = operation; volatile = volatile; old = old }) (second kids) ∷ k)
+run_node p h way (Update op stored operation volatile old) kids done k = at Silent h (Run value (first kids)
+    ∷ UpdateAt (record { op = op; stored = stored; operation = operation; volatile = volatile; old = old }) (second kids) ∷ k)
 run_node p h way CopyAssign kids done k = at Silent h (Run value (first kids) ∷ CopyTo (second kids) (third kids) ∷ k)
-run_node p h way (Materialize place true) kids done k = at Silent h (Run (into (place_address h place) 0) (first kids) ∷ Waits of_call (literal (place_address h place)) (rest kids) ∷ Gives (place_address h place) ∷ k)
-run_node p h way (Materialize place false) kids done k = at Silent h (Run (into (place_address h place) 0) (first kids) ∷ Keeps (literal (place_address h place)) (rest kids) ∷ Gives (place_address h place) ∷ k)
+run_node p h way (Materialize place true) kids done k = at Silent h (Run (into (place_address h place) 0) (first kids)
+    ∷ Waits of_call (literal (place_address h place)) (rest kids) ∷ Gives (place_address h place) ∷ k)
+run_node p h way (Materialize place false) kids done k = at Silent h (Run (into (place_address h place) 0) (first kids)
+    ∷ Keeps (literal (place_address h place)) (rest kids) ∷ Gives (place_address h place) ∷ k)
 run_node p h way FullExpression kids done k = at Silent (with_temporaries h []) (Run way (first kids) ∷ Full h.temporaries ∷ k)
 run_node p h way (Call f) kids done k = call p h (known (p.number h.unit f)) (result_words way) kids k
-run_node p h way (VirtualCall f class slot offset) kids done k = at Silent h (Run value (first kids) ∷ Object (result_words way) class slot offset (rest kids) ∷ k)
-run_node p h way PointerCall kids done k = at Silent h (Run value (first kids) ∷ Pointer (result_words way) (called_signature (typ_in (first kids))) (rest kids) ∷ k)
+run_node p h way (VirtualCall f class slot offset) kids done k = at Silent h (Run value (first kids)
+    ∷ Object (result_words way) class slot offset (rest kids) ∷ k)
+run_node p h way PointerCall kids done k = at Silent h (Run value (first kids)
+    ∷ Pointer (result_words way) (called_signature (typ_in (first kids))) (rest kids) ∷ k)
 run_node p h way (CallBuiltin which) kids done k = next_word p h (builtin which) [] kids k
 run_node p h way Throw kids done k = at Silent h (Run value (first kids) ∷ Throws (thrown_typ (typ_in (first kids))) (rest kids) ∷ k)
 run_node p h way Rethrow kids done k = rethrow h (handled k) k
@@ -303,8 +314,10 @@ run_node p h way (Construct f) kids done k = call p h (known (p.number h.unit f)
 run_node p h way (CopyConstruct f) kids done k = enter h (target_of way ∷ source_of way ∷ []) (p.func (p.number h.unit f)) k
 run_node p h way CopyFrom kids done k = at Silent h (Run value (first kids) ∷ From (target_of way) (second kids) ∷ k)
 run_node p h way Pieces kids done k = at Silent h (Parts kids (target_of way) (source_of way) ∷ Scope of_pieces false [] ∷ k)
-run_node p h way (Piece offset) kids done k = at Silent h (Run (into (plus (target_of way) offset) (plus (source_of way) offset)) (first kids) ∷ Waits of_pieces (literal (plus (target_of way) offset)) (rest kids) ∷ k)
-run_node p h way (Elements count stride) kids done k = at Silent h (Each (first kids) (rest kids) stride count (target_of way) (source_of way) ∷ Scope of_pieces false [] ∷ k)
+run_node p h way (Piece offset) kids done k = at Silent h (Run (into (plus (target_of way) offset) (plus (source_of way) offset)) (first kids)
+    ∷ Waits of_pieces (literal (plus (target_of way) offset)) (rest kids) ∷ k)
+run_node p h way (Elements count stride) kids done k = at Silent h (Each (first kids) (rest kids) stride count (target_of way) (source_of way)
+    ∷ Scope of_pieces false [] ∷ k)
 run_node p h way (Block subobjects) kids done k = at Silent h (Items kids ∷ Scope of_block (not subobjects) [] ∷ k)
 run_node p h way Init kids done k = at Silent h (Run value (first kids) ∷ InitAt (second kids) (rest (rest kids)) ∷ k)
 run_node p h way Defer kids done k = at Silent h (Waits of_block (first kids) (rest kids) ∷ k)
@@ -354,7 +367,8 @@ give p h v (Choose way chosen other ∷ k) = at Silent h (Run way (cond (v == 0)
 give p h v (AssignTo kind volatile t ∷ k) = at Silent h (Run value t ∷ StoreTo v kind volatile v ∷ k)
 give p h v (UpdateAt c t ∷ k) = read h v c.stored c.volatile (UpdateOld c v t ∷ k)
 give p h v (UpdateOld c address t ∷ k) = at Silent h (Run value t ∷ UpdateBy c address v ∷ k)
-give p h v (UpdateBy c address old ∷ k) = finish (applied c.op c.operation old v) h (λ z. write h address c.stored c.volatile (converted c.stored (word_of z)) (Gives (updated c address old) ∷ k)) k
+give p h v (UpdateBy c address old
+    ∷ k) = finish (applied c.op c.operation old v) h (λ z. write h address c.stored c.volatile (converted c.stored (word_of z)) (Gives (updated c address old) ∷ k)) k
 give p h v (CopyTo source init ∷ k) = at Silent h (Run value source ∷ CopyBy v init ∷ k)
 give p h v (CopyBy target init ∷ k) = at Silent h (Run (into target v) init ∷ Gives target ∷ k)
 give p h v (From target init ∷ k) = at Silent h (Run (into target v) init ∷ k)
@@ -380,15 +394,15 @@ give p h v (Destroys number address stride (suc n) ∷ k) = enter h (plus addres
 give p h v (Parts none target source ∷ k) = give p h v k
 give p h v (Parts (more t ts) target source ∷ k) = at Silent h (Run (into target source) t ∷ Parts ts target source ∷ k)
 give p h v (Each init destroys stride zero target source ∷ k) = give p h v k
-give p h v (Each init destroys stride (suc n) target source ∷ k) = at Silent h (Run (into target source) init ∷ Waits of_pieces (literal target) destroys ∷ Each init destroys stride n (plus target stride) (plus source stride) ∷ k)
+give p h v (Each init destroys stride (suc n) target source ∷ k) = at Silent h (Run (into target source) init
+    ∷ Waits of_pieces (literal target) destroys ∷ Each init destroys stride n (plus target stride) (plus source stride) ∷ k)
 give p h v (Items none ∷ k) = give p h 0 k
 give p h v (Items (more t ts) ∷ k) = at Silent h (Run value t ∷ Items ts ∷ k)
 give p h v (Test test body step ∷ k) = cond (v == 0) (at Silent h (Gives 0 ∷ k)) (at Silent h (Run value body ∷ Body test body step ∷ k))
 give p h v (Body test body step ∷ k) = at Silent h (Run value step ∷ Step test body step ∷ k)
 give p h v (Step test body step ∷ k) = at Silent h (Run value test ∷ Test test body step ∷ k)
-give p h v (Picks items ∷ k) = at Silent h (Compares v (from_label is_case items) items ∷ k)
-give p h v (Compares w none items ∷ k) = run_items h (from_label is_default items) k
-give p h v (Compares w (more t ts) items ∷ k) = cond (case_word (kind_of t) == w) (run_items h ts k) (at Silent h (Compares w (from_label is_case ts) items ∷ k))
+give p h v (Picks items ∷ k) = compare h v (from_label is_case items) items k
+give p h v (Compares w label ts items ∷ k) = cond (case_word label == w) (run_items h ts k) (compare h w (from_label is_case ts) items k)
 give p h v (Switches ∷ k) = give p h 0 k
 give p h v (Returning ∷ k) = leave h (returns v) k
 give p h v (Opens block body ∷ k) = at Silent h (Run value body ∷ Within block ∷ k)
