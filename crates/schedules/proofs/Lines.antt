@@ -1,11 +1,11 @@
 -- Lines at the front of a text: there is one way to read them.
-use Rattle.std.proofs.Common.{◌≡◌, ◌≢◌, ◌∙◌, ◌⊎◌, ◌<◌, ◌≤◌, ◌+◌, ◌++◌, inl, inr, ap, ap₂, sym, subst, refl, arith, ℕ, Bool, List, [], ◌∷◌, true, false, true≢false, append_assoc, leb-true, ltb-true}
-use Rattle.std.specs.Prelude.{◌&&◌, ◌^◌, ◌==◌, if◌then◌else◌, zero, suc, nat_lt, nat_le, slice_index}
+use Rattle.std.proofs.Common.{◌≡◌, ◌≢◌, ◌∙◌, ◌⊎◌, ◌<◌, ◌≤◌, ◌++◌, inl, inr, ap, ap₂, sym, subst, refl, arith, ℕ, Bool, List, [], ◌∷◌, true, false, true≢false, append_assoc, leb-true, ltb-true}
+use Rattle.std.specs.Prelude.{◌&&◌, ◌^◌, ◌==◌, if◌then◌else◌}
 use Rattle.std.specs.List.{list_all}
 use Rattle.std.specs.Fmt.{decimal}
-use Rattle.std.proofs.lemmas.Bool.Decides.{Decides-eqb, eqb_tells}
-use Rattle.schedules.specs.Number.{IsBehind, BeginsWith, BeginsWithNone}
-use Rattle.schedules.specs.Text.{count_text, line_text, is_line, text_of, entries_of, Spells, IsFirstBad}
+use Rattle.std.proofs.lemmas.Bool.Decides.{Decides-eqb}
+use Rattle.schedules.specs.Number.{IsBehind}
+use Rattle.schedules.specs.Text.{count_text, line_text, is_line, text_of}
 use Rattle.schedules.specs.declared.Run.{Run}
 use Rattle.schedules.proofs.Numbers.{IsSame, same_number}
 

@@ -1,5 +1,5 @@
 -- Numbers at the front of a text.
-use Rattle.std.proofs.Common.{◌≡◌, ◌≢◌, ◌∙◌, ◌⊎◌, ◌<◌, ◌≤◌, ◌+◌, ◌*◌, ◌-◌, ◌++◌, inl, inr, ap, ap₂, sym, subst, refl, arith, rules, ℕ, Bool, List, [], ◌∷◌, true, false, true≢false, length, take, drop, get_or}
+use Rattle.std.proofs.Common.{◌≡◌, ◌∙◌, ◌⊎◌, ◌<◌, ◌≤◌, ◌+◌, ◌*◌, ◌-◌, ◌++◌, inl, inr, ap, sym, subst, refl, arith, rules, ℕ, Bool, List, [], ◌∷◌, true, false, true≢false, length, take, drop, get_or}
 use Rattle.std.specs.Prelude.{◌&&◌, ◌^◌, cond, zero, suc}
 use Rattle.std.specs.Char.{is_ascii_digit}
 use Rattle.std.specs.List.{prefix_len}

@@ -1,6 +1,6 @@
 -- The reader, line by line.
-use Rattle.std.proofs.Common.{◌≡◌, ◌≢◌, ◌∙◌, ◌⊎◌, inl, inr, ◌<◌, ◌≤◌, ◌+◌, ◌*◌, ◌-◌, ◌++◌, ap, ap₂, sym, subst, refl, arith, ℕ, Bool, List, [], ◌∷◌, true, false, true≢false, take, drop, length, get_or, replicate, append_assoc, leb-true, length-append, append-nil}
-use Rattle.std.specs.Prelude.{◌&&◌, ◌^◌, zero, suc, nat_lt}
+use Rattle.std.proofs.Common.{◌≡◌, ◌≢◌, ◌∙◌, inl, inr, ◌<◌, ◌≤◌, ◌+◌, ◌*◌, ◌-◌, ◌++◌, ap, ap₂, sym, subst, refl, arith, ℕ, List, [], ◌∷◌, true, take, drop, length, get_or, replicate, append_assoc, leb-true, length-append, append-nil}
+use Rattle.std.specs.Prelude.{◌&&◌, ◌^◌, zero, suc}
 use Rattle.std.specs.Char.{is_ascii_digit}
 use Rattle.std.specs.List.{list_all}
 use Rattle.std.specs.Str.{all_ascii_digits}

@@ -1,7 +1,7 @@
 -- The runs of equal entries.
-use Rattle.std.proofs.Common.{◌≡◌, ◌≢◌, ◌∙◌, ◌<◌, ◌≤◌, ◌+◌, ◌++◌, ap, ap₂, sym, subst, refl, arith, ℕ, Bool, List, [], ◌∷◌, true, false, true≢false, drop, length, replicate, append_assoc, leb-true, ltb-true, le-leb, lt-ltb}
-use Rattle.std.specs.Prelude.{◌&&◌, ◌==◌, if◌then◌else◌, cond, zero, suc, not, nat_lt, nat_le}
-use Rattle.std.specs.List.{list_all, prefix_len}
+use Rattle.std.proofs.Common.{◌≡◌, ◌≢◌, ◌∙◌, ◌<◌, ◌≤◌, ◌+◌, ◌++◌, ap, sym, subst, refl, arith, ℕ, Bool, List, [], ◌∷◌, true, false, true≢false, drop, length, replicate, append_assoc, ltb-true, le-leb, lt-ltb}
+use Rattle.std.specs.Prelude.{◌&&◌, ◌==◌, if◌then◌else◌, cond, suc, not, nat_lt}
+use Rattle.std.specs.List.{list_all}
 use Rattle.std.specs.Fmt.{decimal}
 use Rattle.std.proofs.lemmas.Bool.Decides.{Decides-eqb}
 use Rattle.schedules.specs.Number.{equal_len}

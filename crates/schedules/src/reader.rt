@@ -1,7 +1,7 @@
 //! The reader of schedules.
-ghost use Rattle.std.specs.Prelude.{◌≡◌, ◌≢◌, ◌≤◌, ◌++◌, ◌∷◌, [], ℕ, List, true, length, vec_len, decimal, replicate, MatchOption, OnOk};
-ghost use Rattle.schedules.specs.Text.{count_text, line_text, is_line, IsCount, IsMany, Keeps, most_entries};
-ghost use Rattle.schedules.specs.Text.{Outcome};
+ghost use Rattle.std.specs.Prelude.{◌≡◌, ◌≢◌, ◌≤◌, ◌++◌, ◌∷◌, [], ℕ, List};
+ghost use Rattle.std.specs.Prelude.{true, length, vec_len, decimal, replicate, MatchOption, OnOk};
+ghost use Rattle.schedules.specs.Text.{count_text, line_text, is_line, IsCount, IsMany, Keeps, Outcome, most_entries};
 ghost use Rattle.schedules.specs.declared.Run.{Run as Runs};
 
 use crate::number::number_at;

@@ -69,7 +69,13 @@ abbrev pub exec_app : App
 exec_app = command_app (codes "exec") (run_options ++ words_rule (codes "objects") ∷ [])
 
 abbrev pub replay_app : App
-replay_app = command_app (codes "replay") (option_rule (codes "input") ∷ number_rule (codes "cost") 100000000 ∷ required_rule (codes "order") ∷ words_rule (codes "sources") ∷ [])
+replay_app =
+    command_app (codes "replay") (
+    option_rule (codes "input")
+    ∷ number_rule (codes "cost") 100000000
+    ∷ required_rule (codes "order")
+    ∷ words_rule (codes "sources")
+    ∷ [])
 
 abbrev pub dis_app : App
 dis_app = command_app (codes "dis") (word_rule (codes "object") ∷ [])
@@ -85,7 +91,13 @@ commands = run_app ∷ check_app ∷ selftest_app ∷ build_app ∷ exec_app ∷
 
 -- the words begin with the command's name, there is no command `help`, and a command has to be given
 abbrev pub bare_app : App
-bare_app = record (new_app (codes "txcc")) { top = record (new_app (codes "txcc")).top { no_binary_name = true; disable_help_subcommand = true; subcommand_required = true } }
+bare_app = record (new_app (codes "txcc")) {
+  top = record (new_app (codes "txcc")).top {
+    no_binary_name = true;
+    disable_help_subcommand = true;
+    subcommand_required = true;
+  };
+}
 
 unfoldable pub txcc_app : App
 txcc_app = fold with_subcommand bare_app (map (λ a. a.top) commands)

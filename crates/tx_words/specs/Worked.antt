@@ -4,7 +4,8 @@ use Rattle.clap.specs.Words.{Text}
 
 abbrev pub full_run : List Text
 full_run =
-    codes "run" ∷ codes "--record" ∷ codes "r" ∷ codes "--fold" ∷ codes "--policy=polite" ∷ codes "a.cc" ∷ codes "--pick" ∷ codes "file:s" ∷ codes "--steps" ∷ codes "1000" ∷ codes "b.cc" ∷ []
+    codes "run" ∷ codes "--record" ∷ codes "r" ∷ codes "--fold" ∷ codes "--policy=polite" ∷ codes "a.cc"
+    ∷ codes "--pick" ∷ codes "file:s" ∷ codes "--steps" ∷ codes "1000" ∷ codes "b.cc" ∷ []
 
 abbrev pub taken : List (List Text)
 taken =

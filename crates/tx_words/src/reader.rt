@@ -240,6 +240,7 @@ pub fn read(alloc: Global, words: &[String]) -> Result<Option<Command>, AllocErr
     ensures says { IfOk result (λ o. IfSome o (Says (map string_bytes words.now))) }
     ensures refused { result ≡ Ok None → (c : Commands) → Says (map string_bytes words.now) c → ⊥ }
     ensures cause { result ≡ Ok None → (takes txcc_app (map string_bytes words.now) ≡ false) ⊎ HasUnknown (map string_bytes words.now) }
+    ensures unknown { HasUnknown (map string_bytes words.now) → IfOk result (λ o. o ≡ None) }
 {
     let Some(matches) = matches_of(alloc, words)? else {
         return Ok(None);

@@ -1,5 +1,5 @@
-use Rattle.std.proofs.Common.{◌≡◌, ◌∙◌, ◌++◌, ◌+◌, ap, sym, List, length}
-use Rattle.schedules.specs.Text.{text_of, entries_of}
+use Rattle.std.proofs.Common.{◌∙◌, ◌+◌, ap, sym, length}
+use Rattle.schedules.specs.Text.{entries_of}
 use Rattle.schedules.proofs.Lines.{same_lines, no_bad, one_bad}
 use Rattle.schedules.proofs.laws.one_reading.Goals as goal
 

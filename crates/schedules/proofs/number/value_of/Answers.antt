@@ -1,4 +1,4 @@
-use Rattle.std.proofs.Common.{◌≡◌, ◌≤◌, ◌+◌, arith, get_or}
+use Rattle.std.proofs.Common.{◌+◌, arith}
 use Rattle.schedules.proofs.Reading.{digit_range, read_more, read_at_least}
 use Rattle.schedules.proofs.number.value_of.Goals as goal
 

@@ -1,4 +1,3 @@
-use Rattle.std.proofs.Common.{◌≡◌, ◌∙◌, sym}
 use Rattle.schedules.proofs.Lines.{in_bounds}
 use Rattle.schedules.proofs.Reading.{thread_read}
 use Rattle.schedules.proofs.reader.line_at.Goals as goal

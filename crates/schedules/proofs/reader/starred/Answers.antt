@@ -1,4 +1,4 @@
-use Rattle.std.proofs.Common.{◌≡◌, ◌∙◌, ◌++◌, ◌∷◌, List, ℕ, sym, arith}
+use Rattle.std.proofs.Common.{◌≡◌, ◌∙◌, ◌++◌, ◌∷◌, sym, arith}
 use Rattle.std.specs.Fmt.{decimal}
 use Rattle.schedules.proofs.Reading.{same_tail, star_read}
 use Rattle.schedules.proofs.reader.starred.Goals as goal
