@@ -8,7 +8,7 @@ use Rattle.tx_events.specs.declared.End.TheVariants.{Terminate, Trapped}
 use Rattle.tx_ints.specs.declared.kinds.ArithTrap.TheVariants.{Overflow as Overflows, DivideByZero as DividesByZero, ShiftRange as ShiftsBeyond}
 use Rattle.tx_events.specs.declared.Reply.TheVariants.{Nothing}
 use Rattle.tx_ints.specs.declared.kinds.ArithTrap.{ArithTrap}
-use Rattle.tx_ints.specs.Words.{word_of, value_of_word}
+use Rattle.tx_ints.specs.Words.{word_of}
 use Rattle.tx_ints.specs.declared.kinds.IntKind.TheVariants.{Bool as BoolKind, Char, SChar, UChar, Short, UShort, Int, UInt, Long, ULong, LLong, ULLong}
 use Rattle.tx_ints.specs.declared.kinds.IntKind.{IntKind}
 use Rattle.cpp_layout.specs.Layout.{kind_size}

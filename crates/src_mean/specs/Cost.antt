@@ -1,10 +1,10 @@
 -- Cost: how many steps of a thread a replay takes. Each silent step and each event counts one.
-use Rattle.std.specs.Prelude.{ℕ, ◌≡◌, ◌+◌, Bool, true, List, [], ◌∷◌}
+use Rattle.std.specs.Prelude.{ℕ, ◌+◌, List, [], ◌∷◌}
 use Rattle.tx_events.specs.declared.Event.{Event}
 use Rattle.tx_events.specs.declared.Event.TheVariants.{BeginAtomic}
 use Rattle.tx_events.specs.Thread.{Thread}
 use Rattle.tx_events.specs.Memory.{MemoryLayout}
-use Rattle.tx_events.specs.Alone.{Inner, Inside, at_start, goes_on, Alone}
+use Rattle.tx_events.specs.Alone.{Inner, Inside, at_start, goes_on}
 use Rattle.tx_events.specs.World.{World, SilentSteps, none, one_more, EventStep, Step, Replays}
 
 abbrev pub silent_cost : {S : Type 0} {a : Thread S} {s r : S} → SilentSteps a s r → ℕ
