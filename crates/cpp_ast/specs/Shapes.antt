@@ -23,12 +23,16 @@ pub data Part : Type 0 where
 -- kids of these kinds are these parts, one behind the other
 pub data FitsShape : List Part → List NodeKind → Type 0 where
   nothing : FitsShape [] []
-  the_one : {which : Which} {parts : List Part} {kid : NodeKind} {kids : List NodeKind} → Is which kid → FitsShape parts kids → FitsShape (one which ∷ parts) (kid ∷ kids)
+  the_one : {which : Which} {parts : List Part} {kid : NodeKind} {kids : List NodeKind} → Is which kid → FitsShape parts kids
+      → FitsShape (one which ∷ parts) (kid ∷ kids)
   missing : {which : Which} {parts : List Part} {kids : List NodeKind} → FitsShape parts kids → FitsShape (optional which ∷ parts) kids
-  present : {which : Which} {parts : List Part} {kid : NodeKind} {kids : List NodeKind} → Is which kid → FitsShape parts kids → FitsShape (optional which ∷ parts) (kid ∷ kids)
+  present : {which : Which} {parts : List Part} {kid : NodeKind} {kids : List NodeKind} → Is which kid → FitsShape parts kids
+      → FitsShape (optional which ∷ parts) (kid ∷ kids)
   no_more : {which : Which} {parts : List Part} {kids : List NodeKind} → FitsShape parts kids → FitsShape (any which ∷ parts) kids
-  one_more : {which : Which} {parts : List Part} {kid : NodeKind} {kids : List NodeKind} → Is which kid → FitsShape (any which ∷ parts) kids → FitsShape (any which ∷ parts) (kid ∷ kids)
-  first : {which : Which} {parts : List Part} {kid : NodeKind} {kids : List NodeKind} → Is which kid → FitsShape (any which ∷ parts) kids → FitsShape (some which ∷ parts) (kid ∷ kids)
+  one_more : {which : Which} {parts : List Part} {kid : NodeKind} {kids : List NodeKind} → Is which kid → FitsShape (any which ∷ parts) kids
+      → FitsShape (any which ∷ parts) (kid ∷ kids)
+  first : {which : Which} {parts : List Part} {kid : NodeKind} {kids : List NodeKind} → Is which kid → FitsShape (any which ∷ parts) kids
+      → FitsShape (some which ∷ parts) (kid ∷ kids)
 
 -- an expression
 abbrev pub is_expression : NodeKind → Bool
@@ -251,7 +255,9 @@ shape_of AssignmentExpression = one expression ∷ one expression ∷ []
 shape_of ThrowExpression = optional expression ∷ []
 shape_of CommaExpression = one expression ∷ one expression ∷ []
 shape_of LambdaIntroducer = optional (only CaptureDefault) ∷ any capture ∷ []
-shape_of LambdaDeclarator = optional (only ParameterDeclarationClause) ∷ optional (only Mutable) ∷ optional (only TxQualifier) ∷ optional (only NoexceptSpecification) ∷ optional (only TrailingReturnType) ∷ []
+shape_of LambdaDeclarator =
+    optional (only ParameterDeclarationClause) ∷ optional (only Mutable) ∷ optional (only TxQualifier) ∷ optional (only NoexceptSpecification) ∷
+    optional (only TrailingReturnType) ∷ []
 shape_of TrailingReturnType = one (only TypeId) ∷ []
 shape_of TypeSpecifierSeq = any (only CvQualifier) ∷ some type_specifier ∷ any (only CvQualifier) ∷ []
 shape_of TxException = one (only TypeId) ∷ []
@@ -280,11 +286,16 @@ shape_of EnumeratorDefinition = optional expression ∷ []
 shape_of LinkageSpecification = one linked ∷ []
 shape_of LinkageBlock = any linked ∷ []
 shape_of SimpleDeclaration = optional (only Attribute) ∷ any (only DeclSpecifier) ∷ one (only TypeSpecifierSeq) ∷ some (only InitDeclarator) ∷ []
-shape_of FunctionDefinition = optional (only Attribute) ∷ any (only DeclSpecifier) ∷ one (only TypeSpecifierSeq) ∷ one declarator ∷ any (only VirtSpecifier) ∷ one (only CompoundStatement) ∷ []
+shape_of FunctionDefinition =
+    optional (only Attribute) ∷ any (only DeclSpecifier) ∷ one (only TypeSpecifierSeq) ∷ one declarator ∷ any (only VirtSpecifier) ∷ one
+    (only CompoundStatement) ∷ []
 shape_of ConstructorDeclaration = optional (only Attribute) ∷ any (only DeclSpecifier) ∷ one (only FunctionDeclarator) ∷ []
-shape_of ConstructorDefinition = optional (only Attribute) ∷ any (only DeclSpecifier) ∷ one (only FunctionDeclarator) ∷ any member_initializer ∷ one (only CompoundStatement) ∷ []
+shape_of ConstructorDefinition =
+    optional (only Attribute) ∷ any (only DeclSpecifier) ∷ one (only FunctionDeclarator) ∷ any member_initializer ∷ one (only CompoundStatement) ∷ []
 shape_of DestructorDeclaration = any (only DeclSpecifier) ∷ one (only FunctionDeclarator) ∷ any (only VirtSpecifier) ∷ []
-shape_of DestructorDefinition = optional (only Attribute) ∷ any (only DeclSpecifier) ∷ one (only FunctionDeclarator) ∷ any (only VirtSpecifier) ∷ one (only CompoundStatement) ∷ []
+shape_of DestructorDefinition =
+    optional (only Attribute) ∷ any (only DeclSpecifier) ∷ one (only FunctionDeclarator) ∷ any (only VirtSpecifier) ∷ one (only CompoundStatement) ∷
+    []
 shape_of MemberDeclaration = optional (only Attribute) ∷ any (only DeclSpecifier) ∷ one (only TypeSpecifierSeq) ∷ some (only MemberDeclarator) ∷ []
 shape_of MemberDeclarator = one declarator ∷ any (only VirtSpecifier) ∷ optional member_value ∷ []
 shape_of PureSpecifier = one (only IntegerLiteral) ∷ []

@@ -7,7 +7,7 @@ use Rattle.cpp_ast.specs.declared.arena.Node.{Node}
 use Rattle.cpp_ast.specs.declared.units.LamBody.{LamBody}
 use Rattle.cpp_ast.specs.Shapes.{FitsShape, shape_of, counts_one, has_token}
 
--- a syntax tree: its kind, its place, its token and its kids
+-- a syntax tree: its kind, its position, its token and its kids
 mutual
   pub data Tree : Type 0 where
     node : NodeKind → At → Option ℕ → Trees → Tree
@@ -24,24 +24,26 @@ abbrev pub kids_with : List NodeId → List LamBody → ℕ → List NodeId
 kids_with kids [] id = kids
 kids_with kids (body ∷ bodies) id = kids_with (if nat_eq body.lam.0 id then kids ++ body.body ∷ [] else kids) bodies id
 
--- a node stands at a place in a list, and these are its parts
-pub record Stands (nodes : List Node) (id : ℕ) (kind : NodeKind) (at : At) (token : Option ℕ) : Type 0 where
+-- a node stands at an index in a list, and these are its parts
+pub record NodeAt (nodes : List Node) (id : ℕ) (kind : NodeKind) (at : At) (token : Option ℕ) : Type 0 where
   pub found : Node
   pub stands : slice_get nodes id ≡ Some found
   pub kind_is : found.kind ≡ kind
   pub at_is : found.at ≡ at
   pub token_is : found.token ≡ token
 
--- the nodes show the tree at the place, where the body that is noted for a lambda is its last kid
+-- the nodes show the tree at the id, where the body that is noted for a lambda is its last kid
 abbrev mutual
   pub ShowsWith : List LamBody → List Node → ℕ → Tree → Type 0
-  ShowsWith bodies nodes id (node kind at token kids) = (s : Stands nodes id kind at token) × ShowsAllWith bodies nodes (kids_with s.found.kids.items bodies id) kids
+  ShowsWith bodies nodes id (node kind at token kids) =
+      (s : NodeAt nodes id kind at token) × ShowsAllWith bodies nodes (kids_with s.found.kids.items bodies id) kids
 
   pub ShowsAllWith : List LamBody → List Node → List NodeId → Trees → Type 0
   ShowsAllWith bodies nodes ids none = ids ≡ []
-  ShowsAllWith bodies nodes ids (more tree trees) = (id : NodeId) × (rest : List NodeId) × (ids ≡ id ∷ rest) × ShowsWith bodies nodes id.0 tree × ShowsAllWith bodies nodes rest trees
+  ShowsAllWith bodies nodes ids (more tree trees) =
+      (id : NodeId) × (rest : List NodeId) × (ids ≡ id ∷ rest) × ShowsWith bodies nodes id.0 tree × ShowsAllWith bodies nodes rest trees
 
--- the nodes show the tree at the place, where lambdas have no bodies
+-- the nodes show the tree at the id, where lambdas have no bodies
 abbrev pub Shows : List Node → ℕ → Tree → Type 0
 Shows = ShowsWith []
 

@@ -10,7 +10,7 @@ use std::marker::Model;
 /// The most nodes that a list holds: their ids fit a `u32`, and so does their number.
 pub const MAX_NODES: u32 = 4_294_967_295;
 
-/// A place in a text.
+/// A position in a text.
 #[derive(Clone, Copy, Debug, PartialEq, Eq)]
 pub struct At {
     /// The number of the source.
@@ -19,7 +19,7 @@ pub struct At {
     pub offset: u32,
 }
 
-/// The place of a node in a list of nodes.
+/// The position of a node in a list of nodes.
 #[derive(Clone, Copy, Debug, PartialEq, Eq)]
 pub struct NodeId(pub u32);
 
@@ -31,7 +31,7 @@ pub struct Node {
     pub at: At,
     /// What it is made of, in the order of the table at `NodeKind`.
     pub kids: Vec<NodeId>,
-    /// The place of its token in the tokens of the unit, where its kind has one.
+    /// The index of its token in the tokens of the unit, where its kind has one.
     pub token: Option<u32>,
 }
 
@@ -85,7 +85,7 @@ impl Nodes {
         self.items.len() == MAX_NODES as usize
     }
 
-    /// The node at a place, whose kids stand at lower ones.
+    /// The node with an id, whose kids have lower ones.
     pub fn node(&self, id: NodeId) -> &Node
         requires { id.0 < length self.now }
         ensures node { slice_get self.now id.0 ≡ Some result.now }
@@ -94,9 +94,9 @@ impl Nodes {
         &self.items[id.0 as usize]
     }
 
-    /// Adds a node behind the others, and answers its place.
+    /// Adds a node behind the others, and answers its id.
     pub fn add(&mut self, node: Node) -> Result<NodeId, AllocError>
-        requires room { length self.old < MAX_NODES }
+        requires capacity { length self.old < MAX_NODES }
         requires kids { are_below (length self.old) node.kids.items ≡ true }
         ensures added { IfOk result (λ id. (id.0 ≡ length self.old) × (self.new ≡ self.old ++ node ∷ [])) }
         ensures memory { OnErr result (self.new ≡ self.old) }
@@ -106,7 +106,7 @@ impl Nodes {
         Ok(id)
     }
 
-    /// Takes away the nodes from a place on.
+    /// Takes away the nodes from an index on.
     pub fn truncate(&mut self, len: u32)
         ensures { self.new ≡ take len self.old }
     {

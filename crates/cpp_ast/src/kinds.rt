@@ -10,11 +10,11 @@ ghost use Rattle.cpp_ast.specs.Shapes.{counts_one, has_token};
 /// around them by their kinds. A type, a declarator, an expression or a statement stands for any kind of its group.
 /// Brackets, commas and semicolons that are no token of a node follow from the form.
 ///
-/// The place of a node is its first byte. That of a node which declares a name is the first byte of that name, without
+/// The position of a node is its first byte. That of a node which declares a name is the first byte of that name, without
 /// what qualifies it; where it declares several, of the first one, and where it declares none, its own first byte.
 /// Such nodes are aliases, classes, enums, enumerators, simple declarations, function definitions, constructors,
 /// destructors (their name begins with `~`), member declarations, parameters, and the declarators of a list.
-/// The place of a node without tokens is the first byte of the token behind it; behind the last token it is the byte
+/// The position of a node without tokens is the first byte of the token behind it; behind the last token it is the byte
 /// after that one, and 0 where there are no tokens.
 #[derive(Clone, Copy, Debug, PartialEq, Eq)]
 pub enum NodeKind {

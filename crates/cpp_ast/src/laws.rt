@@ -9,7 +9,7 @@ ghost use Rattle.cpp_ast.specs.Units.{IsForest, times_a_kid, times_in};
 ghost use Rattle.cpp_ast.specs.Examples.{main_of, returned, braced};
 ghost use Rattle.cpp_ast.specs.Trees.{Tree, Trees, node, more, none, Shows, ShowsAll, ShowsWith, ShowsAllWith, Extends, IsShaped, AreShaped, unit_depth};
 
-/// Lists of nodes grow in steps. What one shows, each list that it grows to shows; and it shows one tree at a place.
+/// Lists of nodes grow in steps. What one shows, each list that it grows to shows; and it shows one tree at an index.
 /// A node that is added shows the trees of its kids under it. Cutting back to the old length gives the old list.
 pub fn growth()
     ensures same { (nodes : List Node) → Extends nodes nodes }

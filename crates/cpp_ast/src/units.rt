@@ -15,7 +15,7 @@ pub struct LamBody {
 /// A unit as it was read.
 #[derive(Drop)]
 pub struct Unit {
-    /// The number of the source, as in the places of its nodes.
+    /// The number of the source, as in the positions of its nodes.
     pub source: u32,
     /// The tokens that it was read from.
     pub tokens: Tokens,

@@ -1,9 +1,10 @@
--- Items one behind another.
+-- Items one after another.
 use Rattle.std.proofs.Common.{◌≡◌, ◌∙◌, ℕ, ◌<◌, ◌≤◌, ◌+◌, ◌-◌, max, List, [], ◌∷◌, ◌++◌, refl, sym, ap, arith}
 use Rattle.std.proofs.lemmas.Nat.{div-add-mod'}
 use Rattle.cpp_layout.specs.Layout.{Extent, next_multiple, end_from, greatest_align}
 use Rattle.cpp_layout.specs.Measured.{InBounds, Follows}
-use Rattle.cpp_layout.specs.declared.rows.Row.{Row}
+use Rattle.cpp_layout.specs.declared.cursor.LayoutCursor.{LayoutCursor}
+use Rattle.cpp_layout.specs.declared.extents.TheConstants.{GREATEST_SIZE}
 
 -- each item's alignment is at least 1
 abbrev pub Aligned : List Extent → Type 0
@@ -35,18 +36,18 @@ pub greatest_append : (xs ys : List Extent) → greatest_align (xs ++ ys) ≡ ma
 greatest_append [] ys = let h = greatest_low ys in omega arith
 greatest_append (e ∷ es) ys = ap (λ (n : ℕ). max e.align n) (greatest_append es ys) ∙ max_assoc e.align (greatest_align es) (greatest_align ys)
 
-pub joined : (a b c : Row) (xs ys : List Extent) → Follows a xs b → Follows b ys c → Follows a (xs ++ ys) c
+pub joined : (a b c : LayoutCursor) (xs ys : List Extent) → Follows a xs b → Follows b ys c → Follows a (xs ++ ys) c
 joined a b c xs ys f g = record {
   end = g.end ∙ ap (λ (n : ℕ). end_from n ys) f.end ∙ sym (end_append a.end xs ys);
   align = g.align ∙ ap (λ (n : ℕ). max n (greatest_align ys)) f.align ∙ sym (max_assoc a.align (greatest_align xs) (greatest_align ys)) ∙ ap (λ (n : ℕ). max a.align n) (sym (greatest_append xs ys));
   bounds = g.bounds;
 }
 
-pub over_later : (a b : Row) (xs ys : List Extent) → Follows a xs b → 1048576 < end_from b.end ys → 1048576 < end_from a.end (xs ++ ys)
+pub over_later : (a b : LayoutCursor) (xs ys : List Extent) → Follows a xs b → GREATEST_SIZE < end_from b.end ys → GREATEST_SIZE < end_from a.end (xs ++ ys)
 over_later a b xs ys f h = let p : end_from b.end ys ≡ end_from a.end (xs ++ ys) = ap (λ (n : ℕ). end_from n ys) f.end ∙ sym (end_append a.end xs ys) in omega arith
 
-pub over_first : (s : ℕ) (xs ys : List Extent) → Aligned ys → 1048576 < end_from s xs → 1048576 < end_from s (xs ++ ys)
+pub over_first : (s : ℕ) (xs ys : List Extent) → Aligned ys → GREATEST_SIZE < end_from s xs → GREATEST_SIZE < end_from s (xs ++ ys)
 over_first s xs ys h o = let p = end_append s xs ys in let q = end_low (end_from s xs) ys h in omega arith
 
-pub none_follows : (a : Row) → InBounds a → Follows a [] a
+pub none_follows : (a : LayoutCursor) → InBounds a → Follows a [] a
 none_follows a h = let l = h.low in record { end = refl; align = omega arith; bounds = h }

@@ -12,6 +12,7 @@ use Rattle.cpp_layout.specs.Measured.{is_vacant, shown, Measured}
 use Rattle.cpp_layout.specs.declared.extents.SizeAlign.{SizeAlign}
 use Rattle.std.specs.Option.{MatchOption}
 use Rattle.cpp_layout.proofs.Ends.{Aligned}
+use Rattle.cpp_layout.specs.declared.extents.TheConstants.{GREATEST_SIZE}
 
 pub kind_low : (k : IntKind) → 1 ≤ kind_size k
 kind_low BoolKind = omega arith
@@ -121,7 +122,7 @@ aligned_alone g f o a q h = align_agrees (λ n. scalar a) g f (λ x r. absurd cc
 -- Answers
 
 abbrev pub Answers : Option SizeAlign → Extent → Type 0
-Answers o e = MatchOption o (1048576 < e.size) (λ s. Measured e s)
+Answers o e = MatchOption o (GREATEST_SIZE < e.size) (λ s. Measured e s)
 
 pub shown_is : (e : Extent) (s : SizeAlign) → Measured e s → shown s ≡ e
 shown_is e s m = ap (λ (z : ℕ). let x : Extent = record { size = z; align = s.align } in x) m.size ∙ ap (λ (z : ℕ). let x : Extent = record { size = e.size; align = z } in x) m.align
@@ -138,13 +139,13 @@ answers_by g f h p o s q e m a = answers_along o (form_extent (λ n. shown s) f)
 pub answers_alone : (g : ℕ → Extent) (f : Form) (h : Option ℕ) (o : Option SizeAlign) (s : SizeAlign) → h ≡ None → h ≡ held_form f → Answers o (form_extent (λ n. shown s) f) → Answers o (form_extent g f)
 answers_alone g f h o s q e a = answers_along o (form_extent (λ n. shown s) f) (form_extent g f) (form_agrees (λ n. shown s) g f (λ x r. absurd cc)) a
 
-pub none_answers : (o : Option SizeAlign) (e : Extent) → o ≡ None → 1048576 < e.size → Answers o e
+pub none_answers : (o : Option SizeAlign) (e : Extent) → o ≡ None → GREATEST_SIZE < e.size → Answers o e
 none_answers o e p l = subst (λ (z : Option SizeAlign). Answers z e) (sym p) l
 
-pub large_part : (g : ℕ → Extent) (f : Form) (h : Option ℕ) (p : ℕ) → h ≡ Some p → h ≡ held_form f → is_vacant f ≡ false → 1048576 < (g p).size → 1048576 < (form_extent g f).size
+pub large_part : (g : ℕ → Extent) (f : Form) (h : Option ℕ) (p : ℕ) → h ≡ Some p → h ≡ held_form f → is_vacant f ≡ false → GREATEST_SIZE < (g p).size → GREATEST_SIZE < (form_extent g f).size
 large_part g f h p q e v l = let k : held_form f ≡ Some p = cc in let m = part_size g f p v k in omega arith
 
-pub large_elements : (g : ℕ → Extent) (f : Form) (t : Form) (c v : Bool) (n : ℕ) → f ≡ array (typ t c v) n → is_vacant f ≡ false → 1048576 < (form_extent g t).size → 1048576 < (form_extent g f).size
+pub large_elements : (g : ℕ → Extent) (f : Form) (t : Form) (c v : Bool) (n : ℕ) → f ≡ array (typ t c v) n → is_vacant f ≡ false → GREATEST_SIZE < (form_extent g t).size → GREATEST_SIZE < (form_extent g f).size
 large_elements g f t c v n e p l =
     let q : (n == 0 || is_vacant t) ≡ false = ap is_vacant (sym e) ∙ p in
     let m : 1048577 ≤ n * (form_extent g t).size = array_part n (form_extent g t).size 1048577 (is_vacant t) q (λ z. omega arith) in

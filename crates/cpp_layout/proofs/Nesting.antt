@@ -8,11 +8,12 @@ use Rattle.cpp_types.specs.Class.{Class, Member, InOrder, HoldsEarlier, Complete
 use Rattle.std.specs.Option.{option_and_then, option_map, MatchOption}
 use Rattle.cpp_types.specs.Conversion.{form_of}
 use Rattle.cpp_layout.specs.Layout.{Extent, form_extent, member_extent, base_items, pointer_items, has_class_pointer, head_items, items_of, whole, record_extent, extent_within, class_extent, greatest_align, next_multiple, end_from}
-use Rattle.cpp_layout.specs.Measured.{IsComplete, HoldsComplete, HeldBelow, BaseComplete, member_extents, Measured, Follows, no_row, shown, member_offset}
+use Rattle.cpp_layout.specs.Measured.{IsComplete, HoldsComplete, HeldBelow, BaseComplete, member_extents, Measured, Follows, empty_cursor, shown, member_offset}
 use Rattle.cpp_layout.specs.declared.extents.SizeAlign.{SizeAlign}
-use Rattle.cpp_layout.specs.declared.rows.Row.{Row}
+use Rattle.cpp_layout.specs.declared.cursor.LayoutCursor.{LayoutCursor}
 use Rattle.cpp_layout.proofs.Ends.{Aligned, next_low, end_append, greatest_low, greatest_append, joined, over_later, over_first}
 use Rattle.cpp_layout.proofs.Forms.{form_agrees, members_aligned, shown_is}
+use Rattle.cpp_layout.specs.declared.extents.TheConstants.{GREATEST_SIZE}
 
 typ_agrees : (g h : ℕ → Extent) (t : Typ) → ((e : ℕ) → held t ≡ Some e → g e ≡ h e) → form_extent g (form_of t) ≡ form_extent h (form_of t)
 typ_agrees g h (typ f c v) p = form_agrees g h f p
@@ -134,8 +135,8 @@ greatest_push xs e a n l p q = let g : greatest_align (xs ++ e ∷ []) ≡ max (
 
 -- The items of a class
 
--- the class whose items are the row
-abbrev pub seen : Row → Extent
+-- the class whose items are the cursor
+abbrev pub seen : LayoutCursor → Extent
 seen t = record { size = max 1 (next_multiple t.end t.align); align = t.align }
 
 pointer_aligned : (b : Bool) → Aligned (pointer_items b)
@@ -165,21 +166,21 @@ module _ (classes : List Class) (o : InOrder classes) (n k : ℕ) (c : Class) (f
       let i = align_is in
       omega arith
 
-  over : 1048576 < end_from 0 items → 1048576 < (class_extent classes n).size
+  over : GREATEST_SIZE < end_from 0 items → GREATEST_SIZE < (class_extent classes n).size
   over l = let s = size_is in let g = greatest_low items in let h = next_low (end_from 0 items) (greatest_align items) g in omega arith
 
-  pub over_base : 1048576 < end_from 0 base → 1048576 < (class_extent classes n).size
+  pub over_base : GREATEST_SIZE < end_from 0 base → GREATEST_SIZE < (class_extent classes n).size
   over_base l = over (over_first 0 (base ++ pointer) (member_extents classes c.members) (extents_aligned classes c.members) (over_first 0 base pointer (pointer_aligned (has_class_pointer classes n)) l))
 
-  pub over_pointer : (r : Row) → Follows no_row base r → 1048576 < end_from r.end pointer → 1048576 < (class_extent classes n).size
-  over_pointer r q l = over (over_first 0 (base ++ pointer) (member_extents classes c.members) (extents_aligned classes c.members) (over_later no_row r base pointer q l))
+  pub over_pointer : (r : LayoutCursor) → Follows empty_cursor base r → GREATEST_SIZE < end_from r.end pointer → GREATEST_SIZE < (class_extent classes n).size
+  over_pointer r q l = over (over_first 0 (base ++ pointer) (member_extents classes c.members) (extents_aligned classes c.members) (over_later empty_cursor r base pointer q l))
 
-  pub over_members : (r s : Row) → Follows no_row base r → Follows r pointer s → 1048576 < end_from s.end (member_extents classes c.members) → 1048576 < (class_extent classes n).size
-  over_members r s q w l = over (over_later no_row s (base ++ pointer) (member_extents classes c.members) (joined no_row r s base pointer q w) l)
+  pub over_members : (r s : LayoutCursor) → Follows empty_cursor base r → Follows r pointer s → GREATEST_SIZE < end_from s.end (member_extents classes c.members) → GREATEST_SIZE < (class_extent classes n).size
+  over_members r s q w l = over (over_later empty_cursor s (base ++ pointer) (member_extents classes c.members) (joined empty_cursor r s base pointer q w) l)
 
-  pub whole_is : (r s t : Row) → Follows no_row base r → Follows r pointer s → Follows s (member_extents classes c.members) t → seen t ≡ class_extent classes n
+  pub whole_is : (r s t : LayoutCursor) → Follows empty_cursor base r → Follows r pointer s → Follows s (member_extents classes c.members) t → seen t ≡ class_extent classes n
   whole_is r s t q w z =
-      let j = joined no_row s t (base ++ pointer) (member_extents classes c.members) (joined no_row r s base pointer q w) z in
+      let j = joined empty_cursor s t (base ++ pointer) (member_extents classes c.members) (joined empty_cursor r s base pointer q w) z in
       let g = greatest_low items in
       let a : t.align ≡ greatest_align items = let u = j.align in omega arith in
       let e : t.end ≡ end_from 0 items = j.end in
@@ -193,28 +194,28 @@ extents_of classes ms = member_extents classes (map member_of ms)
 pub whole_list : (classes : List Class) (ms : List MemberRec) (i : ℕ) → extents_of classes ms ≡ extents_of classes (take i ms) ++ extents_of classes (drop i ms)
 whole_list classes ms i = ap (extents_of classes) (sym (take-append-drop i ms)) ∙ simp map-append
 
-pub large_item : (s : ℕ) (e : Extent) → 1048576 < e.size → 1048576 < end_from s (e ∷ [])
+pub large_item : (s : ℕ) (e : Extent) → GREATEST_SIZE < e.size → GREATEST_SIZE < end_from s (e ∷ [])
 large_item s e l = omega arith
 
-module _ (classes : List Class) (ms : List MemberRec) (i : ℕ) (m : MemberRec) (h : i < length ms) (e : m ≡ get_or ms i m) (start row : Row) (f : Follows start (extents_of classes (take i ms)) row) where
-  pub member_over : 1048576 < end_from row.end (member_extent (class_extent classes) (member_of m) ∷ []) → 1048576 < end_from start.end (extents_of classes ms)
+module _ (classes : List Class) (ms : List MemberRec) (i : ℕ) (m : MemberRec) (h : i < length ms) (e : m ≡ get_or ms i m) (start cursor : LayoutCursor) (f : Follows start (extents_of classes (take i ms)) cursor) where
+  pub member_over : GREATEST_SIZE < end_from cursor.end (member_extent (class_extent classes) (member_of m) ∷ []) → GREATEST_SIZE < end_from start.end (extents_of classes ms)
   member_over l =
-      let p : 1048576 < end_from start.end (extents_of classes (take i ms) ++ member_extent (class_extent classes) (member_of m) ∷ []) = over_later start row (extents_of classes (take i ms)) (member_extent (class_extent classes) (member_of m) ∷ []) f l in
-      let q : 1048576 < end_from start.end (extents_of classes (take (i + 1) ms)) = let u = ap (end_from start.end) (one_more classes ms i m h e) in omega arith in
-      let r : 1048576 < end_from start.end (extents_of classes (take (i + 1) ms) ++ extents_of classes (drop (i + 1) ms)) = over_first start.end (extents_of classes (take (i + 1) ms)) (extents_of classes (drop (i + 1) ms)) (extents_aligned classes (map member_of (drop (i + 1) ms))) q in
+      let p : GREATEST_SIZE < end_from start.end (extents_of classes (take i ms) ++ member_extent (class_extent classes) (member_of m) ∷ []) = over_later start cursor (extents_of classes (take i ms)) (member_extent (class_extent classes) (member_of m) ∷ []) f l in
+      let q : GREATEST_SIZE < end_from start.end (extents_of classes (take (i + 1) ms)) = let u = ap (end_from start.end) (one_more classes ms i m h e) in omega arith in
+      let r : GREATEST_SIZE < end_from start.end (extents_of classes (take (i + 1) ms) ++ extents_of classes (drop (i + 1) ms)) = over_first start.end (extents_of classes (take (i + 1) ms)) (extents_of classes (drop (i + 1) ms)) (extents_aligned classes (map member_of (drop (i + 1) ms))) q in
       let u = ap (end_from start.end) (whole_list classes ms (i + 1)) in
       omega arith
 
-  pub member_behind : (s : SizeAlign) (next : Row) → Measured (member_extent (class_extent classes) (member_of m)) s → Follows row (shown s ∷ []) next → Follows start (extents_of classes (take (i + 1) ms)) next
+  pub member_behind : (s : SizeAlign) (next : LayoutCursor) → Measured (member_extent (class_extent classes) (member_of m)) s → Follows cursor (shown s ∷ []) next → Follows start (extents_of classes (take (i + 1) ms)) next
   member_behind s next z w =
-      let g : Follows row (member_extent (class_extent classes) (member_of m) ∷ []) next = subst (λ (x : Extent). Follows row (x ∷ []) next) (shown_is (member_extent (class_extent classes) (member_of m)) s z) w in
-      subst (λ (x : List Extent). Follows start x next) (sym (one_more classes ms i m h e)) (joined start row next (extents_of classes (take i ms)) (member_extent (class_extent classes) (member_of m) ∷ []) f g)
+      let g : Follows cursor (member_extent (class_extent classes) (member_of m) ∷ []) next = subst (λ (x : Extent). Follows cursor (x ∷ []) next) (shown_is (member_extent (class_extent classes) (member_of m)) s z) w in
+      subst (λ (x : List Extent). Follows start x next) (sym (one_more classes ms i m h e)) (joined start cursor next (extents_of classes (take i ms)) (member_extent (class_extent classes) (member_of m) ∷ []) f g)
 
-pub item_over : (row : Row) (e : Extent) (s : SizeAlign) → Measured e s → 1048576 < end_from row.end (shown s ∷ []) → 1048576 < end_from row.end (e ∷ [])
-item_over row e s z l = subst (λ (x : Extent). 1048576 < end_from row.end (x ∷ [])) (shown_is e s z) l
+pub item_over : (cursor : LayoutCursor) (e : Extent) (s : SizeAlign) → Measured e s → GREATEST_SIZE < end_from cursor.end (shown s ∷ []) → GREATEST_SIZE < end_from cursor.end (e ∷ [])
+item_over cursor e s z l = subst (λ (x : Extent). GREATEST_SIZE < end_from cursor.end (x ∷ [])) (shown_is e s z) l
 
-pub no_members : (o : Option Row) (start : Row) (es : List Extent) → o ≡ None → 1048576 < end_from start.end es → MatchOption o (1048576 < end_from start.end es) (λ r. Follows start es r)
-no_members o start es p l = subst (λ (z : Option Row). MatchOption z (1048576 < end_from start.end es) (λ r. Follows start es r)) (sym p) l
+pub no_members : (o : Option LayoutCursor) (start : LayoutCursor) (es : List Extent) → o ≡ None → GREATEST_SIZE < end_from start.end es → MatchOption o (GREATEST_SIZE < end_from start.end es) (λ r. Follows start es r)
+no_members o start es p l = subst (λ (z : Option LayoutCursor). MatchOption z (GREATEST_SIZE < end_from start.end es) (λ r. Follows start es r)) (sym p) l
 
 kept_of : (xs : List Member) (i j : ℕ) (m : Member) → slice_get (take i xs) j ≡ Some m → slice_get xs j ≡ Some m
 kept_of xs zero j m q = absurd cc
@@ -233,7 +234,7 @@ slice_below classes k i ms b = record { held = λ j m q e r. b.held j m (kept ms
 pub own_or : (xs : List MemberRec) (i : ℕ) (d : MemberRec) → i < length xs → get_or xs i d ≡ get_or xs i (get_or xs i d)
 own_or xs i d h = let p = slice_get-get_or xs i d h in let q = slice_get-get_or xs i (get_or xs i d) h in cc
 
-pub rest_over : (classes : List Class) (ms : List MemberRec) (i s : ℕ) → 1048576 < end_from s (extents_of classes (take i ms)) → 1048576 < end_from s (extents_of classes ms)
+pub rest_over : (classes : List Class) (ms : List MemberRec) (i s : ℕ) → GREATEST_SIZE < end_from s (extents_of classes (take i ms)) → GREATEST_SIZE < end_from s (extents_of classes ms)
 rest_over classes ms i s l = let p = over_first s (extents_of classes (take i ms)) (extents_of classes (drop i ms)) (extents_aligned classes (map member_of (drop i ms))) l in let u = ap (end_from s) (whole_list classes ms i) in omega arith
 
 pub place_is : (r a x b y : ℕ) → r ≡ next_multiple a b → a ≡ x → b ≡ y → r ≡ next_multiple x y
@@ -246,10 +247,10 @@ found_member : (o : Option MemberRec) (m : Member) → option_map member_of o �
 found_member None m e = absurd cc
 found_member (Some r) m e = (r, refl, cc)
 
-module _ (classes : List Class) (n : ℕ) (c : Class) (f : slice_get classes n ≡ Some c) (r s : Row) (q : Follows no_row (base_items (class_extent classes) c.base) r) (w : Follows r (pointer_items (has_class_pointer classes n)) s) (ms : List MemberRec) (e : c.members ≡ map member_of ms) (i x : ℕ) where
+module _ (classes : List Class) (n : ℕ) (c : Class) (f : slice_get classes n ≡ Some c) (r s : LayoutCursor) (q : Follows empty_cursor (base_items (class_extent classes) c.base) r) (w : Follows r (pointer_items (has_class_pointer classes n)) s) (ms : List MemberRec) (e : c.members ≡ map member_of ms) (i x : ℕ) where
   place_own : (m : MemberRec) → x ≡ next_multiple (end_from s.end (extents_of classes (take i ms))) (member_extent (class_extent classes) (member_of m)).align → x ≡ member_offset classes n c i (member_of m)
   place_own m p =
-      let j = joined no_row r s (base_items (class_extent classes) c.base) (pointer_items (has_class_pointer classes n)) q w in
+      let j = joined empty_cursor r s (base_items (class_extent classes) c.base) (pointer_items (has_class_pointer classes n)) q w in
       let t : map member_of (take i ms) ≡ take i c.members = sym (take-map member_of i ms) ∙ ap (take i) (sym e) in
       let u : end_from s.end (extents_of classes (take i ms)) ≡ end_from 0 (head_items (class_extent classes) classes n c ++ member_extents classes (take i c.members)) = ap (λ (z : List Member). end_from s.end (member_extents classes z)) t ∙ ap (λ (z : ℕ). end_from z (member_extents classes (take i c.members))) j.end ∙ sym (end_append 0 (head_items (class_extent classes) classes n c) (member_extents classes (take i c.members))) in
       p ∙ ap (λ (z : ℕ). next_multiple z (member_extent (class_extent classes) (member_of m)).align) u

@@ -10,6 +10,7 @@ use Rattle.cpp_layout.specs.declared.extents.SizeAlign.{SizeAlign}
 use Rattle.cpp_layout.specs.Layout.{class_extent, extent_of}
 use Rattle.cpp_layout.specs.Frames.{AllComplete}
 use Rattle.cpp_layout.specs.Measured.{IsComplete, HoldsComplete, Measured}
+use Rattle.cpp_layout.specs.declared.extents.TheConstants.{GREATEST_SIZE}
 
 pub complete_by : (classes : List Class) (n : ℕ) (c : Class) (k : ℕ) → slice_get classes n ≡ Some c → c.complete ≡ Some k → IsComplete classes n
 complete_by classes n c k found e = record { number = k; complete = ap (option_and_then (λ (x : Class). x.complete)) found ∙ e }
@@ -21,8 +22,8 @@ held_is classes n h = record { held = λ e q. let k : n ≡ e = cc in subst (IsC
 pub class_holds : (classes : List Class) (n : ℕ) (t : Ty) → typ_of t ≡ typ (class n) false false → IsComplete classes n → HoldsComplete classes (shape_form t.shape)
 class_holds classes n t e h = subst (λ (z : Typ). HoldsComplete classes (form_of z)) (sym e) (held_is classes n h)
 
-pub size_within : (classes : List Class) (n : ℕ) (t : Typ) (s : SizeAlign) → t ≡ typ (class n) false false → Measured (extent_of classes t) s → (class_extent classes n).size ≤ 1048576
-size_within classes n t s e m = subst (λ (z : Typ). (extent_of classes z).size ≤ 1048576) e m.within
+pub size_within : (classes : List Class) (n : ℕ) (t : Typ) (s : SizeAlign) → t ≡ typ (class n) false false → Measured (extent_of classes t) s → (class_extent classes n).size ≤ GREATEST_SIZE
+size_within classes n t s e m = subst (λ (z : Typ). (extent_of classes z).size ≤ GREATEST_SIZE) e m.within
 
 none_complete : (classes : List Class) → AllComplete classes []
 none_complete classes = record { item = λ i t e. absurd cc }

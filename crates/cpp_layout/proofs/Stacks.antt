@@ -6,17 +6,18 @@ use Rattle.std.specs.Option.{option_map}
 use Rattle.cpp_types.specs.declared.types.Ty.{Ty}
 use Rattle.cpp_types.specs.Typ.{typ_of, shape_form}
 use Rattle.cpp_types.specs.Class.{Class}
-use Rattle.cpp_layout.specs.declared.frames.Place.{Place}
-use Rattle.cpp_layout.specs.Layout.{Extent, extent_of, class_extent, end_from, offset_behind, next_multiple, frame_size}
+use Rattle.cpp_layout.specs.declared.frames.PlacedItem.{PlacedItem}
+use Rattle.cpp_layout.specs.Layout.{Extent, extent_of, class_extent, end_from, offset_after, next_multiple, frame_size}
 use Rattle.cpp_layout.specs.Measured.{HoldsComplete}
-use Rattle.cpp_layout.specs.Frames.{AllComplete, Placed, offsets_behind, item_extents}
+use Rattle.cpp_layout.specs.Frames.{AllComplete, IsPlaced, offsets_after, item_extents}
 use Rattle.cpp_layout.proofs.Ends.{Aligned, end_low, end_append, next_low}
 use Rattle.cpp_layout.proofs.Forms.{form_low}
 use Rattle.cpp_layout.proofs.Nesting.{class_low}
+use Rattle.cpp_layout.specs.declared.frames.TheConstants.{GREATEST_FRAME}
 
-offsets_push : (b xs : List Extent) (e : Extent) → offsets_behind b (xs ++ e ∷ []) ≡ offsets_behind b xs ++ offset_behind (b ++ xs) e ∷ []
-offsets_push b [] e = ap (λ (z : List Extent). offset_behind z e ∷ []) (sym (append-nil b))
-offsets_push b (x ∷ xs) e = ap (λ (z : List ℕ). offset_behind b x ∷ z) (offsets_push (b ++ x ∷ []) xs e ∙ ap (λ (z : List Extent). offsets_behind (b ++ x ∷ []) xs ++ offset_behind z e ∷ []) (append_assoc b (x ∷ []) xs))
+offsets_push : (b xs : List Extent) (e : Extent) → offsets_after b (xs ++ e ∷ []) ≡ offsets_after b xs ++ offset_after (b ++ xs) e ∷ []
+offsets_push b [] e = ap (λ (z : List Extent). offset_after z e ∷ []) (sym (append-nil b))
+offsets_push b (x ∷ xs) e = ap (λ (z : List ℕ). offset_after b x ∷ z) (offsets_push (b ++ x ∷ []) xs e ∙ ap (λ (z : List Extent). offsets_after (b ++ x ∷ []) xs ++ offset_after z e ∷ []) (append_assoc b (x ∷ []) xs))
 
 module _ (classes : List Class) where
   abbrev pub extents_at : List Ty → List Extent
@@ -37,7 +38,7 @@ module _ (classes : List Class) where
   all_items : (ts : List Ty) (i : ℕ) → extents_at ts ≡ extents_at (take i ts) ++ extents_at (drop i ts)
   all_items ts i = ap extents_at (sym (take-append-drop i ts)) ∙ simp map-append
 
-  pub frame_over : (ts : List Ty) (i n : ℕ) (t : Ty) → i < length ts → t ≡ get_or ts i t → n ≡ end_from 0 (extents_at (take i ts)) → 65536 < end_from n (extent_of classes (typ_of t) ∷ []) → 65536 < frame_size (extents_at ts)
+  pub frame_over : (ts : List Ty) (i n : ℕ) (t : Ty) → i < length ts → t ≡ get_or ts i t → n ≡ end_from 0 (extents_at (take i ts)) → GREATEST_FRAME < end_from n (extent_of classes (typ_of t) ∷ []) → GREATEST_FRAME < frame_size (extents_at ts)
   frame_over ts i n t h e p l =
       let a = ap (λ (z : ℕ). end_from z (extent_of classes (typ_of t) ∷ [])) p in
       let b = end_append 0 (extents_at (take i ts)) (extent_of classes (typ_of t) ∷ []) in
@@ -45,19 +46,19 @@ module _ (classes : List Class) where
       let d = end_append 0 (extents_at (take (i + 1) ts)) (extents_at (drop (i + 1) ts)) in
       let f = end_low (end_from 0 (extents_at (take (i + 1) ts))) (extents_at (drop (i + 1) ts)) (items_aligned (drop (i + 1) ts)) in
       let g = ap (end_from 0) (all_items ts (i + 1)) in
-      let k : 65536 < end_from 0 (extents_at ts) = omega arith in
+      let k : GREATEST_FRAME < end_from 0 (extents_at ts) = omega arith in
       let m = next_low (end_from 0 (extents_at ts)) 16 (omega arith) in
       omega arith
 
-  pub next_end : (ts : List Ty) (i n : ℕ) (t : Ty) (p : Place) → i < length ts → t ≡ get_or ts i t → n ≡ end_from 0 (extents_at (take i ts)) → Placed n (extent_of classes (typ_of t)) p → p.end ≡ end_from 0 (extents_at (take (i + 1) ts))
+  pub next_end : (ts : List Ty) (i n : ℕ) (t : Ty) (p : PlacedItem) → i < length ts → t ≡ get_or ts i t → n ≡ end_from 0 (extents_at (take i ts)) → IsPlaced n (extent_of classes (typ_of t)) p → p.end ≡ end_from 0 (extents_at (take (i + 1) ts))
   next_end ts i n t p h e q r =
       let a : end_from 0 (extents_at (take (i + 1) ts)) ≡ end_from n (extent_of classes (typ_of t) ∷ []) = ap (end_from 0) (one_item ts i t h e) ∙ end_append 0 (extents_at (take i ts)) (extent_of classes (typ_of t) ∷ []) ∙ ap (λ (z : ℕ). end_from z (extent_of classes (typ_of t) ∷ [])) (sym q) in
       let b = r.end in
       let d = r.offset in
       omega arith
 
-  pub next_offsets : (ts : List Ty) (i n : ℕ) (t : Ty) (p : Place) (os ns : List ℕ) → i < length ts → t ≡ get_or ts i t → n ≡ end_from 0 (extents_at (take i ts)) → Placed n (extent_of classes (typ_of t)) p → os ≡ offsets_behind [] (extents_at (take i ts)) → ns ≡ os ++ p.offset ∷ [] → ns ≡ offsets_behind [] (extents_at (take (i + 1) ts))
+  pub next_offsets : (ts : List Ty) (i n : ℕ) (t : Ty) (p : PlacedItem) (os ns : List ℕ) → i < length ts → t ≡ get_or ts i t → n ≡ end_from 0 (extents_at (take i ts)) → IsPlaced n (extent_of classes (typ_of t)) p → os ≡ offsets_after [] (extents_at (take i ts)) → ns ≡ os ++ p.offset ∷ [] → ns ≡ offsets_after [] (extents_at (take (i + 1) ts))
   next_offsets ts i n t p os ns h e q r o s =
-      let a : offsets_behind [] (extents_at (take (i + 1) ts)) ≡ offsets_behind [] (extents_at (take i ts)) ++ offset_behind (extents_at (take i ts)) (extent_of classes (typ_of t)) ∷ [] = ap (offsets_behind []) (one_item ts i t h e) ∙ offsets_push [] (extents_at (take i ts)) (extent_of classes (typ_of t)) in
-      let b : p.offset ≡ offset_behind (extents_at (take i ts)) (extent_of classes (typ_of t)) = r.offset ∙ ap (λ (z : ℕ). next_multiple z (extent_of classes (typ_of t)).align) q in
-      s ∙ ap (λ (z : List ℕ). z ++ p.offset ∷ []) o ∙ ap (λ (z : ℕ). offsets_behind [] (extents_at (take i ts)) ++ z ∷ []) b ∙ sym a
+      let a : offsets_after [] (extents_at (take (i + 1) ts)) ≡ offsets_after [] (extents_at (take i ts)) ++ offset_after (extents_at (take i ts)) (extent_of classes (typ_of t)) ∷ [] = ap (offsets_after []) (one_item ts i t h e) ∙ offsets_push [] (extents_at (take i ts)) (extent_of classes (typ_of t)) in
+      let b : p.offset ≡ offset_after (extents_at (take i ts)) (extent_of classes (typ_of t)) = r.offset ∙ ap (λ (z : ℕ). next_multiple z (extent_of classes (typ_of t)).align) q in
+      s ∙ ap (λ (z : List ℕ). z ++ p.offset ∷ []) o ∙ ap (λ (z : ℕ). offsets_after [] (extents_at (take i ts)) ++ z ∷ []) b ∙ sym a

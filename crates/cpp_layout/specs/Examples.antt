@@ -11,7 +11,7 @@ use Rattle.cpp_types.specs.Class.{Class, Member, Function}
 use Rattle.cpp_types.specs.declared.classes.Safety.TheVariants.{None as Plain}
 use Rattle.cpp_layout.specs.Layout.{head_items, class_extent}
 use Rattle.cpp_layout.specs.Measured.{member_extents}
-use Rattle.cpp_layout.specs.Frames.{offsets_behind}
+use Rattle.cpp_layout.specs.Frames.{offsets_after}
 
 abbrev pub plain : Form → Typ
 plain f = typ f false false
@@ -23,7 +23,7 @@ member f = record { name = []; typ = plain f }
 abbrev pub virtual_function : Function
 virtual_function = record { name = []; signature = signature none (plain void) false; is_const = false; is_virtual = true; is_override = false; is_final = false; pure_virtual = false; safety = Plain; considered = false; no_except = false; at = record { source = 0; offset = 0 } }
 
--- a class that was completed behind `number` others
+-- a class that was completed after `number` others
 abbrev pub completed : ℕ → Option ℕ → List Function → List Form → Class
 completed number base functions forms = record { name = []; base = base; members = map member forms; functions = functions; is_final = false; complete = Some number }
 
@@ -40,9 +40,9 @@ examples =
     ∷ []
 
 abbrev pub member_offsets : ℕ → Option Class → List ℕ
-member_offsets n (Some c) = offsets_behind (head_items (class_extent examples) examples n c) (member_extents examples c.members)
+member_offsets n (Some c) = offsets_after (head_items (class_extent examples) examples n c) (member_extents examples c.members)
 member_offsets n None = []
 
--- the size and the alignment of the class in place `n`, and the offsets of its members
+-- the size and the alignment of the class at index `n`, and the offsets of its members
 abbrev pub Takes : ℕ → ℕ → ℕ → List ℕ → Type 0
 Takes n size align offsets = ((class_extent examples n).size ≡ size) × ((class_extent examples n).align ≡ align) × (member_offsets n (slice_get examples n) ≡ offsets)

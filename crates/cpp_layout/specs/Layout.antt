@@ -15,7 +15,7 @@ function_address i = 2 ^ 40 + 16 * i
 abbrev pub table_address : ℕ → ℕ
 table_address c = 2 ^ 41 + 16 * c
 
--- Items one behind another
+-- Items one after another
 
 -- how many bytes something takes, and of what its address is a multiple
 pub record Extent : Type 0 where
@@ -26,14 +26,14 @@ pub record Extent : Type 0 where
 abbrev pub next_multiple : ℕ → ℕ → ℕ
 next_multiple n a = (n + (a - 1)) / a * a
 
--- where items end that stand one behind another from `start` on, each at the next multiple of its alignment
+-- where items end that stand one after another from `start` on, each at the next multiple of its alignment
 abbrev pub end_from : ℕ → List Extent → ℕ
 end_from start [] = start
 end_from start (e ∷ es) = end_from (next_multiple start e.align + e.size) es
 
--- the place of an item: the next multiple of its alignment behind the items before it
-abbrev pub offset_behind : List Extent → Extent → ℕ
-offset_behind items e = next_multiple (end_from 0 items) e.align
+-- the offset of an item: the next multiple of its alignment after the items before it
+abbrev pub offset_after : List Extent → Extent → ℕ
+offset_after items e = next_multiple (end_from 0 items) e.align
 
 abbrev pub greatest_align : List Extent → ℕ
 greatest_align [] = 1

@@ -2,9 +2,10 @@
 use Rattle.std.specs.Prelude.{◌≡◌, ◌≤◌, ◌<◌, ℕ, Bool, false, ◌||◌, ◌==◌, ◌++◌, max, List, Option, Some, slice_get, map, take, length}
 use Rattle.cpp_types.specs.Typ.{typ, Form, array, tx_ex}
 use Rattle.cpp_types.specs.Class.{Class, Member, CompleteBelow, completion_of, held, held_form}
-use Rattle.cpp_layout.specs.Layout.{Extent, end_from, greatest_align, offset_behind, head_items, member_extent, class_extent}
+use Rattle.cpp_layout.specs.Layout.{Extent, end_from, greatest_align, offset_after, head_items, member_extent, class_extent}
 use Rattle.cpp_layout.specs.declared.extents.SizeAlign.{SizeAlign}
-use Rattle.cpp_layout.specs.declared.rows.Row.{Row}
+use Rattle.cpp_layout.specs.declared.cursor.LayoutCursor.{LayoutCursor}
+use Rattle.cpp_layout.specs.declared.extents.TheConstants.{GREATEST_SIZE}
 
 -- What a type needs
 
@@ -24,7 +25,7 @@ pub record BaseComplete (classes : List Class) (base : Option ℕ) : Type 0 wher
 pub record HeldBelow (classes : List Class) (limit : ℕ) (members : List Member) : Type 0 where
   pub held : (i : ℕ) (m : Member) → slice_get members i ≡ Some m → (e : ℕ) → held m.typ ≡ Some e → CompleteBelow classes limit e
 
--- the class is in the list, and has a member in the place `i`
+-- the class is in the list, and has a member of index `i`
 pub record HasMember (classes : List Class) (n : ℕ) (i : ℕ) : Type 0 where
   pub owner : Class
   pub found : slice_get classes n ≡ Some owner
@@ -42,7 +43,7 @@ is_vacant f = false
 pub record Measured (e : Extent) (s : SizeAlign) : Type 0 where
   pub size : s.size ≡ e.size
   pub align : s.align ≡ e.align
-  pub within : e.size ≤ 1048576
+  pub within : e.size ≤ GREATEST_SIZE
   pub low : 1 ≤ e.align
   pub high : e.align ≤ 8
 
@@ -52,23 +53,23 @@ shown s = record { size = s.size; align = s.align }
 abbrev pub member_extents : List Class → List Member → List Extent
 member_extents classes members = map (member_extent (class_extent classes)) members
 
--- the place of a member behind the items before it
+-- the offset of a member after the items before it
 abbrev pub member_offset : List Class → ℕ → Class → ℕ → Member → ℕ
-member_offset classes n c i m = offset_behind (head_items (class_extent classes) classes n c ++ member_extents classes (take i c.members)) (member_extent (class_extent classes) m)
+member_offset classes n c i m = offset_after (head_items (class_extent classes) classes n c ++ member_extents classes (take i c.members)) (member_extent (class_extent classes) m)
 
 -- Rows of items
 
-abbrev pub no_row : Row
-no_row = record { end = 0; align = 1 }
+abbrev pub empty_cursor : LayoutCursor
+empty_cursor = record { end = 0; align = 1 }
 
 -- how far items reach that do not pass 1,048,576, and their greatest alignment
-pub record InBounds (row : Row) : Type 0 where
-  pub end : row.end ≤ 1048576
-  pub low : 1 ≤ row.align
-  pub high : row.align ≤ 8
+pub record InBounds (cursor : LayoutCursor) : Type 0 where
+  pub end : cursor.end ≤ GREATEST_SIZE
+  pub low : 1 ≤ cursor.align
+  pub high : cursor.align ≤ 8
 
--- the row `from` with more items behind it
-pub record Follows (from : Row) (items : List Extent) (row : Row) : Type 0 where
-  pub end : row.end ≡ end_from from.end items
-  pub align : row.align ≡ max from.align (greatest_align items)
-  pub bounds : InBounds row
+-- the cursor `from` with more items after it
+pub record Follows (from : LayoutCursor) (items : List Extent) (cursor : LayoutCursor) : Type 0 where
+  pub end : cursor.end ≡ end_from from.end items
+  pub align : cursor.align ≡ max from.align (greatest_align items)
+  pub bounds : InBounds cursor

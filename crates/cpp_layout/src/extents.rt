@@ -63,7 +63,7 @@ pub fn has_no_elements(shape: &Shape) -> bool
 pub fn scaled(shape: &Shape, part: SizeAlign) -> Option<SizeAlign>
     requires part { Measured (shown part) part }
     requires elements { is_vacant (shape_form shape.now) ≡ false }
-    ensures { MatchOption result (1048576 < (form_extent (λ n. shown part) (shape_form shape.now)).size) (λ s. Measured (form_extent (λ n. shown part) (shape_form shape.now)) s) }
+    ensures { MatchOption result (GREATEST_SIZE < (form_extent (λ n. shown part) (shape_form shape.now)).size) (λ s. Measured (form_extent (λ n. shown part) (shape_form shape.now)) s) }
 {
     match shape {
         Shape::Int(kind) => Some(scalar_of(int_size(*kind))),
@@ -79,7 +79,7 @@ pub fn scaled(shape: &Shape, part: SizeAlign) -> Option<SizeAlign>
 // An array's extent, by that of its elements.
 fn times(element: SizeAlign, count: u32) -> Option<SizeAlign>
     requires { Measured (shown element) element }
-    ensures { MatchOption result (1048576 < count * element.size) (λ s. Measured (record { size = count * element.size; align = element.align }) s) }
+    ensures { MatchOption result (GREATEST_SIZE < count * element.size) (λ s. Measured (record { size = count * element.size; align = element.align }) s) }
 {
     let size = count as u64 * element.size as u64;
     if size > GREATEST_SIZE as u64 {

@@ -5,10 +5,10 @@ ghost use Rattle.cpp_types.specs.Typ.{typ_of, shape_form};
 ghost use Rattle.cpp_types.specs.Class.{InOrder, classes_of};
 ghost use Rattle.cpp_layout.specs.Layout.{extent_of, end_from, next_multiple, frame_size};
 ghost use Rattle.cpp_layout.specs.Measured.{HoldsComplete};
-ghost use Rattle.cpp_layout.specs.Frames.{AllComplete, Placed, IsFrame, HasNoFrame};
+ghost use Rattle.cpp_layout.specs.Frames.{AllComplete, IsPlaced, IsFrame, HasNoFrame};
 
+use crate::cursor::aligned_up;
 use crate::measures::measured;
-use crate::rows::aligned_up;
 use cpp_types::{ClassRec, Ty};
 use std::alloc::{AllocError, Global};
 use thiserror::Error;
@@ -37,12 +37,12 @@ pub enum FrameFault {
 
 // Where an item lies, and where it ends.
 #[derive(Clone, Copy)]
-pub struct Place {
+pub struct PlacedItem {
     pub offset: u32,
     pub end: u32,
 }
 
-/// The frame of these items, one behind another, each at the next multiple of its alignment.
+/// The frame of these items, one after another, each at the next multiple of its alignment.
 ///
 /// Needs a list of classes in order, and each class that a value of an item's type holds to be
 /// complete. A reference takes the size of a pointer. Answers `TooLarge` exactly where the frame's
@@ -55,13 +55,13 @@ pub fn frame(alloc: Global, items: &[Ty], classes: &[ClassRec]) -> Result<FrameR
     let mut offsets = Vec::new(alloc);
     let mut end = 0;
     for item in items {
-        let Some(place) = placed(end, item, classes) else {
+        let Some(lies) = placed(end, item, classes) else {
             return Err(FrameFault::TooLarge);
         };
-        let Ok(()) = put(&mut offsets, place.offset) else {
+        let Ok(()) = put(&mut offsets, lies.offset) else {
             return Err(FrameFault::Memory);
         };
-        end = place.end;
+        end = lies.end;
     }
     Ok(FrameRec {
         offsets,
@@ -69,13 +69,13 @@ pub fn frame(alloc: Global, items: &[Ty], classes: &[ClassRec]) -> Result<FrameR
     })
 }
 
-// The offset and the end of an item behind others that end at `end`; `None` where it ends behind
+// The offset and the end of an item after others that end at `end`; `None` where it ends after
 // the greatest frame.
-fn placed(end: u32, item: &Ty, classes: &[ClassRec]) -> Option<Place>
+fn placed(end: u32, item: &Ty, classes: &[ClassRec]) -> Option<PlacedItem>
     requires in_order { InOrder (classes_of classes.now) }
     requires complete { HoldsComplete (classes_of classes.now) (shape_form item.now.shape) }
-    requires end { end ≤ 65536 }
-    ensures { MatchOption result (65536 < end_from end (extent_of (classes_of classes.now) (typ_of item.now) ∷ [])) (λ p. Placed end (extent_of (classes_of classes.now) (typ_of item.now)) p) }
+    requires end { end ≤ GREATEST_FRAME }
+    ensures { MatchOption result (GREATEST_FRAME < end_from end (extent_of (classes_of classes.now) (typ_of item.now) ∷ [])) (λ p. IsPlaced end (extent_of (classes_of classes.now) (typ_of item.now)) p) }
 {
     let found = measured(&item.shape, classes)?;
     let offset = aligned_up(end, found.align);
@@ -83,14 +83,14 @@ fn placed(end: u32, item: &Ty, classes: &[ClassRec]) -> Option<Place>
     if next > GREATEST_FRAME {
         return None;
     }
-    Some(Place { offset, end: next })
+    Some(PlacedItem { offset, end: next })
 }
 
 // The size of a frame whose items end at `end`.
 fn whole_frame(end: u32) -> u32
-    requires { end ≤ 65536 }
+    requires { end ≤ GREATEST_FRAME }
     ensures size { result ≡ max 16 (next_multiple end 16) }
-    ensures within { result ≤ 65536 }
+    ensures within { result ≤ GREATEST_FRAME }
 {
     aligned_up(end, 16).max(16)
 }

@@ -3,13 +3,13 @@
 
 pub mod addresses;
 mod alignments;
+mod cursor;
 pub mod extents;
 pub mod frames;
 pub mod laws;
 mod measures;
 pub mod objects;
 mod pointers;
-mod rows;
 #[cfg(test)]
 mod tests;
 

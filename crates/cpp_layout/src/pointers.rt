@@ -6,9 +6,10 @@ ghost use Rattle.cpp_types.specs.Class.{classes_of, base_of, completion_of, func
 ghost use Rattle.cpp_types.specs.Conversion.{chain};
 ghost use Rattle.cpp_layout.specs.Layout.{is_virtual_function, has_virtual, has_class_pointer, pointer_items, end_from, greatest_align};
 ghost use Rattle.cpp_layout.specs.Measured.{InBounds, Follows};
+ghost use Rattle.cpp_layout.specs.declared.extents.TheConstants.{GREATEST_SIZE};
 
+use crate::cursor::{LayoutCursor, append};
 use crate::extents::scalar_of;
-use crate::rows::{Row, behind};
 use cpp_types::{ClassRec, FuncRec};
 
 // Whether one of the functions is virtual.
@@ -81,16 +82,16 @@ pub fn has_pointer(classes: &[ClassRec], class: u32) -> bool
     }
 }
 
-// The row with the class pointer behind it, where the class has one; `None` where it ends behind
+// The cursor with the class pointer after it, where the class has one; `None` where it ends after
 // the greatest size.
-pub fn with_pointer(row: Row, classes: &[ClassRec], class: u32) -> Option<Row>
-    requires { InBounds row }
-    ensures { MatchOption result (1048576 < end_from row.end (pointer_items (has_class_pointer (classes_of classes.now) class))) (λ r. Follows row (pointer_items (has_class_pointer (classes_of classes.now) class)) r) }
+pub fn with_pointer(cursor: LayoutCursor, classes: &[ClassRec], class: u32) -> Option<LayoutCursor>
+    requires { InBounds cursor }
+    ensures { MatchOption result (GREATEST_SIZE < end_from cursor.end (pointer_items (has_class_pointer (classes_of classes.now) class))) (λ r. Follows cursor (pointer_items (has_class_pointer (classes_of classes.now) class)) r) }
 {
     if has_pointer(classes, class) {
-        behind(row, scalar_of(8))
+        append(cursor, scalar_of(8))
     } else {
-        Some(row)
+        Some(cursor)
     }
 }
 

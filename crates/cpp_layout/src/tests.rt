@@ -27,7 +27,7 @@ fn plain(shape: Shape) -> Ty {
 }
 
 // A type from a word: `p` a pointer to the rest, `r` a reference, `x` an exception, and an array of
-// as many as `count` says; then one letter for a scalar, or a capital for a class by its place.
+// as many as `count` says; then one letter for a scalar, or a capital for a class by its index.
 fn read(alloc: Global, word: &[u8]) -> Result<Ty, AllocError> {
     let mut ty = plain(Shape::Void);
     for letter in word.iter().rev() {
@@ -151,7 +151,7 @@ fn holds_complete(ty: &Ty, classes: &[ClassRec]) -> bool
     }
 }
 
-// Whether a class has a member in this place.
+// Whether a class has a member of this index.
 fn has_member(classes: &[ClassRec], class: u32, member: u32) -> bool
     ensures { result ≡ true → HasMember (classes_of classes.now) class member }
 {
@@ -195,7 +195,7 @@ fn measure(ty: &Ty, classes: &[ClassRec]) -> Option<Result<SizeAlign, TooLarge>>
 }
 
 // Where a member lies; `None` where a premise of the call does not hold.
-fn place(classes: &[ClassRec], class: u32, member: u32) -> Option<u32> {
+fn member_offset(classes: &[ClassRec], class: u32, member: u32) -> Option<u32> {
     if !is_in_order(classes) {
         return None;
     }

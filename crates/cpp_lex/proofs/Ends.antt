@@ -117,14 +117,14 @@ spelled_within text Punctuator from to s = punct_within text from to s
 abbrev pub is_dark : ℕ → Bool
 is_dark b = if is_blank b then false else true
 
--- the last byte of what ends at a place is no blank
+-- the last byte of what ends at a position is no blank
 pub record EndsDark (text : List ℕ) (to : ℕ) : Type 0 where
-  pub place : ℕ
-  pub ends : to ≡ place + 1
-  pub dark : is_dark (slice_index text place) ≡ true
+  pub position : ℕ
+  pub ends : to ≡ position + 1
+  pub dark : is_dark (slice_index text position) ≡ true
 
-dark_at : (text : List ℕ) (place to : ℕ) → to ≡ place + 1 → is_dark (slice_index text place) ≡ true → EndsDark text to
-dark_at text place to e h = record { place = place; ends = e; dark = h }
+dark_at : (text : List ℕ) (position to : ℕ) → to ≡ position + 1 → is_dark (slice_index text position) ≡ true → EndsDark text to
+dark_at text position to e h = record { position = position; ends = e; dark = h }
 
 dark_digit : (base b : ℕ) → is_digit base b ≡ true → is_dark b ≡ true
 dark_digit base b h = grind (arith, nat_tests)
@@ -191,14 +191,14 @@ newline_is_not_dark b h g = grind (arith, nat_tests)
 
 -- behind a byte that is no blank nothing is the first of its line
 dark_not_first : (text : List ℕ) (to : ℕ) → EndsDark text to → IsFirstOnLine text to → ⊥
-dark_not_first text to e f = elim (cases_lt e.place f.line) [
-  | inr h ↦ blank_is_not_dark (slice_index text e.place) (f.blanks.each e.place h (let s = e.ends in omega arith)) e.dark
+dark_not_first text to e f = elim (cases_lt e.position f.line) [
+  | inr h ↦ blank_is_not_dark (slice_index text e.position) (f.blanks.each e.position h (let s = e.ends in omega arith)) e.dark
   | inl h ↦
       let ordered = f.blanks.ordered in
       let ends = e.ends in
       elim f.begins [
         | inl z ↦ absurd (omega arith)
-        | inr b ↦ let same : f.line - 1 ≡ e.place = omega arith in newline_is_not_dark (slice_index text e.place) (subst (λ (n : ℕ). slice_index text n ≡ 10) same b.1) e.dark
+        | inr b ↦ let same : f.line - 1 ≡ e.position = omega arith in newline_is_not_dark (slice_index text e.position) (subst (λ (n : ℕ). slice_index text n ≡ 10) same b.1) e.dark
       ]
 ]
 

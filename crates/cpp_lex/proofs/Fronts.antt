@@ -1,4 +1,4 @@
--- What spells a piece at a place has the kind that the place's first two bytes leave.
+-- What spells a piece at a position has the kind that the place's first two bytes leave.
 use Rattle.std.proofs.Common.{List, [], ◌∷◌, ◌≡◌, ℕ, ◌+◌, ◌≤◌, ◌⊎◌, inl, inr, Bool, true, false, slice_index, refl, subst, arith, if◌then◌else◌, nat_eq, nat_le, ◌&&◌, ◌||◌}
 use Rattle.std.proofs.lemmas.Bool.Decides.{nat_tests}
 use Rattle.std.specs.Char.{is_ascii_digit}
@@ -170,7 +170,7 @@ by_parts : (b next : ℕ) → is_punct_byte b ≡ true → opens_comment b next 
 unfolding kind_by
 by_parts b next h g = grind (arith, nat_tests)
 
--- the kind that spells at a place is that of the first two bytes
+-- the kind that spells at a position is that of the first two bytes
 pub kind_spelled : (text : List ℕ) (kind : PieceKind) (from to : ℕ) → Spells text kind from to → kind_of text from ≡ kind
 unfolding kind_by
 kind_spelled text Blank from to s = rw (blank_is_no_letter (slice_index text from) s.first, blank_is_no_digit (slice_index text from) s.first, s.first) refl

@@ -11,36 +11,36 @@ use Rattle.cpp_lex.proofs.Ends.{digits_within, prefixed_within, literal_within, 
 
 -- the last byte of digits is one
 record LastDigit (base : ℕ) (text : List ℕ) (to : ℕ) : Type 0 where
-  place : ℕ
-  ends : to ≡ place + 1
-  digit : is_digit base (slice_index text place) ≡ true
+  position : ℕ
+  ends : to ≡ position + 1
+  digit : is_digit base (slice_index text position) ≡ true
 
 last_digit : (base : ℕ) (text : List ℕ) (from to : ℕ) → Digits base text from to → LastDigit base text to
-last_digit base text from to (one d) = record { place = from; ends = refl; digit = d }
-last_digit base text from to (more {at = at} ds d) = record { place = at; ends = refl; digit = d }
-last_digit base text from to (marked {at = at} ds m d) = record { place = at + 1; ends = omega arith; digit = d }
+last_digit base text from to (one d) = record { position = from; ends = refl; digit = d }
+last_digit base text from to (more {at = at} ds d) = record { position = at; ends = refl; digit = d }
+last_digit base text from to (marked {at = at} ds m d) = record { position = at + 1; ends = omega arith; digit = d }
 
 mark_is_no_digit : (base b : ℕ) → b ≡ 39 → is_digit base b ≡ true → ⊥
 mark_is_no_digit base b e h = grind (arith, nat_tests)
 
 pub digits_furthest : (base : ℕ) (text : List ℕ) (from at : ℕ) → Digits base text from at → is_digit base (slice_index text at) ≡ false → (slice_index text at ≡ 39 → is_digit base (slice_index text (at + 1)) ≡ false) → (end : ℕ) → Digits base text from end → end ≤ at
 digits_furthest base text from at here no_digit no_mark end (one d) = let w = digits_within base text from at here in omega (arith, w.after)
-digits_furthest base text from at here no_digit no_mark end (more {at = place} ds d) =
-    let before : place ≤ at = digits_furthest base text from at here no_digit no_mark place ds in
-    elim (cases_lt place at) [
+digits_furthest base text from at here no_digit no_mark end (more {at = position} ds d) =
+    let before : position ≤ at = digits_furthest base text from at here no_digit no_mark position ds in
+    elim (cases_lt position at) [
       | inl h ↦ omega arith
-      | inr h ↦ let same : place ≡ at = omega arith in let yes : is_digit base (slice_index text at) ≡ true = subst (λ (n : ℕ). is_digit base (slice_index text n) ≡ true) same d in absurd cc
+      | inr h ↦ let same : position ≡ at = omega arith in let yes : is_digit base (slice_index text at) ≡ true = subst (λ (n : ℕ). is_digit base (slice_index text n) ≡ true) same d in absurd cc
     ]
-digits_furthest base text from at here no_digit no_mark end (marked {at = place} ds m d) =
-    let before : place ≤ at = digits_furthest base text from at here no_digit no_mark place ds in
+digits_furthest base text from at here no_digit no_mark end (marked {at = position} ds m d) =
+    let before : position ≤ at = digits_furthest base text from at here no_digit no_mark position ds in
     let last = last_digit base text from at here in
-    let ends : at ≡ last.place + 1 = last.ends in
-    elim (cases_lt (place + 1) at) [
+    let ends : at ≡ last.position + 1 = last.ends in
+    elim (cases_lt (position + 1) at) [
       | inl h ↦ omega arith
-      | inr h ↦ elim (cases_lt place at) [
-        | inl g ↦ let same : last.place ≡ place = omega arith in absurd (mark_is_no_digit base (slice_index text place) m (subst (λ (n : ℕ). is_digit base (slice_index text n) ≡ true) same last.digit))
+      | inr h ↦ elim (cases_lt position at) [
+        | inl g ↦ let same : last.position ≡ position = omega arith in absurd (mark_is_no_digit base (slice_index text position) m (subst (λ (n : ℕ). is_digit base (slice_index text n) ≡ true) same last.digit))
         | inr g ↦
-            let same : place ≡ at = omega arith in
+            let same : position ≡ at = omega arith in
             let mark : slice_index text at ≡ 39 = subst (λ (n : ℕ). slice_index text n ≡ 39) same m in
             let yes : is_digit base (slice_index text (at + 1)) ≡ true = subst (λ (n : ℕ). is_digit base (slice_index text (n + 1)) ≡ true) same d in
             let no_digit_there = no_mark mark in

@@ -24,12 +24,12 @@ one_tokens text ts us a b =
 pub fault_has_no_tokens : (text : List ℕ) (at : ℕ) → IsFaultAt text at → (ts : List Lexeme) → IsTokens text ts → ⊥
 fault_has_no_tokens text at f ts a =
     let same = same_reading text f.before a.whole f.none (none_at_end text) in
-    let place : at ≡ length text = same.place in
+    let position : at ≡ length text = same.position in
     let inside : at < length text = f.inside in
     omega arith
 
 pub one_fault : (text : List ℕ) (at other : ℕ) → IsFaultAt text at → IsFaultAt text other → at ≡ other
-one_fault text at other f g = let same = same_reading text f.before g.before f.none g.none in same.place
+one_fault text at other f g = let same = same_reading text f.before g.before f.none g.none in same.position
 
 -- offsets
 

@@ -20,8 +20,8 @@ marker_is_no_blank text at m = elim m [
   | inr pragma ↦
       let first = range_at text at (at + 6) 0 (omega arith) in
       let there : slice_index (slice_range text at (at + 6)) 0 ≡ 112 = ap (λ (bytes : List ℕ). slice_index bytes 0) pragma.word in
-      let place : at + 0 ≡ at = omega arith in
-      let same : slice_index text at ≡ 112 = sym (first ∙ ap (slice_index text) place) ∙ there in
+      let position : at + 0 ≡ at = omega arith in
+      let same : slice_index text at ≡ 112 = sym (first ∙ ap (slice_index text) position) ∙ there in
       p_is_no_blank (slice_index text at) same
 ]
 

@@ -5,8 +5,8 @@ use Rattle.std.proofs.lemmas.Bool.Decides.{nat_tests}
 use Rattle.std.specs.List.{find, list_any, count_by}
 use Rattle.cpp_lex.specs.declared.piece.PieceKind.{PieceKind}
 use Rattle.cpp_lex.specs.declared.piece.PieceKind.TheVariants.{Blank, LineComment, BlockComment, HashLine, Word, IntegerLiteral, CharacterLiteral, StringLiteral, Punctuator}
-use Rattle.cpp_lex.specs.declared.ints.IntType.{IntType}
-use Rattle.cpp_lex.specs.declared.ints.IntType.TheVariants.{Int, UnsignedInt, Long, UnsignedLong, LongLong, UnsignedLongLong}
+use Rattle.tx_ints.specs.declared.kinds.IntKind.{IntKind}
+use Rattle.tx_ints.specs.declared.kinds.IntKind.TheVariants.{Bool, Char, SChar, UChar, Short, UShort, Int, UInt, Long, ULong, LLong, ULLong}
 use Rattle.cpp_lex.specs.Ints.{int_largest, int_types, int_type_of, int_value, is_decimal, is_u, is_l}
 use Rattle.cpp_lex.specs.Quoted.{IsChar, is_char_byte}
 use Rattle.cpp_lex.specs.Kinds.{kind_of}
@@ -31,22 +31,28 @@ same_end text kind from to end here p = let a : end ≤ to = here.furthest end p
 pub not_legal : (text : List ℕ) (kind : PieceKind) (from to : ℕ) → kind_of text from ≡ kind → IsFurthest (λ to. Spells text kind from to) to → (IsLegal text kind from to → ⊥) → NoPiece text from
 not_legal text kind from to e here illegal = none_by_kind text kind from e (λ end p. illegal (subst (λ (n : ℕ). IsLegal text kind from n) (same_end text kind from to end here p) p.legal))
 
--- no type holds a value of 2 to the 64 or more
-too_great : (value : ℕ) (type : IntType) → 2 ^ 64 ≤ value → nat_le value (int_largest type) ≡ false
+-- no kind holds a value of 2 to the 64 or more
+too_great : (value : ℕ) (kind : IntKind) → 2 ^ 64 ≤ value → nat_le value (int_largest kind) ≡ false
+too_great value Bool h = grind (arith, nat_tests)
+too_great value Char h = grind (arith, nat_tests)
+too_great value SChar h = grind (arith, nat_tests)
+too_great value UChar h = grind (arith, nat_tests)
+too_great value Short h = grind (arith, nat_tests)
+too_great value UShort h = grind (arith, nat_tests)
 too_great value Int h = grind (arith, nat_tests)
-too_great value UnsignedInt h = grind (arith, nat_tests)
+too_great value UInt h = grind (arith, nat_tests)
 too_great value Long h = grind (arith, nat_tests)
-too_great value UnsignedLong h = grind (arith, nat_tests)
-too_great value LongLong h = grind (arith, nat_tests)
-too_great value UnsignedLongLong h = grind (arith, nat_tests)
+too_great value ULong h = grind (arith, nat_tests)
+too_great value LLong h = grind (arith, nat_tests)
+too_great value ULLong h = grind (arith, nat_tests)
 
-none_holds : (value : ℕ) (types : List IntType) → 2 ^ 64 ≤ value → find (λ type. nat_le value (int_largest type)) types ≡ None
+none_holds : (value : ℕ) (kinds : List IntKind) → 2 ^ 64 ≤ value → find (λ kind. nat_le value (int_largest kind)) kinds ≡ None
 none_holds value [] h = refl
-none_holds value (type ∷ types) h = rw (too_great value type h) (none_holds value types h)
+none_holds value (kind ∷ kinds) h = rw (too_great value kind h) (none_holds value kinds h)
 
 no_type : (bytes : List ℕ) (value : ℕ) → 2 ^ 64 ≤ value → IsSome (int_type_of bytes value) → ⊥
 unfolding int_type_of
-no_type bytes value h some = let none = none_holds value (int_types (is_decimal bytes) (list_any is_u bytes) (count_by is_l bytes)) h in let g : IsSome {T = IntType} None = rw none at some in cc
+no_type bytes value h some = let none = none_holds value (int_types (is_decimal bytes) (list_any is_u bytes) (count_by is_l bytes)) h in let g : IsSome {T = IntKind} None = rw none at some in cc
 
 no_value_legal : (text : List ℕ) (kind : PieceKind) (from to : ℕ) → 2 ^ 64 ≤ piece_value kind (slice_range text from to) → Spells text kind from to → IsLegal text kind from to → ⊥
 no_value_legal text Blank from to h s l = omega arith

@@ -215,7 +215,7 @@ at_quote : (text : List ℕ) (at end : ℕ) → slice_index text at ≡ 34 → S
 at_quote text at end quote no_more = refl
 at_quote text at end quote (one_more {mid = mid} o s) = absurd (nothing_at text at mid quote o)
 
--- the inner part of a string may be read from a place on
+-- the inner part of a string may be read from a position on
 pub record ReadTo (text : List ℕ) (from at : ℕ) : Type 0 where
   pub back : (end : ℕ) → SomeOf is_str_byte text at end → SomeOf is_str_byte text from end
   pub on : (end : ℕ) → SomeOf is_str_byte text from end → slice_index text end ≡ 34 → SomeOf is_str_byte text at end

@@ -40,7 +40,7 @@ put_both old rest back new last token e not_both put put_next =
     ∙ append_assoc (map lexeme_of rest) (lexeme_of last ∷ []) (lexeme_of token ∷ [])
     ∙ sym f
 
--- what is read of a text up to a place
+-- what is read of a text up to a position
 pub record ReadSoFar (text : List ℕ) (at : ℕ) (tokens : List Lexeme) : Type 0 where
   pub pieces : List Piece
   pub before : Pieces text 0 pieces at

@@ -1,4 +1,4 @@
--- Classes of bytes, and runs of bytes of one class. A place past the end of a text reads as byte 0,
+-- Classes of bytes, and runs of bytes of one class. A position past the end of a text reads as byte 0,
 -- which is in none of the classes but `is_line_byte`.
 use Rattle.std.specs.Prelude.{◌≡◌, ℕ, ◌+◌, ◌-◌, ◌<◌, ◌≤◌, Bool, true, false, List, length, if◌then◌else◌, nat_le, nat_lt, nat_eq, ◌&&◌, ◌||◌, slice_index}
 use Rattle.std.specs.Char.{is_ascii_digit, is_ascii_alphabetic}
@@ -35,13 +35,13 @@ digit_value b = if nat_le 97 b then b - 87 else (if nat_le 65 b then b - 55 else
 abbrev pub is_digit : ℕ → ℕ → Bool
 is_digit base b = (is_ascii_digit b || (nat_le 97 b && nat_le b 102) || (nat_le 65 b && nat_le b 70)) && nat_lt (digit_value b) base
 
--- each byte from a place up to another passes the test
+-- each byte from a position up to another passes the test
 pub record Run (test : ℕ → Bool) (text : List ℕ) (from to : ℕ) : Type 0 where
   pub ordered : from ≤ to
   pub inside : to ≤ length text
   pub each : (k : ℕ) → from ≤ k → k < to → test (slice_index text k) ≡ true
 
--- two bytes stand at a place
+-- two bytes stand at a position
 pub record Are (text : List ℕ) (at first second : ℕ) : Type 0 where
   pub one : slice_index text at ≡ first
   pub two : slice_index text (at + 1) ≡ second

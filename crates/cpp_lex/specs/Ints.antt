@@ -3,8 +3,9 @@ use Rattle.std.specs.Prelude.{◌≡◌, ◌≢◌, ℕ, ◌+◌, ◌-◌, ◌^�
 use Rattle.std.specs.List.{list_any}
 use Rattle.cpp_lex.specs.Bytes.{is_digit}
 use Rattle.cpp_lex.specs.Numbers.{number}
-use Rattle.cpp_lex.specs.declared.ints.IntType.{IntType}
-use Rattle.cpp_lex.specs.declared.ints.IntType.TheVariants.{Int, UnsignedInt, Long, UnsignedLong, LongLong, UnsignedLongLong}
+use Rattle.tx_ints.specs.declared.kinds.IntKind.{IntKind}
+use Rattle.tx_ints.specs.declared.kinds.IntKind.TheVariants.{Int, UInt, Long, ULong, LLong, ULLong}
+use Rattle.tx_ints.specs.Integers.{width, is_signed}
 
 -- digits of the base, where a ' may stand between two of them
 pub data Digits (base : ℕ) (text : List ℕ) : ℕ → ℕ → Type 0 where
@@ -12,7 +13,7 @@ pub data Digits (base : ℕ) (text : List ℕ) : ℕ → ℕ → Type 0 where
   more : {from at : ℕ} → Digits base text from at → is_digit base (slice_index text at) ≡ true → Digits base text from (at + 1)
   marked : {from at : ℕ} → Digits base text from at → slice_index text at ≡ 39 → is_digit base (slice_index text (at + 1)) ≡ true → Digits base text from (at + 2)
 
--- behind the 0 at a place x and hexadecimal digits, or b and binary digits
+-- behind the 0 at a position x and hexadecimal digits, or b and binary digits
 pub data Prefixed (text : List ℕ) : ℕ → ℕ → Type 0 where
   hexadecimal : {from to : ℕ} → slice_index text (from + 1) ≡ 120 → Digits 16 text (from + 2) to → Prefixed text from to
   binary : {from to : ℕ} → slice_index text (from + 1) ≡ 98 → Digits 2 text (from + 2) to → Prefixed text from to
@@ -62,30 +63,25 @@ base_of bytes = if nat_eq (slice_index bytes 0) 48 then (if nat_eq (slice_index 
 unfoldable pub int_value : List ℕ → ℕ
 int_value bytes = number (base_of bytes) bytes
 
--- the largest value of a type
-abbrev pub int_largest : IntType → ℕ
-int_largest Int = 2 ^ 31 - 1
-int_largest UnsignedInt = 2 ^ 32 - 1
-int_largest Long = 2 ^ 63 - 1
-int_largest UnsignedLong = 2 ^ 64 - 1
-int_largest LongLong = 2 ^ 63 - 1
-int_largest UnsignedLongLong = 2 ^ 64 - 1
+-- the largest value of a kind
+abbrev pub int_largest : IntKind → ℕ
+int_largest kind = if is_signed kind then 2 ^ (width kind - 1) - 1 else 2 ^ width kind - 1
 
 -- what stands for no l, for one, and for two
-abbrev pub by_longs : ℕ → List IntType → List IntType → List IntType → List IntType
+abbrev pub by_longs : ℕ → List IntKind → List IntKind → List IntKind → List IntKind
 by_longs zero without single twice = without
 by_longs (suc zero) without single twice = single
 by_longs (suc (suc n)) without single twice = twice
 
 -- the types that a literal may have, in the order in which they are tried (C++14 [lex.icon], table 6): by whether
 -- it is decimal, whether its suffix has a u, and how many l it has
-abbrev pub int_types : Bool → Bool → ℕ → List IntType
+abbrev pub int_types : Bool → Bool → ℕ → List IntKind
 int_types in_decimal has_u longs =
-    if has_u then by_longs longs (UnsignedInt ∷ UnsignedLong ∷ []) (UnsignedLong ∷ []) (UnsignedLongLong ∷ [])
-    else (if in_decimal then by_longs longs (Int ∷ Long ∷ []) (Long ∷ []) (LongLong ∷ [])
-    else by_longs longs (Int ∷ UnsignedInt ∷ Long ∷ UnsignedLong ∷ []) (Long ∷ UnsignedLong ∷ []) (LongLong ∷ UnsignedLongLong ∷ []))
+    if has_u then by_longs longs (UInt ∷ ULong ∷ []) (ULong ∷ []) (ULLong ∷ [])
+    else (if in_decimal then by_longs longs (Int ∷ Long ∷ []) (Long ∷ []) (LLong ∷ [])
+    else by_longs longs (Int ∷ UInt ∷ Long ∷ ULong ∷ []) (Long ∷ ULong ∷ []) (LLong ∷ ULLong ∷ []))
 
 -- the type of an Int token of this spelling and value: the first of its row that holds the value, if one does
-unfoldable pub int_type_of : List ℕ → ℕ → Option IntType
+unfoldable pub int_type_of : List ℕ → ℕ → Option IntKind
 int_type_of bytes value =
-    find (λ type. nat_le value (int_largest type)) (int_types (is_decimal bytes) (list_any is_u bytes) (count_by is_l bytes))
+    find (λ kind. nat_le value (int_largest kind)) (int_types (is_decimal bytes) (list_any is_u bytes) (count_by is_l bytes))

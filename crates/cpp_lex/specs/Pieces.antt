@@ -1,4 +1,4 @@
--- The pieces of a text: tokens and what is skipped between them, each the longest that its place allows.
+-- The pieces of a text: tokens and what is skipped between them, each the longest that its position allows.
 use Rattle.std.specs.Prelude.{◌≡◌, ◌≢◌, ℕ, ◌+◌, ◌≤◌, false, List, [], ◌∷◌, IsSome, slice_index, slice_range}
 use Rattle.cpp_lex.specs.declared.piece.PieceKind.{PieceKind}
 use Rattle.cpp_lex.specs.declared.piece.PieceKind.TheVariants.{Blank, LineComment, BlockComment, HashLine, Word, IntegerLiteral, CharacterLiteral, StringLiteral, Punctuator}
@@ -9,7 +9,7 @@ use Rattle.cpp_lex.specs.Quoted.{IsChar, IsStr}
 use Rattle.cpp_lex.specs.Puncts.{IsPunct, is_digraph}
 use Rattle.cpp_lex.specs.Skipped.{IsBlank, IsLineComment, IsBlockComment, IsHashLine}
 
--- the bytes from a place up to another spell a piece of the kind
+-- the bytes from a position up to another spell a piece of the kind
 abbrev pub Spells : List ℕ → PieceKind → ℕ → ℕ → Type 0
 Spells text Blank from to = IsBlank text from to
 Spells text LineComment from to = IsLineComment text from to
@@ -47,13 +47,13 @@ IsLegal text HashLine from to = Unit {0}
 IsLegal text CharacterLiteral from to = Unit {0}
 IsLegal text StringLiteral from to = Unit {0}
 
--- the piece at a place: the longest of any kind that is spelled there
+-- the piece at a position: the longest of any kind that is spelled there
 pub record PieceAt (text : List ℕ) (kind : PieceKind) (from to : ℕ) : Type 0 where
   pub spelled : Spells text kind from to
   pub longest : (other : PieceKind) (end : ℕ) → Spells text other from end → end ≤ to
   pub legal : IsLegal text kind from to
 
--- no piece begins at a place
+-- no piece begins at a position
 abbrev pub NoPiece : List ℕ → ℕ → Type 0
 NoPiece text at = (kind : PieceKind) (to : ℕ) → PieceAt text kind at to → ⊥
 
@@ -62,7 +62,7 @@ pub record Piece : Type 0 where
   pub from : ℕ
   pub to : ℕ
 
--- the text from a place up to another is these pieces, one after the other
+-- the text from a position up to another is these pieces, one after the other
 pub data Pieces (text : List ℕ) : ℕ → List Piece → ℕ → Type 0 where
   done : {at : ℕ} → Pieces text at [] at
   next : {from mid to : ℕ} {pieces : List Piece} → (kind : PieceKind) → PieceAt text kind from mid → Pieces text mid pieces to → Pieces text from (record { kind = kind; from = from; to = mid } ∷ pieces) to

@@ -32,7 +32,7 @@ pub record HexEscape (text : List ℕ) (from to : ℕ) : Type 0 where
   pub ends : is_digit 16 (slice_index text to) ≡ false
   pub fits : number 16 (slice_range text from to) ≤ 255
 
--- what follows a \ at a place
+-- what follows a \ at a position
 pub data EscapeBody (text : List ℕ) : ℕ → ℕ → Type 0 where
   by_letter : {from : ℕ} → IsSome (simple_escape (slice_index text (from + 1))) → EscapeBody text from (from + 2)
   in_octal : {from to : ℕ} → OctalEscape text from to → EscapeBody text from to

@@ -1,4 +1,4 @@
--- What a reader of the text at a place answers.
+-- What a reader of the text at a position answers.
 use Rattle.std.specs.Prelude.{◌≡◌, ℕ, ◌≤◌, ◌+◌, ◌<◌, List, length, Bool, Option, Some, None}
 use Rattle.cpp_lex.specs.declared.bytes.Class.{Class}
 use Rattle.cpp_lex.specs.declared.bytes.Class.TheVariants.{WordByte, Blank, LineByte, LineBlank, OctalDigit, HexDigit}
@@ -41,7 +41,7 @@ abbrev pub own_byte : Quote → ℕ → Bool
 own_byte Single = is_char_byte
 own_byte Double = is_str_byte
 
--- the first place from a place on where the end of a comment stands
+-- the first position from a position on where the end of a comment stands
 pub record IsClosing (text : List ℕ) (from at : ℕ) : Type 0 where
   pub behind : from ≤ at
   pub inside : at + 2 ≤ length text

@@ -22,7 +22,7 @@ pub record IsBlockComment (text : List ℕ) (from to : ℕ) : Type 0 where
   pub closed : Are text (to - 2) 42 47
   pub nowhere_before : (k : ℕ) → from + 2 ≤ k → k + 2 < to → Are text k 42 47 → ⊥
 
--- only blanks stand between the beginning of the place's line and the place
+-- only blanks stand between the beginning of the place's line and the position
 pub record IsFirstOnLine (text : List ℕ) (at : ℕ) : Type 0 where
   pub line : ℕ
   pub begins : (line ≡ 0) ⊎ ((0 < line) × (slice_index text (line - 1) ≡ 10))

@@ -58,7 +58,7 @@ piece_value CharacterLiteral bytes = char_value bytes
 piece_value StringLiteral bytes = 0
 piece_value Punctuator bytes = 0
 
--- a piece of the text that begins at a place
+-- a piece of the text that begins at a position
 pub record IsPiece (text : List ℕ) (from : ℕ) (piece : ReadPiece) : Type 0 where
   pub at : PieceAt text piece.kind from piece.to
   pub value : piece.value ≡ piece_value piece.kind (slice_range text from piece.to)
@@ -105,7 +105,7 @@ pub record IsTokens (text : List ℕ) (tokens : List Lexeme) : Type 0 where
   pub whole : Pieces text 0 pieces (length text)
   pub are_kept : tokens ≡ joined (kept text pieces)
 
--- pieces lead from the beginning of a text to a place in it where none begins
+-- pieces lead from the beginning of a text to a position in it where none begins
 pub record IsFaultAt (text : List ℕ) (at : ℕ) : Type 0 where
   pub inside : at < length text
   pub pieces : List Piece
@@ -117,7 +117,7 @@ abbrev pub IsFault : List ℕ → LexFault → Type 0
 IsFault text (At offset) = IsFaultAt text offset
 IsFault text Memory = Unit {0}
 
--- each token begins at or behind the end of the one before it and ends behind its beginning, all between two places
+-- each token begins at or behind the end of the one before it and ends behind its beginning, all between two positions
 abbrev pub IsAscending : ℕ → List Lexeme → ℕ → Type 0
 IsAscending from [] to = from ≤ to
 IsAscending from (token ∷ tokens) to = (from ≤ token.from) × (token.from < token.to) × IsAscending token.to tokens to

@@ -1,5 +1,5 @@
 -- Names and keywords: C++14 [lex.name], [lex.key] with the alternative representations, and the keywords of
--- ISO/IEC TS 19841:2015. The words with a special meaning in some places only, as `override`, are names.
+-- ISO/IEC TS 19841:2015. The words with a special meaning in some positions only, as `override`, are names.
 use Rattle.std.specs.Prelude.{◌≡◌, ℕ, ◌+◌, Bool, true, List, [], ◌∷◌, codes, slice_index}
 use Rattle.std.specs.List.{list_any}
 use Rattle.std.specs.Str.{bytes_eq}

@@ -84,7 +84,7 @@ pub fn in_class(class: Class, b: u8) -> bool
     }
 }
 
-/// The byte at a place, or 0 behind the end of the text.
+/// The byte at a position, or 0 behind the end of the text.
 pub fn byte(text: &[u8], at: usize) -> u8
     ensures is { result ≡ slice_index text.now at }
     ensures there { 0 < result → at < length text.now }
@@ -92,7 +92,7 @@ pub fn byte(text: &[u8], at: usize) -> u8
     if at < text.len() { text[at] } else { 0 }
 }
 
-/// Whether two bytes stand at a place.
+/// Whether two bytes stand at a position.
 pub fn are(text: &[u8], at: usize, first: u8, second: u8) -> bool
     requires { at ≤ length text.now }
     ensures { IsTrue result ↔ Are text.now at first second }
@@ -100,7 +100,7 @@ pub fn are(text: &[u8], at: usize, first: u8, second: u8) -> bool
     byte(text, at) == first && byte(text, at + 1) == second
 }
 
-/// Where the bytes of the class that begin at a place end.
+/// Where the bytes of the class that begin at a position end.
 pub fn run_end(class: Class, text: &[u8], from: usize) -> usize
     requires { from ≤ length text.now }
     ensures run { IsFurthest (Run (in_class class) text.now from) result }

@@ -8,17 +8,7 @@ ghost use Rattle.cpp_lex.specs.Ints.{is_decimal, Digits, Prefixed, Literal, Long
 ghost use Rattle.cpp_lex.specs.Readings.{IsLongest, IsFurthest};
 
 use crate::bytes::{byte, digit, is_digit};
-
-/// The type of an integer literal.
-#[derive(Clone, Copy, Debug, PartialEq, Eq)]
-pub enum IntType {
-    Int,
-    UnsignedInt,
-    Long,
-    UnsignedLong,
-    LongLong,
-    UnsignedLongLong,
-}
+use tx_ints::IntKind;
 
 /// The number so far with one more byte, which adds nothing if it is no digit of the base; if that is below 2 to the 64.
 fn with_byte(base: u64, total: u64, b: u8) -> Option<u64>
@@ -84,47 +74,44 @@ pub fn is_l(b: u8) -> bool
     b == b'l' || b == b'L'
 }
 
-/// The largest value of the type.
-fn largest(int_type: IntType) -> u64
-    ensures { result ≡ int_largest int_type }
+/// The largest value of the kind.
+fn largest(kind: IntKind) -> u64
+    ensures { result ≡ int_largest kind }
 {
-    match int_type {
-        IntType::Int => 0x7fff_ffff,
-        IntType::UnsignedInt => 0xffff_ffff,
-        IntType::Long | IntType::LongLong => 0x7fff_ffff_ffff_ffff,
-        IntType::UnsignedLong | IntType::UnsignedLongLong => u64::MAX,
+    match kind {
+        IntKind::Bool => 1,
+        IntKind::Char | IntKind::SChar => 0x7f,
+        IntKind::UChar => 0xff,
+        IntKind::Short => 0x7fff,
+        IntKind::UShort => 0xffff,
+        IntKind::Int => 0x7fff_ffff,
+        IntKind::UInt => 0xffff_ffff,
+        IntKind::Long | IntKind::LLong => 0x7fff_ffff_ffff_ffff,
+        IntKind::ULong | IntKind::ULLong => u64::MAX,
     }
 }
 
-/// The first of the types that holds the value.
-fn first_holding(types: &[IntType], value: u64) -> Option<IntType>
-    ensures { result ≡ find (λ type. nat_le value (int_largest type)) types.now }
+/// The first of the kinds that holds the value.
+fn first_holding(types: &[IntKind], value: u64) -> Option<IntKind>
+    ensures { result ≡ find (λ kind. nat_le value (int_largest kind)) types.now }
 {
-    types
-        .iter()
-        .copied()
-        .find(|int_type| value <= largest(*int_type))
+    types.iter().copied().find(|kind| value <= largest(*kind))
 }
 
 /// The types that a literal may have, in the order in which they are tried.
-fn types_of(is_decimal: bool, has_u: bool, longs: usize) -> &'static [IntType]
+fn types_of(is_decimal: bool, has_u: bool, longs: usize) -> &'static [IntKind]
     ensures { result.now ≡ int_types is_decimal has_u longs }
 {
     match (has_u, is_decimal, longs) {
-        (true, _, 0) => &[IntType::UnsignedInt, IntType::UnsignedLong],
-        (true, _, 1) => &[IntType::UnsignedLong],
-        (true, _, _) => &[IntType::UnsignedLongLong],
-        (false, true, 0) => &[IntType::Int, IntType::Long],
-        (false, true, 1) => &[IntType::Long],
-        (false, true, _) => &[IntType::LongLong],
-        (false, false, 0) => &[
-            IntType::Int,
-            IntType::UnsignedInt,
-            IntType::Long,
-            IntType::UnsignedLong,
-        ],
-        (false, false, 1) => &[IntType::Long, IntType::UnsignedLong],
-        (false, false, _) => &[IntType::LongLong, IntType::UnsignedLongLong],
+        (true, _, 0) => &[IntKind::UInt, IntKind::ULong],
+        (true, _, 1) => &[IntKind::ULong],
+        (true, _, _) => &[IntKind::ULLong],
+        (false, true, 0) => &[IntKind::Int, IntKind::Long],
+        (false, true, 1) => &[IntKind::Long],
+        (false, true, _) => &[IntKind::LLong],
+        (false, false, 0) => &[IntKind::Int, IntKind::UInt, IntKind::Long, IntKind::ULong],
+        (false, false, 1) => &[IntKind::Long, IntKind::ULong],
+        (false, false, _) => &[IntKind::LLong, IntKind::ULLong],
     }
 }
 
@@ -148,14 +135,14 @@ fn count_l(bytes: &[u8]) -> usize
 
 /// The type of an integer literal of this spelling and value, if one holds the value: that of C++14 [lex.icon].
 #[tactic(auto, unfolding(crate::specs::Ints::int_type_of))]
-pub fn int_type(bytes: &[u8], value: u64) -> Option<IntType>
+pub fn int_type(bytes: &[u8], value: u64) -> Option<IntKind>
     ensures { result ≡ int_type_of bytes.now value }
 {
     let types = types_of(is_decimal(bytes), has_u(bytes), count_l(bytes));
     first_holding(types, value)
 }
 
-/// Where the digits of the base that begin at a place end.
+/// Where the digits of the base that begin at a position end.
 pub fn digits_end(base: u64, text: &[u8], from: usize) -> Option<usize>
     requires { base ≤ 16 }
     ensures { IsLongest (λ to. Digits base text.now from to) result }
@@ -176,7 +163,7 @@ pub fn digits_end(base: u64, text: &[u8], from: usize) -> Option<usize>
     Some(at)
 }
 
-/// Where the digits behind the prefix `0x` or `0b` at a place end.
+/// Where the digits behind the prefix `0x` or `0b` at a position end.
 fn prefixed_end(text: &[u8], from: usize) -> Option<usize>
     requires { from < length text.now }
     ensures { IsLongest (λ to. Prefixed text.now from to) result }
@@ -188,7 +175,7 @@ fn prefixed_end(text: &[u8], from: usize) -> Option<usize>
     }
 }
 
-/// Where the literal that begins at a place ends, without its suffix.
+/// Where the literal that begins at a position ends, without its suffix.
 pub fn literal_end(text: &[u8], from: usize) -> Option<usize>
     ensures { IsLongest (λ to. Literal text.now from to) result }
 {
@@ -216,7 +203,7 @@ fn long_suffix_end(text: &[u8], at: usize) -> Option<usize>
     }
 }
 
-/// Where the suffix at a place ends.
+/// Where the suffix at a position ends.
 fn suffix_end(text: &[u8], at: usize) -> usize
     requires { at ≤ length text.now }
     ensures { IsFurthest (λ to. Suffix text.now at to) result }
@@ -233,7 +220,7 @@ fn suffix_end(text: &[u8], at: usize) -> usize
     if is_u(byte(text, end)) { end + 1 } else { end }
 }
 
-/// Where the integer that begins at a place ends.
+/// Where the integer that begins at a position ends.
 pub fn int_end(text: &[u8], from: usize) -> Option<usize>
     ensures { IsLongest (λ to. IsInt text.now from to) result }
 {

@@ -8,7 +8,7 @@ ghost use Rattle.std.specs.Prelude.{◌≡◌, ◌≤◌, ◌&&◌, length, ℕ,
 ghost use Rattle.cpp_lex.specs.Tokens.{IsTokens, IsFault, IsFaultAt, IsPiece, lexeme_of, lexemes_of, Lexeme, as_one, is_str, IsAscending, IsTyped};
 ghost use Rattle.cpp_lex.specs.Growth.{added, with_piece};
 
-pub use ints::{IntType, int_type};
+pub use ints::int_type;
 use piece::{Piece, is_first_after, read_piece, token_kind};
 use std::alloc::{AllocError, Global};
 use thiserror::Error;
@@ -23,10 +23,13 @@ mod skipped;
 mod tests;
 mod words;
 
+/// The greatest length of a text, in bytes.
+pub const GREATEST_TEXT: u64 = 1_048_576;
+
 /// What a token is.
 #[derive(Clone, Copy, Debug, PartialEq, Eq)]
 pub enum TokKind {
-    /// An identifier, those with a special meaning in some places among them, as `override`.
+    /// An identifier, those with a special meaning in some positions among them, as `override`.
     Name,
     /// A keyword of C++14 or of the TS, or an alternative token, as `and`.
     Key,
@@ -109,7 +112,7 @@ fn joined_strings(first: Token, second: Token) -> Result<Token, AllocError>
     })
 }
 
-/// Adds what a piece that begins at a place gives.
+/// Adds what a piece that begins at a position gives.
 fn add_piece(
     alloc: Global,
     tokens: &mut Vec<Token>,
@@ -117,7 +120,7 @@ fn add_piece(
     from: usize,
     piece: Piece,
 ) -> Result<(), AllocError>
-    requires small { length text.now ≤ 1048576 }
+    requires small { length text.now ≤ GREATEST_TEXT }
     requires piece { IsPiece text.now from piece }
     ensures { OnOk result (map lexeme_of tokens.new.items ≡ with_piece text.now (map lexeme_of tokens.old.items) piece.kind from piece.to) }
 {
@@ -136,9 +139,9 @@ fn add_piece(
     add_token(tokens, token)
 }
 
-/// The tokens of a text, or the place of the first byte where none begins.
+/// The tokens of a text, or the position of the first byte where none begins.
 pub fn lex(alloc: Global, text: &[u8]) -> Result<Tokens, LexFault>
-    requires { length text.now ≤ 1048576 }
+    requires { length text.now ≤ GREATEST_TEXT }
     ensures { MatchResult result (λ tokens. IsTokens text.now (lexemes_of tokens)) (IsFault text.now) }
 {
     let mut items = Vec::new(alloc);

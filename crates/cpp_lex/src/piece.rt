@@ -74,7 +74,7 @@ fn kind_by(b: u8, next: u8) -> PieceKind
     }
 }
 
-/// Where the longest spelling of the kind at a place ends.
+/// Where the longest spelling of the kind at a position ends.
 fn spelled_end(kind: PieceKind, text: &[u8], from: usize, is_first: bool) -> Option<usize>
     requires here { from < length text.now }
     requires first { IsTrue is_first ↔ IsFirstOnLine text.now from }
@@ -121,7 +121,7 @@ fn is_legal_int(text: &[u8], from: usize, to: usize, value: u64) -> bool
     !is_word_byte(next) && next != b'.' && int_type(&text[from..to], value).is_some()
 }
 
-/// Whether a spelling of the kind and value is one that a piece may have at its place.
+/// Whether a spelling of the kind and value is one that a piece may have at its position.
 fn is_legal(kind: PieceKind, text: &[u8], from: usize, to: usize, value: u64) -> bool
     requires ordered { from ≤ to }
     requires inside { to ≤ length text.now }
@@ -141,7 +141,7 @@ fn is_legal(kind: PieceKind, text: &[u8], from: usize, to: usize, value: u64) ->
     }
 }
 
-/// The piece at a place, where it is known whether only blanks stand before it on its line.
+/// The piece at a position, where it is known whether only blanks stand before it on its line.
 pub fn read_piece(text: &[u8], from: usize, is_first: bool) -> Option<Piece>
     requires here { from < length text.now }
     requires first { IsTrue is_first ↔ IsFirstOnLine text.now from }

@@ -56,7 +56,7 @@ fn opens_comment(b: u8, c: u8) -> bool
     b == b'/' && (c == b'/' || c == b'*')
 }
 
-/// Where the punct at a place ends.
+/// Where the punct at a position ends.
 pub fn punct_end(text: &[u8], from: usize) -> Option<usize>
     requires { from < length text.now }
     ensures { IsLongest (λ to. IsPunct text.now from to) result }

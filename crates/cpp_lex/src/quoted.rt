@@ -48,7 +48,7 @@ fn fits(base: u64, bytes: &[u8]) -> bool
     }
 }
 
-/// Where the hexadecimal escape at a place ends.
+/// Where the hexadecimal escape at a position ends.
 fn hex_escape_end(text: &[u8], from: usize) -> Option<usize>
     requires { from < length text.now }
     ensures { IsTheOne (λ to. HexEscape text.now from to) result }
@@ -84,7 +84,7 @@ fn octal_digits_end(text: &[u8], from: usize) -> usize
     at
 }
 
-/// Where the octal escape at a place ends.
+/// Where the octal escape at a position ends.
 fn octal_escape_end(text: &[u8], from: usize) -> Option<usize>
     requires { from < length text.now }
     ensures { IsTheOne (λ to. OctalEscape text.now from to) result }
@@ -100,7 +100,7 @@ fn octal_escape_end(text: &[u8], from: usize) -> Option<usize>
     }
 }
 
-/// Where the escape at a place ends.
+/// Where the escape at a position ends.
 fn escape_end(text: &[u8], from: usize) -> Option<usize>
     ensures { IsTheOne (λ to. Escape text.now from to) result }
 {
@@ -140,7 +140,7 @@ fn own_byte(quote: Quote, b: u8) -> bool
     }
 }
 
-/// Where the byte or the escape at a place between the quotes ends.
+/// Where the byte or the escape at a position between the quotes ends.
 fn one_of_end(quote: Quote, text: &[u8], from: usize) -> Option<usize>
     requires { from ≤ length text.now }
     ensures { IsTheOne (λ to. OneOf (own_byte quote) text.now from to) result }
@@ -152,7 +152,7 @@ fn one_of_end(quote: Quote, text: &[u8], from: usize) -> Option<usize>
     }
 }
 
-/// Where the character that begins at a place ends.
+/// Where the character that begins at a position ends.
 pub fn char_end(text: &[u8], from: usize) -> Option<usize>
     requires { from < length text.now }
     ensures { IsTheOne (λ to. IsChar text.now from to) result }
@@ -170,7 +170,7 @@ pub fn char_end(text: &[u8], from: usize) -> Option<usize>
     }
 }
 
-/// Where the string that begins at a place ends.
+/// Where the string that begins at a position ends.
 pub fn str_end(text: &[u8], from: usize) -> Option<usize>
     requires { from < length text.now }
     ensures { IsTheOne (λ to. IsStr text.now from to) result }

@@ -7,7 +7,7 @@ ghost use Rattle.cpp_lex.specs.Readings.{IsLongest, IsClosing};
 
 use crate::bytes::{Class, are, byte, is_blank, is_word_byte, run_end};
 
-/// Where the blanks that begin at a place end.
+/// Where the blanks that begin at a position end.
 pub fn blank_end(text: &[u8], from: usize) -> Option<usize>
     requires { from < length text.now }
     ensures { IsLongest (λ to. IsBlank text.now from to) result }
@@ -19,7 +19,7 @@ pub fn blank_end(text: &[u8], from: usize) -> Option<usize>
     }
 }
 
-/// Where the comment that `//` opens at a place ends.
+/// Where the comment that `//` opens at a position ends.
 pub fn line_comment_end(text: &[u8], from: usize) -> Option<usize>
     requires { from < length text.now }
     ensures { IsLongest (λ to. IsLineComment text.now from to) result }
@@ -30,7 +30,7 @@ pub fn line_comment_end(text: &[u8], from: usize) -> Option<usize>
     Some(run_end(Class::LineByte, text, from + 2))
 }
 
-/// The first place from a place on where `*/` stands.
+/// The first position from a position on where `*/` stands.
 fn closing(text: &[u8], from: usize) -> Option<usize>
     requires { from ≤ length text.now }
     ensures { MatchOption result ((k : ℕ) → from ≤ k → Are text.now k 42 47 → ⊥) (λ at. IsClosing text.now from at) }
@@ -45,7 +45,7 @@ fn closing(text: &[u8], from: usize) -> Option<usize>
     None
 }
 
-/// Where the comment that `/*` opens at a place ends.
+/// Where the comment that `/*` opens at a position ends.
 pub fn block_comment_end(text: &[u8], from: usize) -> Option<usize>
     requires { from < length text.now }
     ensures { IsLongest (λ to. IsBlockComment text.now from to) result }
@@ -66,7 +66,7 @@ fn begins_pragma(text: &[u8], at: usize) -> bool
     text[at..].starts_with(b"pragma")
 }
 
-/// Whether the word `pragma` stands at a place.
+/// Whether the word `pragma` stands at a position.
 fn is_pragma(text: &[u8], at: usize) -> bool
     requires { at ≤ length text.now }
     ensures { IsTrue result ↔ IsPragma text.now at }
@@ -74,7 +74,7 @@ fn is_pragma(text: &[u8], at: usize) -> bool
     begins_pragma(text, at) && !is_word_byte(byte(text, at + 6))
 }
 
-/// Whether a digit or the word `pragma` stands at a place.
+/// Whether a digit or the word `pragma` stands at a position.
 fn is_marker(text: &[u8], at: usize) -> bool
     requires { at ≤ length text.now }
     ensures { IsTrue result ↔ IsMarker text.now at }
@@ -82,7 +82,7 @@ fn is_marker(text: &[u8], at: usize) -> bool
     byte(text, at).is_ascii_digit() || is_pragma(text, at)
 }
 
-/// Where the line that `#` begins at a place ends, if it is a line marker or a pragma.
+/// Where the line that `#` begins at a position ends, if it is a line marker or a pragma.
 pub fn hash_line_end(text: &[u8], from: usize, is_first: bool) -> Option<usize>
     requires here { from < length text.now }
     requires first { IsTrue is_first ↔ IsFirstOnLine text.now from }

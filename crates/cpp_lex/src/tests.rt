@@ -2,6 +2,7 @@
 
 use super::*;
 use std::process::Abort;
+use tx_ints::IntKind;
 
 type Wanted<'a> = (TokKind, u32, u32, u64, &'a [u8]);
 
@@ -103,35 +104,27 @@ fn integers(rt: HostRuntime) {
 
 #[test]
 fn types_of_integers(rt: HostRuntime) {
-    let rows: [(&[u8], u64, Option<IntType>); 16] = [
-        (b"2147483647", 2_147_483_647, Some(IntType::Int)),
-        (b"2147483648", 2_147_483_648, Some(IntType::Long)),
-        (b"0x7fffffff", 0x7fff_ffff, Some(IntType::Int)),
-        (b"0x80000000", 0x8000_0000, Some(IntType::UnsignedInt)),
-        (b"0x100000000", 0x1_0000_0000, Some(IntType::Long)),
+    let rows: [(&[u8], u64, Option<IntKind>); 16] = [
+        (b"2147483647", 2_147_483_647, Some(IntKind::Int)),
+        (b"2147483648", 2_147_483_648, Some(IntKind::Long)),
+        (b"0x7fffffff", 0x7fff_ffff, Some(IntKind::Int)),
+        (b"0x80000000", 0x8000_0000, Some(IntKind::UInt)),
+        (b"0x100000000", 0x1_0000_0000, Some(IntKind::Long)),
         (
             b"0x8000000000000000",
             0x8000_0000_0000_0000,
-            Some(IntType::UnsignedLong),
+            Some(IntKind::ULong),
         ),
         (b"9223372036854775808", 0x8000_0000_0000_0000, None),
-        (b"1u", 1, Some(IntType::UnsignedInt)),
-        (b"4294967296u", 4_294_967_296, Some(IntType::UnsignedLong)),
-        (b"1l", 1, Some(IntType::Long)),
-        (b"01L", 1, Some(IntType::Long)),
-        (
-            b"0xffffffffffffffffL",
-            u64::MAX,
-            Some(IntType::UnsignedLong),
-        ),
-        (b"1ul", 1, Some(IntType::UnsignedLong)),
-        (b"1LL", 1, Some(IntType::LongLong)),
-        (
-            b"0xffffffffffffffffll",
-            u64::MAX,
-            Some(IntType::UnsignedLongLong),
-        ),
-        (b"1uLL", 1, Some(IntType::UnsignedLongLong)),
+        (b"1u", 1, Some(IntKind::UInt)),
+        (b"4294967296u", 4_294_967_296, Some(IntKind::ULong)),
+        (b"1l", 1, Some(IntKind::Long)),
+        (b"01L", 1, Some(IntKind::Long)),
+        (b"0xffffffffffffffffL", u64::MAX, Some(IntKind::ULong)),
+        (b"1ul", 1, Some(IntKind::ULong)),
+        (b"1LL", 1, Some(IntKind::LLong)),
+        (b"0xffffffffffffffffll", u64::MAX, Some(IntKind::ULLong)),
+        (b"1uLL", 1, Some(IntKind::ULLong)),
     ];
     for (text, value, wanted) in rows {
         assert_eq!(rt; int_type(text, value), wanted, "in {text:?}");

@@ -113,7 +113,7 @@ pub fn is_keyword(word: &[u8]) -> bool
     is_among(&KEYWORDS, word)
 }
 
-/// Where the word that begins at a place ends.
+/// Where the word that begins at a position ends.
 pub fn word_end(text: &[u8], from: usize) -> Option<usize>
     requires { from < length text.now }
     ensures { IsLongest (λ to. IsWord text.now from to) result }

@@ -1,4 +1,4 @@
--- Parameters by their places.
+-- Parameters by their indices.
 use Rattle.std.proofs.Common.{◌≡◌, ◌∙◌, ℕ, zero, suc, ◌<◌, length, List, [], ◌∷◌, Option, Some, None, slice_get, map, refl, sym, ap, arith, Bor, MatchOption, IsTrue, ◌↔◌, ◌==◌, ◌-◌, eqb-true, eq-eqb}
 use Rattle.std.specs.Option.{option_map}
 use Rattle.cpp_types.specs.declared.types.Ty.{Ty}

@@ -27,7 +27,7 @@ pub record Hope (classes : List Class) (cands : List Candidate) (args : List Arg
   pub others : (j : ℕ) → j < i → (j ≡ hope → ⊥) → IsBest classes cands args j → ⊥
 
 asymmetric : (classes : List Class) (args : List Argument) (p q : Candidate) → IsBetter classes args p q → IsBetter classes args q p → ⊥
-asymmetric classes args p q a b = let h : better_at classes args p q a.place ≡ false = b.no_worse a.place a.within in let k = a.some_better in absurd cc
+asymmetric classes args p q a b = let h : better_at classes args p q a.index ≡ false = b.no_worse a.index a.within in let k = a.some_better in absurd cc
 
 same_cand : (cands : List Candidate) (i : ℕ) (p q : Candidate) → slice_get cands i ≡ Some p → slice_get cands i ≡ Some q → p ≡ q
 same_cand cands i p q e f = cc

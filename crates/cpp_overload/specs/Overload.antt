@@ -66,7 +66,7 @@ converted classes this i (Some a) (Some t) = conversion_of classes a.typ (catego
 converted classes this i (Some a) None = None
 converted classes this i None t = None
 
--- the conversion of an argument to the parameter at its place
+-- the conversion of an argument to the parameter at its index
 abbrev pub conversion_at : List Class → List Argument → Candidate → ℕ → Option Conversion
 conversion_at classes args c i = converted classes c.this i (slice_get args i) (typ_at (parameters_of c) i)
 
@@ -86,9 +86,9 @@ pub record IsViable (classes : List Class) (args : List Argument) (p : Candidate
 -- no argument's conversion is worse, and one is better
 pub record IsBetter (classes : List Class) (args : List Argument) (p q : Candidate) : Type 0 where
   pub no_worse : (i : ℕ) → i < length args → better_at classes args q p i ≡ false
-  pub place : ℕ
-  pub within : place < length args
-  pub some_better : better_at classes args p q place ≡ true
+  pub index : ℕ
+  pub within : index < length args
+  pub some_better : better_at classes args p q index ≡ true
 
 -- The answers of a call
 
@@ -121,12 +121,12 @@ pub record IsUnbeaten (classes : List Class) (cands : List Candidate) (args : Li
   pub unbeaten : IsBetter classes args p candidate → ⊥
   pub lowest : (k : ℕ) (q : Candidate) → k < j → (k ≡ i → ⊥) → IsViableAt classes cands args k q → IsBetter classes args p q
 
--- the lowest viable candidate is in this place
+-- the lowest viable candidate has this index
 pub record HasFirst (classes : List Class) (cands : List Candidate) (args : List Argument) (i : ℕ) : Type 0 where
   pub candidate : Candidate
   pub first : IsFirst classes cands args i candidate
 
--- of the candidates below `end`, only the viable one in place `i` may be the best
+-- of the candidates below `end`, only the viable one of index `i` may be the best
 pub record IsOnlyHope (classes : List Class) (cands : List Candidate) (args : List Argument) (end i : ℕ) : Type 0 where
   pub candidate : Candidate
   pub here : IsViableAt classes cands args i candidate

@@ -8,7 +8,7 @@ ghost use Rattle.cpp_overload.specs.Overload.{Candidate, candidate_of, argument_
 use crate::calls::{Arg, Cand, NoBest};
 use cpp_types::{Cat, ClassRec, Conversion, Ty, better, conversion_between};
 
-// A type of a list by its place.
+// A type of a list by its index.
 fn type_at(types: &[Ty], i: usize) -> Option<&Ty>
     ensures { MatchOption result (slice_get (map typ_of types.now) i ≡ None) (λ t. slice_get (map typ_of types.now) i ≡ Some (typ_of t.now)) }
 {
@@ -58,7 +58,7 @@ fn category(cand: &Cand, i: usize, cat: Cat) -> Cat
     }
 }
 
-// The conversion of an argument to the parameter at its place.
+// The conversion of an argument to the parameter at its index.
 fn conversion(args: &[Arg], cand: &Cand, i: usize, classes: &[ClassRec]) -> Option<Conversion>
     ensures { result ≡ conversion_at (classes_of classes.now) (map argument_of args.now) (candidate_of cand.now) i }
 {
@@ -124,7 +124,7 @@ fn is_passed(args: &[Arg], p: &Cand, q: &Cand, is_itself: bool, classes: &[Class
     is_itself || !is_viable(args, q, classes) || is_better(args, p, q, classes)
 }
 
-// The candidate in a place.
+// The candidate of an index.
 fn cand_at(cands: &[Cand], i: u32) -> &Cand
     requires { i < length cands.now }
     ensures { slice_get (map candidate_of cands.now) i ≡ Some (candidate_of result.now) }
@@ -132,7 +132,7 @@ fn cand_at(cands: &[Cand], i: u32) -> &Cand
     &cands[i as usize]
 }
 
-// The lowest viable candidate, other than the candidate `p` in place `i`, that `p` is not better
+// The lowest viable candidate, other than the candidate `p` of index `i`, that `p` is not better
 // than.
 fn lowest_unbeaten(
     cands: &[Cand],
@@ -165,7 +165,7 @@ fn lowest_viable(cands: &[Cand], args: &[Arg], classes: &[ClassRec]) -> Option<u
     None
 }
 
-// The place of a viable candidate that alone may be better than all others. Each place that it
+// The index of a viable candidate that alone may be better than all others. Each index that it
 // leaves was not better than one that follows.
 fn only_hope(cands: &[Cand], args: &[Arg], first: u32, classes: &[ClassRec]) -> u32
     requires few { length cands.now < 2 ^ 32 }
@@ -183,7 +183,7 @@ fn only_hope(cands: &[Cand], args: &[Arg], first: u32, classes: &[ClassRec]) -> 
     hope
 }
 
-/// The place of the candidate that a call means: the one that is better than all others that
+/// The index of the candidate that a call means: the one that is better than all others that
 /// take the arguments.
 ///
 /// One candidate is better than another where no argument's conversion is worse and one is

@@ -1,8 +1,8 @@
 -- The alternatives of declarations and members, each by a name of its own.
-use Rattle.cpp_ast.specs.declared.kinds.NodeKind.TheVariants.{DeclaratorId, ParameterDeclarationClause, VirtSpecifier, EqualInitializer, DeclSpecifier, AliasDeclaration, ClassDeclaration, ClassSpecifier, BaseSpecifier, AccessSpecifier, MemberSpecification, EnumSpecifier, LinkageSpecification, LinkageBlock, SimpleDeclaration, FunctionDefinition, ConstructorDeclaration, ConstructorDefinition, DestructorDeclaration, DestructorDefinition, EmptyDeclaration, AccessLabel, MemberDeclaration, PureSpecifier, BaseInitializer, MemberInitializer, QualifiedDeclaratorId, DestructorId, QualifiedDestructorId, IntegerLiteral}
-use Rattle.cpp_syntax.specs.Symbols.{is_name, is_type_name, is_zero, is_string, is_virt, is_access, is_specifier, final_word, using_word, enum_word, extern_word, inline_word, virtual_word, explicit_word, open_paren, close_paren, open_brace, close_brace, semicolon, comma, colon, colon_colon, tilde, equal}
+use Rattle.cpp_ast.specs.declared.kinds.NodeKind.TheVariants.{ParameterDeclarationClause, VirtSpecifier, DeclSpecifier, AliasDeclaration, ClassDeclaration, ClassSpecifier, BaseSpecifier, AccessSpecifier, MemberSpecification, EnumSpecifier, LinkageSpecification, LinkageBlock, SimpleDeclaration, FunctionDefinition, ConstructorDeclaration, ConstructorDefinition, DestructorDeclaration, DestructorDefinition, EmptyDeclaration, AccessLabel, MemberDeclaration, PureSpecifier, BaseInitializer, MemberInitializer, QualifiedDeclaratorId, DestructorId, QualifiedDestructorId, IntegerLiteral}
+use Rattle.cpp_syntax.specs.Terminals.{is_name, is_type_name, is_zero, is_string, is_access, is_specifier, final_word, using_word, enum_word, extern_word, inline_word, virtual_word, explicit_word, open_paren, close_paren, open_brace, close_brace, semicolon, comma, colon, colon_colon, tilde, equal}
 use Rattle.cpp_syntax.specs.Types.{is_not_zero}
-use Rattle.cpp_syntax.specs.Rules.{whole, named, Form, type_specifier_seq, type_id, declarator, function_qualifiers, expression_list, assignment_expression, conditional_expression, init_declarator, compound_statement, enumerator_definition, declaration_head, simple_declaration, constructor_declarator, destructor_declarator, member_initializer, member_declarator, initialized_member, listed_member, member_declaration, qualified, plain, at_token, at_name, Rule, nothing, word, mark, mark_next, ◌·◌, ◌∣◌, many, form, node_at, where_, optional, some, node}
+use Rattle.cpp_syntax.specs.Rules.{whole, named, type_specifier_seq, type_id, declarator, function_qualifiers, expression_list, assignment_expression, conditional_expression, init_declarator, compound_statement, enumerator_definition, declaration_head, simple_declaration, constructor_declarator, destructor_declarator, member_declarator, initialized_member, listed_member, member_declaration, qualified, plain, at_token, at_name, Rule, nothing, word, mark, mark_next, ◌·◌, many, form, node_at, where_, optional, some, node}
 use Rattle.cpp_syntax.specs.Grammar.{list, leaf, type_name, attribute, class_key, virt_specifiers, braced_list, member_initializers}
 
 -- parts of a declaration
@@ -67,10 +67,14 @@ abbrev pub function_definition : Rule
 function_definition = node_at at_name FunctionDefinition (mark_next · form declaration_head · named_declarator · form compound_statement)
 
 abbrev pub constructor_definition : Rule
-constructor_definition = node_at at_name ConstructorDefinition (mark_next · optional_attribute · optional_inline · form (constructor_declarator qualified) · constructor_body)
+constructor_definition =
+    node_at at_name ConstructorDefinition (mark_next · optional_attribute · optional_inline · form (constructor_declarator qualified) ·
+    constructor_body)
 
 abbrev pub destructor_definition : Rule
-destructor_definition = node_at at_name DestructorDefinition (mark_next · optional_attribute · optional_inline · form (destructor_declarator qualified) · form compound_statement)
+destructor_definition =
+    node_at at_name DestructorDefinition (mark_next · optional_attribute · optional_inline · form (destructor_declarator qualified) · form
+    compound_statement)
 
 -- declarations
 
@@ -153,16 +157,22 @@ abbrev pub member_function : Rule
 member_function = member_function_alone · optional (word semicolon)
 
 abbrev pub constructor_declared : Rule
-constructor_declared = node_at at_name ConstructorDeclaration (mark_next · optional_attribute · optional_explicit · form (constructor_declarator plain)) · word semicolon
+constructor_declared =
+    node_at at_name ConstructorDeclaration (mark_next · optional_attribute · optional_explicit · form (constructor_declarator plain)) · word semicolon
 
 abbrev pub constructor_defined : Rule
-constructor_defined = node_at at_name ConstructorDefinition (mark_next · optional_attribute · optional_explicit · form (constructor_declarator plain) · constructor_body) · optional (word semicolon)
+constructor_defined =
+    node_at at_name ConstructorDefinition (mark_next · optional_attribute · optional_explicit · form (constructor_declarator plain) ·
+    constructor_body) · optional (word semicolon)
 
 abbrev pub destructor_declared : Rule
-destructor_declared = node_at at_name DestructorDeclaration (mark_next · optional_virtual · form (destructor_declarator plain) · virt_specifiers) · word semicolon
+destructor_declared =
+    node_at at_name DestructorDeclaration (mark_next · optional_virtual · form (destructor_declarator plain) · virt_specifiers) · word semicolon
 
 abbrev pub destructor_defined : Rule
-destructor_defined = node_at at_name DestructorDefinition (mark_next · optional_virtual · form (destructor_declarator plain) · virt_specifiers · form compound_statement) · optional (word semicolon)
+destructor_defined =
+    node_at at_name DestructorDefinition (mark_next · optional_virtual · form (destructor_declarator plain) · virt_specifiers · form
+    compound_statement) · optional (word semicolon)
 
 abbrev pub pure_specifier : Rule
 pure_specifier = node PureSpecifier (mark equal · leaf IntegerLiteral is_zero)

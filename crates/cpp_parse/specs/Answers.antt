@@ -2,14 +2,14 @@
 use Rattle.std.specs.Prelude.{◌≡◌, ℕ, ◌+◌, ◌≤◌, Bool, true, false, length, Option, Some, None, Result, Ok, Err}
 use Rattle.std.specs.declared.alloc.AllocError.{AllocError}
 use Rattle.cpp_ast.specs.declared.kinds.NodeKind.TheVariants.{Attribute}
-use Rattle.cpp_syntax.specs.Source.{Source, place_at, symbol_at}
-use Rattle.cpp_syntax.specs.Symbols.{is_type_name, is_string, extern_word, colon_colon, close_paren}
+use Rattle.cpp_syntax.specs.Source.{Source, position_at, terminal_at}
+use Rattle.cpp_syntax.specs.Terminals.{is_type_name, is_string, extern_word, colon_colon, close_paren}
 use Rattle.cpp_syntax.specs.Rules.{Rule, ◌·◌, ◌∣◌, word, mark, form, constructor_declarator, destructor_declarator, qualified, whole, parameter_declaration_clause, function_qualifiers}
 use Rattle.cpp_syntax.specs.Grammar.{attribute}
-use Rattle.cpp_syntax.specs.Texts.{Read, no_read, reads_node, kept_apart}
-use Rattle.cpp_syntax.specs.Looks.{sees}
-use Rattle.cpp_syntax.specs.Longest.{Long}
-use Rattle.cpp_syntax.specs.View.{Building}
+use Rattle.cpp_syntax.specs.Derivations.{Read, no_read, reads_node, kept_apart}
+use Rattle.cpp_syntax.specs.Lookahead.{lookahead}
+use Rattle.cpp_syntax.specs.Longest.{LongestMatch}
+use Rattle.cpp_syntax.specs.View.{BuilderState}
 use Rattle.cpp_syntax.specs.Parsed.{Leaves, NoneOf}
 use Rattle.cpp_parse.specs.Alternatives.{object_declaration, function_definition, constructor_definition, destructor_definition, single, initialized, listed, with_function_body, named_declarator, single_declaration, initialized_declaration, listed_declaration, member_function, constructor_declared, constructor_defined, destructor_declared, destructor_defined}
 use Rattle.cpp_parse.specs.declared.functions.Definition.{Definition}
@@ -17,65 +17,75 @@ use Rattle.cpp_parse.specs.declared.functions.Definition.TheVariants as definiti
 use Rattle.cpp_parse.specs.declared.members.MemberShape.{MemberShape}
 use Rattle.cpp_parse.specs.declared.members.MemberShape.TheVariants as shape
 
--- The longest text of a rule stands between two places, whatever it reads.
+-- The longest text of a rule stands between two indices, whatever it reads.
 pub record Reaches (source : Source) (p : Rule) (from next : ℕ) : Type 0 where
   pub marked : Option ℕ
   pub got : Read
-  pub long : Long (sees source) kept_apart source p no_read from next marked got
-  pub inside : next ≤ length source.symbols
+  pub long : LongestMatch (lookahead source) kept_apart source p no_read from next marked got
+  pub inside : next ≤ length source.terminals
 
--- An attribute stands between two places.
+-- An attribute stands between two indices.
 pub record IsAttribute (source : Source) (at next : ℕ) : Type 0 where
-  pub long : Long (sees source) kept_apart source attribute no_read at next None (reads_node Attribute (place_at source at) (Some (at + 2)) no_read)
+  pub long : LongestMatch (lookahead source) kept_apart source attribute no_read at next None
+      (reads_node Attribute (position_at source at) (Some (at + 2)) no_read)
   pub end : next ≡ at + 5
-  pub inside : next ≤ length source.symbols
+  pub inside : next ≤ length source.terminals
 
--- An attribute that stands at a place, or that none does.
+-- An attribute that stands at an index, or that none does.
 abbrev pub AttributeFound : Source → ℕ → Option ℕ → Type 0
 AttributeFound source at (Some next) = IsAttribute source at next
 AttributeFound source at None = NoneOf source attribute at
 
--- What a declarator at a place can be, behind what may stand before it: that of no constructor and no destructor, or
+-- What a declarator at an index can be, behind what may stand before it: that of no constructor and no destructor, or
 -- that of one, since T:: stands there.
 abbrev pub NamedDefinition : Source → ℕ → Definition → Type 0
-NamedDefinition source at definition.Ordinary = NoneOf source (form (constructor_declarator qualified)) at × NoneOf source (form (destructor_declarator qualified)) at
-NamedDefinition source at definition.OfConstructor = (is_type_name (symbol_at source at) ≡ true) × (colon_colon (symbol_at source (at + 1)) ≡ true) × NoneOf source (form (destructor_declarator qualified)) at
-NamedDefinition source at definition.OfDestructor = (is_type_name (symbol_at source at) ≡ true) × (colon_colon (symbol_at source (at + 1)) ≡ true) × NoneOf source (form (constructor_declarator qualified)) at
+NamedDefinition source at definition.Ordinary =
+    NoneOf source (form (constructor_declarator qualified)) at × NoneOf source (form (destructor_declarator qualified)) at
+NamedDefinition source at definition.OfConstructor =
+    (is_type_name (terminal_at source at) ≡ true) × (colon_colon (terminal_at source (at + 1)) ≡ true) × NoneOf source
+    (form (destructor_declarator qualified)) at
+NamedDefinition source at definition.OfDestructor =
+    (is_type_name (terminal_at source at) ≡ true) × (colon_colon (terminal_at source (at + 1)) ≡ true) × NoneOf source
+    (form (constructor_declarator qualified)) at
 
--- What a simple declaration at a place can be, since it is none of the others.
+-- What a simple declaration at an index can be, since it is none of the others.
 abbrev pub OneDefinition : Source → ℕ → Definition → Type 0
 OneDefinition source at definition.Ordinary = NoneOf source constructor_definition at × NoneOf source destructor_definition at
-OneDefinition source at definition.OfConstructor = NoneOf source object_declaration at × NoneOf source function_definition at × NoneOf source destructor_definition at
-OneDefinition source at definition.OfDestructor = NoneOf source object_declaration at × NoneOf source function_definition at × NoneOf source constructor_definition at
+OneDefinition source at definition.OfConstructor =
+    NoneOf source object_declaration at × NoneOf source function_definition at × NoneOf source destructor_definition at
+OneDefinition source at definition.OfDestructor =
+    NoneOf source object_declaration at × NoneOf source function_definition at × NoneOf source constructor_definition at
 
--- What a member can be whose type stands at a place, since it is none of the others.
+-- What a member can be whose type stands at an index, since it is none of the others.
 abbrev pub OneShape : Source → ℕ → MemberShape → Type 0
 OneShape source at shape.Function = NoneOf source single at × NoneOf source initialized at × NoneOf source listed at
 OneShape source at shape.Single = NoneOf source initialized at × NoneOf source listed at × NoneOf source with_function_body at
 OneShape source at shape.Initialized = NoneOf source single at × NoneOf source listed at × NoneOf source with_function_body at
 OneShape source at shape.Listed = NoneOf source single at × NoneOf source initialized at × NoneOf source with_function_body at
 
-abbrev pub ShapeFound : Source → ℕ → Building → Building → Result MemberShape AllocError → Type 0
+abbrev pub ShapeFound : Source → ℕ → BuilderState → BuilderState → Result MemberShape AllocError → Type 0
 ShapeFound source at old new (Ok s) = Leaves old new × OneShape source at s
 ShapeFound source at old new (Err e) = Leaves old new
 
--- Whether extern and a string stand at a place, or not.
+-- Whether extern and a string stand at an index, or not.
 abbrev pub LinkageSeen : Source → ℕ → Bool → Type 0
-LinkageSeen source at true = (extern_word (symbol_at source at) ≡ true) × (is_string (symbol_at source (at + 1)) ≡ true)
+LinkageSeen source at true = (extern_word (terminal_at source at) ≡ true) × (is_string (terminal_at source (at + 1)) ≡ true)
 LinkageSeen source at false = NoneOf source (word extern_word · mark is_string) at
 
--- Whether parameters, or none with ), may stand at a place and no declarator that names something, or the other way round.
+-- Whether parameters, or none with ), may stand at an index and no declarator that names something, or the other way round.
 abbrev pub ParametersSeen : Source → ℕ → Bool → Type 0
 ParametersSeen source at true = NoneOf source named_declarator at
 ParametersSeen source at false = NoneOf source (form (parameter_declaration_clause whole) · word close_paren · form function_qualifiers) at
 
--- Whether no member at a place begins with its type, since it can be a constructor, or whether it can be none.
+-- Whether no member at an index begins with its type, since it can be a constructor, or whether it can be none.
 abbrev pub IsConstructor : Source → ℕ → Bool → Type 0
 IsConstructor source at true = NoneOf source (single_declaration ∣ initialized_declaration ∣ listed_declaration ∣ member_function) at
 IsConstructor source at false = NoneOf source (constructor_declared ∣ constructor_defined) at
 
--- Whether a member at a place begins with no type and is no constructor, since it can be a destructor, or whether it can
+-- Whether a member at an index begins with no type and is no constructor, since it can be a destructor, or whether it can
 -- be none.
 abbrev pub IsDestructor : Source → ℕ → Bool → Type 0
-IsDestructor source at true = NoneOf source (single_declaration ∣ initialized_declaration ∣ listed_declaration ∣ member_function ∣ constructor_declared ∣ constructor_defined) at
+IsDestructor source at true =
+    NoneOf source (single_declaration ∣ initialized_declaration ∣ listed_declaration ∣ member_function ∣ constructor_declared ∣ constructor_defined)
+    at
 IsDestructor source at false = NoneOf source (destructor_declared ∣ destructor_defined) at

@@ -2,8 +2,8 @@
 use Rattle.std.specs.Prelude.{Bool}
 use Rattle.cpp_ast.specs.declared.kinds.NodeKind.{NodeKind}
 use Rattle.cpp_ast.specs.declared.kinds.NodeKind.TheVariants.{ExpressionStatement, IfStatement, WhileStatement, DoStatement, ForStatement, SwitchStatement, CaseStatement, DefaultStatement, ReturnStatement, TryBlock, Ellipsis}
-use Rattle.cpp_syntax.specs.declared.symbol.Symbol.{Symbol}
-use Rattle.cpp_syntax.specs.Symbols.{if_word, else_word, while_word, do_word, for_word, switch_word, case_word, default_word, return_word, try_word, catch_word, open_paren, close_paren, semicolon, colon, ellipsis}
+use Rattle.cpp_syntax.specs.declared.terminal.Terminal.{Terminal}
+use Rattle.cpp_syntax.specs.Terminals.{if_word, else_word, while_word, do_word, for_word, switch_word, case_word, default_word, return_word, try_word, catch_word, open_paren, close_paren, semicolon, colon, ellipsis}
 use Rattle.cpp_syntax.specs.Rules.{whole, expression, conditional_expression, parameter_declaration, block_declaration, compound_statement, statement, for_init_statement, handler, a_declaration, Rule, word, mark, ◌·◌, ◌∣◌, form, node, before_no, if_, unless, optional, some}
 use Rattle.cpp_syntax.specs.Grammar.{condition, optional_expression, leaf}
 
@@ -59,8 +59,8 @@ abbrev pub exception_declaration : Rule
 exception_declaration = form (parameter_declaration whole) ∣ leaf Ellipsis ellipsis
 
 -- a word alone, and a word with statements in braces
-abbrev pub jump : NodeKind → (Symbol → Bool) → Rule
+abbrev pub jump : NodeKind → (Terminal → Bool) → Rule
 jump kind test = node kind (mark test · word semicolon)
 
-abbrev pub marked_block : NodeKind → (Symbol → Bool) → Rule
+abbrev pub marked_block : NodeKind → (Terminal → Bool) → Rule
 marked_block kind test = node kind (mark test · form compound_statement)

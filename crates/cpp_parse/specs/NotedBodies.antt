@@ -17,7 +17,7 @@ lams_noted bodies = map (λ (body : LamBody). body.lam) bodies
 abbrev pub roots_noted : List LamBody → List NodeId
 roots_noted bodies = map (λ (body : LamBody). body.body) bodies
 
--- 1 for a place from one on, before another
+-- 1 for an index from one on, before another
 abbrev pub one_from : ℕ → ℕ → ℕ → ℕ
 one_from from to id = if nat_le from id && nat_lt id to then 1 else 0
 
@@ -25,11 +25,11 @@ abbrev pub is_lambda_node : Option Node → Bool
 is_lambda_node None = false
 is_lambda_node (Some n) = is_lambda n.kind
 
--- a lambda stands at a place
+-- a lambda stands at an index
 abbrev pub is_lambda_at : List Node → ℕ → Bool
 is_lambda_at nodes id = is_lambda_node (slice_get nodes id)
 
--- 1 for the place of a lambda from one on, before another
+-- 1 for the index of a lambda from one on, before another
 abbrev pub one_lambda : List Node → ℕ → ℕ → ℕ → ℕ
 one_lambda nodes from to id = if is_lambda_at nodes id then one_from from to id else 0
 
@@ -50,11 +50,12 @@ abbrev pub BodiesShow : List LamBody → List Node → List ℕ → List Tree �
 BodiesShow bodies nodes [] [] = Unit {0}
 BodiesShow bodies nodes [] (tree ∷ trees) = ⊥
 BodiesShow bodies nodes (lam ∷ lams) [] = ⊥
-BodiesShow bodies nodes (lam ∷ lams) (tree ∷ trees) = (root : NodeId) × Among (noted_for lam root) bodies × ShowsWith bodies nodes root.0 tree × BodiesShow bodies nodes lams trees
+BodiesShow bodies nodes (lam ∷ lams) (tree ∷ trees) =
+    (root : NodeId) × Among (noted_for lam root) bodies × ShowsWith bodies nodes root.0 tree × BodiesShow bodies nodes lams trees
 
 -- The table of bodies by nodes.
 
--- the lambdas and the bodies stand below a place
+-- the lambdas and the bodies stand below an index
 abbrev pub AreWithin : ℕ → List LamBody → Type 0
 AreWithin most bodies = (k : ℕ) (body : LamBody) → slice_get bodies k ≡ Some body → (body.lam.0 < most) × (body.body.0 < most)
 
@@ -62,7 +63,7 @@ AreWithin most bodies = (k : ℕ) (body : LamBody) → slice_get bodies k ≡ So
 pub record IsOnceEach (bodies : List LamBody) : Type 0 where
   pub each : (id : ℕ) → times_in id (lams_noted bodies) ≤ 1
 
--- the bodies in a table stand below a place
+-- the bodies in a table stand below an index
 abbrev pub HaveNodes : ℕ → List (Option NodeId) → Type 0
 HaveNodes most noted = (k : ℕ) (body : NodeId) → slice_get noted k ≡ Some (Some body) → body.0 < most
 

@@ -7,12 +7,12 @@ use Rattle.cpp_ast.specs.declared.arena.NodeId.{NodeId}
 use Rattle.cpp_ast.specs.declared.units.LamBody.{LamBody}
 use Rattle.cpp_ast.specs.Trees.{Trees, Extends, ShowsAllWith}
 use Rattle.cpp_ast.specs.Units.{times_in, times_a_kid}
-use Rattle.cpp_syntax.specs.declared.places.OpenBody.{OpenBody}
+use Rattle.cpp_syntax.specs.declared.positions.OpenBody.{OpenBody}
 use Rattle.cpp_syntax.specs.Source.{Source}
-use Rattle.cpp_syntax.specs.Texts.{Read}
-use Rattle.cpp_syntax.specs.Looks.{IsUnit}
+use Rattle.cpp_syntax.specs.Derivations.{Read}
+use Rattle.cpp_syntax.specs.Lookahead.{IsUnit}
 use Rattle.cpp_syntax.specs.WithBodies.{WholeUnit}
-use Rattle.cpp_syntax.specs.View.{Shown, body_of, trees_at}
+use Rattle.cpp_syntax.specs.View.{BuiltTrees, body_of, trees_at}
 use Rattle.cpp_parse.specs.declared.parse.Declarations.{Declarations}
 use Rattle.cpp_parse.specs.declared.parse.Declarations.TheVariants as declarations
 use Rattle.cpp_parse.specs.declared.parse.Whole.{Whole}
@@ -27,17 +27,17 @@ use Rattle.cpp_parse.specs.Units.{IsUnitRead, IsUnitTooDeep, IsNoUnit}
 -- The tokens are no unit.
 pub record HasNoUnit (source : Source) (token : ℕ) : Type 0 where
   pub nothing : (decls : Trees) → IsUnit source decls → ⊥
-  pub inside : token ≤ length source.symbols
+  pub inside : token ≤ length source.terminals
 
 -- All tokens were read as declarations, without the bodies of their lambdas.
 pub record AreDeclarations (source : Source) (old new : List Node) (decls : List NodeId) (inner : List OpenBody) : Type 0 where
   pub got : Read
   pub whole : WholeUnit source got
   pub grown : Extends old new
-  pub shown : Shown (length old) new decls inner
+  pub shown : BuiltTrees (length old) new decls inner
   pub trees : trees_at new decls ≡ got.trees
   pub bodies : map (body_of new) inner ≡ got.bodies
-  pub inside : AreInside (length source.symbols) inner
+  pub inside : AreInside (length source.terminals) inner
 
 abbrev pub ReadsDeclarations : Source → List Node → List Node → Result Declarations AllocError → Type 0
 ReadsDeclarations source old new (Ok (declarations.Read decls bodies)) = AreDeclarations source old new decls.items bodies.items

@@ -4,16 +4,17 @@ use Rattle.cpp_lex.specs.Tokens.{Lexeme}
 use Rattle.cpp_ast.specs.declared.units.Unit.{Unit as UnitRecord}
 use Rattle.cpp_ast.specs.Trees.{Trees, unit_depth}
 use Rattle.cpp_ast.specs.Units.{ShowsUnit}
-use Rattle.cpp_syntax.specs.Source.{place_at}
+use Rattle.cpp_syntax.specs.declared.limits.TheConstants.{MAX_DEPTH}
+use Rattle.cpp_syntax.specs.Source.{position_at}
 use Rattle.cpp_syntax.specs.Classes.{source_of}
-use Rattle.cpp_syntax.specs.Looks.{IsUnit}
+use Rattle.cpp_syntax.specs.Lookahead.{IsUnit}
 use Rattle.cpp_parse_expr.specs.Depths.{deep_kid}
 use Rattle.cpp_parse_expr.specs.declared.parse.ParseFault.{ParseFault}
 use Rattle.cpp_parse_expr.specs.declared.parse.ParseFault.TheVariants as fault
 
 -- how deep a unit may nest
 abbrev pub deepest_allowed : ℕ
-deepest_allowed = 200
+deepest_allowed = MAX_DEPTH
 
 -- The one unit of the tokens was read, and it does not nest too deep.
 pub record IsUnitRead (number : ℕ) (tokens : List Lexeme) (unit : UnitRecord) : Type 0 where
@@ -23,13 +24,13 @@ pub record IsUnitRead (number : ℕ) (tokens : List Lexeme) (unit : UnitRecord) 
   pub shallow : unit_depth decls ≤ deepest_allowed
   pub shows : ShowsUnit unit number tokens decls
 
--- The one unit of the tokens nests too deep: the token is the place of its first node that does.
+-- The one unit of the tokens nests too deep: the token is the index of its first node that does.
 pub record IsUnitTooDeep (number : ℕ) (tokens : List Lexeme) (token : ℕ) : Type 0 where
   pub decls : Trees
   pub derives : IsUnit (source_of number tokens) decls
   pub only : (other : Trees) → IsUnit (source_of number tokens) other → other ≡ decls
   pub deep : deepest_allowed < unit_depth decls
-  pub place : deep_kid deepest_allowed 1 decls ≡ Some (place_at (source_of number tokens) token)
+  pub position : deep_kid deepest_allowed 1 decls ≡ Some (position_at (source_of number tokens) token)
   pub inside : token ≤ length tokens
 
 -- The tokens are no unit.

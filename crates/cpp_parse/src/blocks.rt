@@ -1,19 +1,20 @@
 //! Blocks that handle exceptions, C++14 clause 15, and transactional ones, ISO/IEC TS 19841:2015.
 
 ghost use Rattle.std.specs.Prelude.{◌≡◌, ◌+◌, ◌≤◌, Bool, true, false, length, Some, None};
-ghost use Rattle.cpp_syntax.specs.declared.symbol.Symbol.{Symbol};
-ghost use Rattle.cpp_syntax.specs.Source.{symbol_at};
-ghost use Rattle.cpp_syntax.specs.Symbols.{try_word};
+ghost use Rattle.cpp_syntax.specs.declared.terminal.Terminal.{Terminal};
+ghost use Rattle.cpp_syntax.specs.Source.{terminal_at};
+ghost use Rattle.cpp_syntax.specs.Terminals.{try_word};
 ghost use Rattle.cpp_syntax.specs.Rules.{form, some, handler};
-ghost use Rattle.cpp_syntax.specs.Parsed.{ParsedRule};
+ghost use Rattle.cpp_syntax.specs.Parsed.{ParsesLongest};
 ghost use Rattle.cpp_syntax.specs.View.{is_lambda};
 ghost use Rattle.cpp_parse.specs.Lines.{marked_block, try_block, exception_declaration};
+ghost use Rattle.cpp_syntax.specs.declared.limits.TheConstants.{MAX_TOKENS};
 
 use crate::statements::compound_statement;
 use cpp_ast::NodeKind;
 use cpp_parse_expr::declarators::parameter_declaration;
 use cpp_syntax::read::{leaf, node};
-use cpp_syntax::{Builder, Symbol, TypeNames};
+use cpp_syntax::{Builder, Terminal, TypeNames};
 use std::alloc::AllocError;
 
 /// A word before statements in braces, as `synchronized` is.
@@ -22,17 +23,17 @@ pub fn marked_block(
     text: &TypeNames,
     at: usize,
     kind: NodeKind,
-    room: u32,
+    depth_left: u32,
     out: &mut Builder,
 ) -> Result<Option<usize>, AllocError>
-    requires here { at ≤ length text.now.symbols }
-    requires inside { at + 1 ≤ length text.now.symbols }
-    requires few { length text.now.symbols ≤ 1048576 }
+    requires here { at ≤ length text.now.terminals }
+    requires inside { at + 1 ≤ length text.now.terminals }
+    requires few { length text.now.terminals ≤ MAX_TOKENS }
     requires kind { is_lambda kind ≡ false }
-    ensures { (word : Symbol → Bool) → word (symbol_at text.now at) ≡ true → ParsedRule text.now (marked_block kind word) at None out.old out.new result }
+    ensures { (word : Terminal → Bool) → word (terminal_at text.now at) ≡ true → ParsesLongest text.now (marked_block kind word) at None out.old out.new result }
 {
     let start = out.checkpoint();
-    let Some(next) = compound_statement(text, at + 1, room, out)? else {
+    let Some(next) = compound_statement(text, at + 1, depth_left, out)? else {
         return Ok(None);
     };
     node(text, at, kind, Some(at as u32), start, out)?;
@@ -44,22 +45,22 @@ pub fn marked_block(
 pub fn try_block(
     text: &TypeNames,
     at: usize,
-    room: u32,
+    depth_left: u32,
     out: &mut Builder,
 ) -> Result<Option<usize>, AllocError>
-    requires here { at ≤ length text.now.symbols }
-    requires begins { try_word (symbol_at text.now at) ≡ true }
-    requires few { length text.now.symbols ≤ 1048576 }
-    ensures { ParsedRule text.now try_block at None out.old out.new result }
+    requires here { at ≤ length text.now.terminals }
+    requires begins { try_word (terminal_at text.now at) ≡ true }
+    requires few { length text.now.terminals ≤ MAX_TOKENS }
+    ensures { ParsesLongest text.now try_block at None out.old out.new result }
 {
     let start = out.checkpoint();
-    let Some(behind) = compound_statement(text, at + 1, room, out)? else {
+    let Some(behind) = compound_statement(text, at + 1, depth_left, out)? else {
         return Ok(None);
     };
-    let Some(next) = handlers(text, behind, room, out)? else {
+    let Some(next) = handlers(text, behind, depth_left, out)? else {
         return Ok(None);
     };
-    if text.is_at(next, Symbol::Catch) {
+    if text.is_at(next, Terminal::Catch) {
         return Ok(None);
     }
     node(text, at, NodeKind::TryBlock, Some(at as u32), start, out)?;
@@ -71,19 +72,19 @@ pub fn try_block(
 fn handlers(
     text: &TypeNames,
     at: usize,
-    room: u32,
+    depth_left: u32,
     out: &mut Builder,
 ) -> Result<Option<usize>, AllocError>
-    requires here { at ≤ length text.now.symbols }
-    ensures { ParsedRule text.now (some (form handler)) at None out.old out.new result }
+    requires here { at ≤ length text.now.terminals }
+    ensures { ParsesLongest text.now (some (form handler)) at None out.old out.new result }
 {
-    let Some(first) = handler(text, at, room, out)? else {
+    let Some(first) = handler(text, at, depth_left, out)? else {
         return Ok(None);
     };
     let mut next = first;
-    'handlers: while text.is_at(next, Symbol::Catch) {
+    'handlers: while text.is_at(next, Terminal::Catch) {
         let mark = out.checkpoint();
-        let Some(behind) = handler(text, next, room, out)? else {
+        let Some(behind) = handler(text, next, depth_left, out)? else {
             out.cut(mark);
             return Ok(Some(next));
         };
@@ -97,29 +98,29 @@ fn handlers(
 fn handler(
     text: &TypeNames,
     at: usize,
-    room: u32,
+    depth_left: u32,
     out: &mut Builder,
 ) -> Result<Option<usize>, AllocError>
-    requires here { at ≤ length text.now.symbols }
-    ensures { ParsedRule text.now (form handler) at None out.old out.new result }
+    requires here { at ≤ length text.now.terminals }
+    ensures { ParsesLongest text.now (form handler) at None out.old out.new result }
 {
-    if !text.is_at(at, Symbol::Catch) {
-        out.refuse(at);
+    if !text.is_at(at, Terminal::Catch) {
+        out.expected_at(at);
         return Ok(None);
     }
-    if !text.is_at(at + 1, Symbol::OpenParen) {
-        out.refuse(at + 1);
+    if !text.is_at(at + 1, Terminal::OpenParen) {
+        out.expected_at(at + 1);
         return Ok(None);
     }
     let start = out.checkpoint();
-    let Some(close) = exception_declaration(text, at + 2, room, out)? else {
+    let Some(close) = exception_declaration(text, at + 2, depth_left, out)? else {
         return Ok(None);
     };
-    if !text.is_at(close, Symbol::CloseParen) {
-        out.refuse(close);
+    if !text.is_at(close, Terminal::CloseParen) {
+        out.expected_at(close);
         return Ok(None);
     }
-    let Some(next) = compound_statement(text, close + 1, room, out)? else {
+    let Some(next) = compound_statement(text, close + 1, depth_left, out)? else {
         return Ok(None);
     };
     node(text, at, NodeKind::Handler, Some(at as u32), start, out)?;
@@ -130,14 +131,14 @@ fn handler(
 fn exception_declaration(
     text: &TypeNames,
     at: usize,
-    room: u32,
+    depth_left: u32,
     out: &mut Builder,
 ) -> Result<Option<usize>, AllocError>
-    requires here { at ≤ length text.now.symbols }
-    ensures { ParsedRule text.now exception_declaration at None out.old out.new result }
+    requires here { at ≤ length text.now.terminals }
+    ensures { ParsesLongest text.now exception_declaration at None out.old out.new result }
 {
-    if text.is_at(at, Symbol::Ellipsis) {
+    if text.is_at(at, Terminal::Ellipsis) {
         return Ok(Some(leaf(text, at, NodeKind::Ellipsis, out)?));
     }
-    parameter_declaration(text, at, room, out)
+    parameter_declaration(text, at, depth_left, out)
 }

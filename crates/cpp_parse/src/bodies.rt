@@ -5,13 +5,11 @@ ghost use Rattle.cpp_parse.specs.Bodies.{AreInside, IsInside, ReadsBodies, Reads
 
 use crate::statements::compound_statement;
 use cpp_ast::{LamBody, NodeId, Nodes};
-use cpp_syntax::shapes::less_room;
+use cpp_syntax::limits::MAX_NESTED_CALLS;
+use cpp_syntax::shapes::descend;
 use cpp_syntax::{Builder, OpenBody, Parts, TypeNames};
 use std::alloc::{AllocError, Global};
 use std::mem;
-
-/// How many calls may be nested in one body.
-const ROOM: u32 = 500;
 
 /// What the tokens of a body are.
 #[derive(Drop)]
@@ -29,15 +27,15 @@ pub fn read_bodies(
     alloc: Global,
     types: &TypeNames,
     bodies: &[OpenBody],
-    room: u32,
+    depth_left: u32,
     nodes: &mut Nodes,
     noted: &mut Vec<LamBody>,
 ) -> Result<Option<u32>, AllocError>
-    requires { AreInside (length types.now.symbols) bodies.now }
+    requires { AreInside (length types.now.terminals) bodies.now }
     ensures { ReadsBodies types.now bodies.now nodes.old nodes.new noted.old.items noted.new.items result }
 {
     'bodies: for body in bodies {
-        if let Some(token) = read_body(alloc, types, *body, room, nodes, noted)? {
+        if let Some(token) = read_body(alloc, types, *body, depth_left, nodes, noted)? {
             return Ok(Some(token));
         }
     }
@@ -50,11 +48,11 @@ fn read_body(
     alloc: Global,
     types: &TypeNames,
     body: OpenBody,
-    room: u32,
+    depth_left: u32,
     nodes: &mut Nodes,
     noted: &mut Vec<LamBody>,
 ) -> Result<Option<u32>, AllocError>
-    requires { IsInside (length types.now.symbols) body }
+    requires { IsInside (length types.now.terminals) body }
     ensures { ReadsBody types.now body nodes.old nodes.new noted.old.items noted.new.items result }
 {
     match read_block(alloc, types, body, nodes)? {
@@ -63,7 +61,7 @@ fn read_body(
                 lam: body.lam,
                 body: root,
             })?;
-            read_bodies(alloc, types, &bodies, less_room(room)?, nodes, noted)
+            read_bodies(alloc, types, &bodies, descend(depth_left)?, nodes, noted)
         }
         Block::Refused { token } => Ok(Some(token)),
     }
@@ -76,14 +74,14 @@ fn read_block(
     body: OpenBody,
     nodes: &mut Nodes,
 ) -> Result<Block, AllocError>
-    requires { IsInside (length types.now.symbols) body }
+    requires { IsInside (length types.now.terminals) body }
     ensures { ReadsBlock types.now body nodes.old nodes.new result }
 {
     let len = types.len();
     let start = (body.from - 1) as usize;
     let mut out = Builder::over(alloc, mem::replace(nodes, Nodes::new(alloc)));
-    let read = compound_statement(types, start, ROOM, &mut out);
-    let token = out.reached().max(start).min(len) as u32;
+    let read = compound_statement(types, start, MAX_NESTED_CALLS, &mut out);
+    let token = out.furthest_failure().max(start).min(len) as u32;
     let Parts {
         nodes: grown,
         roots,

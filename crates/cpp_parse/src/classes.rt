@@ -3,16 +3,16 @@
 ghost use Rattle.std.specs.Prelude.{◌≡◌, ◌≤◌, length, Some, None};
 ghost use Rattle.cpp_syntax.specs.Rules.{form, many, optional, enumerator_definition, member_declaration};
 ghost use Rattle.cpp_syntax.specs.Grammar.{class_key, braced_list};
-ghost use Rattle.cpp_syntax.specs.Parsed.{ParsedRule, AlwaysRule};
+ghost use Rattle.cpp_syntax.specs.Parsed.{ParsesLongest, ParsesAlways};
 ghost use Rattle.cpp_parse.specs.Alternatives.{class_declaration, class_specifier, optional_final, optional_access, base_clause, base_specifier, member_specification, enum_specifier, enumerators, enumerator_value};
 
 use crate::members::member_declaration;
 use crate::specifiers::node_at_token;
-use crate::symbols::{is_access_at, is_class_key_at};
+use crate::terminals::{is_access_at, is_class_key_at};
 use cpp_ast::NodeKind;
 use cpp_parse_expr::expressions::conditional_expression;
 use cpp_syntax::read::{leaf, node};
-use cpp_syntax::{Builder, Symbol, TypeNames};
+use cpp_syntax::{Builder, Terminal, TypeNames};
 use std::alloc::AllocError;
 
 /// A class that is declared and not defined.
@@ -21,22 +21,22 @@ pub fn class_declaration(
     at: usize,
     out: &mut Builder,
 ) -> Result<Option<usize>, AllocError>
-    requires here { at ≤ length text.now.symbols }
-    ensures { ParsedRule text.now class_declaration at None out.old out.new result }
+    requires here { at ≤ length text.now.terminals }
+    ensures { ParsesLongest text.now class_declaration at None out.old out.new result }
 {
     if !is_class_key_at(text, at) {
-        out.refuse(at);
+        out.expected_at(at);
         return Ok(None);
     }
     let start = out.checkpoint();
     let name = leaf(text, at, NodeKind::ClassKey, out)?;
     if !text.is_name_at(name) {
-        out.refuse(name);
+        out.expected_at(name);
         return Ok(None);
     }
     let end = name + 1;
-    if !text.is_at(end, Symbol::Semicolon) {
-        out.refuse(end);
+    if !text.is_at(end, Terminal::Semicolon) {
+        out.expected_at(end);
         return Ok(None);
     }
     node_at_token(
@@ -54,29 +54,29 @@ pub fn class_declaration(
 pub fn class_specifier(
     text: &TypeNames,
     at: usize,
-    room: u32,
+    depth_left: u32,
     out: &mut Builder,
 ) -> Result<Option<usize>, AllocError>
-    requires here { at ≤ length text.now.symbols }
-    ensures { ParsedRule text.now class_specifier at None out.old out.new result }
+    requires here { at ≤ length text.now.terminals }
+    ensures { ParsesLongest text.now class_specifier at None out.old out.new result }
 {
     if !is_class_key_at(text, at) {
-        out.refuse(at);
+        out.expected_at(at);
         return Ok(None);
     }
     let start = out.checkpoint();
     let name = leaf(text, at, NodeKind::ClassKey, out)?;
     if !text.is_name_at(name) {
-        out.refuse(name);
+        out.expected_at(name);
         return Ok(None);
     }
     let behind = optional_final(text, name + 1, out)?;
     let open = optional_base(text, behind, out)?;
-    let Some(end) = member_specification(text, open, room, out)? else {
+    let Some(end) = member_specification(text, open, depth_left, out)? else {
         return Ok(None);
     };
-    if !text.is_at(end, Symbol::Semicolon) {
-        out.refuse(end);
+    if !text.is_at(end, Terminal::Semicolon) {
+        out.expected_at(end);
         return Ok(None);
     }
     node_at_token(text, at, NodeKind::ClassSpecifier, name as u32, start, out)?;
@@ -85,10 +85,10 @@ pub fn class_specifier(
 
 /// `final`, or nothing.
 fn optional_final(text: &TypeNames, at: usize, out: &mut Builder) -> Result<usize, AllocError>
-    requires here { at ≤ length text.now.symbols }
-    ensures { AlwaysRule text.now optional_final at None out.old out.new result }
+    requires here { at ≤ length text.now.terminals }
+    ensures { ParsesAlways text.now optional_final at None out.old out.new result }
 {
-    if !text.is_at(at, Symbol::Final) {
+    if !text.is_at(at, Terminal::Final) {
         return Ok(at);
     }
     leaf(text, at, NodeKind::VirtSpecifier, out)
@@ -96,11 +96,11 @@ fn optional_final(text: &TypeNames, at: usize, out: &mut Builder) -> Result<usiz
 
 /// `:` and a base, or nothing.
 fn optional_base(text: &TypeNames, at: usize, out: &mut Builder) -> Result<usize, AllocError>
-    requires here { at ≤ length text.now.symbols }
-    ensures { AlwaysRule text.now (optional base_clause) at None out.old out.new result }
+    requires here { at ≤ length text.now.terminals }
+    ensures { ParsesAlways text.now (optional base_clause) at None out.old out.new result }
 {
-    if !text.is_at(at, Symbol::Colon) {
-        out.refuse(at);
+    if !text.is_at(at, Terminal::Colon) {
+        out.expected_at(at);
         return Ok(at);
     }
     let mark = out.checkpoint();
@@ -117,13 +117,13 @@ fn base_specifier(
     at: usize,
     out: &mut Builder,
 ) -> Result<Option<usize>, AllocError>
-    requires here { at ≤ length text.now.symbols }
-    ensures { ParsedRule text.now base_specifier at None out.old out.new result }
+    requires here { at ≤ length text.now.terminals }
+    ensures { ParsesLongest text.now base_specifier at None out.old out.new result }
 {
     let start = out.checkpoint();
     let name = optional_access(text, at, out)?;
-    if !text.is_at(name, Symbol::TypeName) {
-        out.refuse(name);
+    if !text.is_at(name, Terminal::TypeName) {
+        out.expected_at(name);
         return Ok(None);
     }
     node(
@@ -139,8 +139,8 @@ fn base_specifier(
 
 /// `public`, `protected` or `private`, or nothing.
 fn optional_access(text: &TypeNames, at: usize, out: &mut Builder) -> Result<usize, AllocError>
-    requires here { at ≤ length text.now.symbols }
-    ensures { AlwaysRule text.now optional_access at None out.old out.new result }
+    requires here { at ≤ length text.now.terminals }
+    ensures { ParsesAlways text.now optional_access at None out.old out.new result }
 {
     if !is_access_at(text, at) {
         return Ok(at);
@@ -152,20 +152,20 @@ fn optional_access(text: &TypeNames, at: usize, out: &mut Builder) -> Result<usi
 fn member_specification(
     text: &TypeNames,
     at: usize,
-    room: u32,
+    depth_left: u32,
     out: &mut Builder,
 ) -> Result<Option<usize>, AllocError>
-    requires here { at ≤ length text.now.symbols }
-    ensures { ParsedRule text.now member_specification at None out.old out.new result }
+    requires here { at ≤ length text.now.terminals }
+    ensures { ParsesLongest text.now member_specification at None out.old out.new result }
 {
-    if !text.is_at(at, Symbol::OpenBrace) {
-        out.refuse(at);
+    if !text.is_at(at, Terminal::OpenBrace) {
+        out.expected_at(at);
         return Ok(None);
     }
     let start = out.checkpoint();
-    let close = members(text, at + 1, room, out)?;
-    if !text.is_at(close, Symbol::CloseBrace) {
-        out.refuse(close);
+    let close = members(text, at + 1, depth_left, out)?;
+    if !text.is_at(close, Terminal::CloseBrace) {
+        out.expected_at(close);
         return Ok(None);
     }
     node(
@@ -180,14 +180,19 @@ fn member_specification(
 }
 
 /// Members, as many as follow one another.
-fn members(text: &TypeNames, at: usize, room: u32, out: &mut Builder) -> Result<usize, AllocError>
-    requires here { at ≤ length text.now.symbols }
-    ensures { AlwaysRule text.now (many (form member_declaration)) at None out.old out.new result }
+fn members(
+    text: &TypeNames,
+    at: usize,
+    depth_left: u32,
+    out: &mut Builder,
+) -> Result<usize, AllocError>
+    requires here { at ≤ length text.now.terminals }
+    ensures { ParsesAlways text.now (many (form member_declaration)) at None out.old out.new result }
 {
     let mut next = at;
     'members: loop {
         let mark = out.checkpoint();
-        let Some(behind) = member_declaration(text, next, room, out)? else {
+        let Some(behind) = member_declaration(text, next, depth_left, out)? else {
             out.cut(mark);
             return Ok(next);
         };
@@ -199,27 +204,27 @@ fn members(text: &TypeNames, at: usize, room: u32, out: &mut Builder) -> Result<
 pub fn enum_specifier(
     text: &TypeNames,
     at: usize,
-    room: u32,
+    depth_left: u32,
     out: &mut Builder,
 ) -> Result<Option<usize>, AllocError>
-    requires here { at ≤ length text.now.symbols }
-    ensures { ParsedRule text.now enum_specifier at None out.old out.new result }
+    requires here { at ≤ length text.now.terminals }
+    ensures { ParsesLongest text.now enum_specifier at None out.old out.new result }
 {
-    if !text.is_at(at, Symbol::Enum) {
-        out.refuse(at);
+    if !text.is_at(at, Terminal::Enum) {
+        out.expected_at(at);
         return Ok(None);
     }
     let start = out.checkpoint();
     let name = optional_class_key(text, at + 1, out)?;
     if !text.is_name_at(name) {
-        out.refuse(name);
+        out.expected_at(name);
         return Ok(None);
     }
-    let Some(end) = braced_enumerators(text, name + 1, room, out)? else {
+    let Some(end) = braced_enumerators(text, name + 1, depth_left, out)? else {
         return Ok(None);
     };
-    if !text.is_at(end, Symbol::Semicolon) {
-        out.refuse(end);
+    if !text.is_at(end, Terminal::Semicolon) {
+        out.expected_at(end);
         return Ok(None);
     }
     node_at_token(text, at, NodeKind::EnumSpecifier, name as u32, start, out)?;
@@ -228,8 +233,8 @@ pub fn enum_specifier(
 
 /// `class` or `struct`, or nothing.
 fn optional_class_key(text: &TypeNames, at: usize, out: &mut Builder) -> Result<usize, AllocError>
-    requires here { at ≤ length text.now.symbols }
-    ensures { AlwaysRule text.now (optional class_key) at None out.old out.new result }
+    requires here { at ≤ length text.now.terminals }
+    ensures { ParsesAlways text.now (optional class_key) at None out.old out.new result }
 {
     if !is_class_key_at(text, at) {
         return Ok(at);
@@ -241,19 +246,19 @@ fn optional_class_key(text: &TypeNames, at: usize, out: &mut Builder) -> Result<
 fn braced_enumerators(
     text: &TypeNames,
     at: usize,
-    room: u32,
+    depth_left: u32,
     out: &mut Builder,
 ) -> Result<Option<usize>, AllocError>
-    requires here { at ≤ length text.now.symbols }
-    ensures { ParsedRule text.now (braced_list (form enumerator_definition)) at None out.old out.new result }
+    requires here { at ≤ length text.now.terminals }
+    ensures { ParsesLongest text.now (braced_list (form enumerator_definition)) at None out.old out.new result }
 {
-    if !text.is_at(at, Symbol::OpenBrace) {
-        out.refuse(at);
+    if !text.is_at(at, Terminal::OpenBrace) {
+        out.expected_at(at);
         return Ok(None);
     }
-    let close = optional_enumerators(text, at + 1, room, out)?;
-    if !text.is_at(close, Symbol::CloseBrace) {
-        out.refuse(close);
+    let close = optional_enumerators(text, at + 1, depth_left, out)?;
+    if !text.is_at(close, Terminal::CloseBrace) {
+        out.expected_at(close);
         return Ok(None);
     }
     Ok(Some(close + 1))
@@ -263,14 +268,14 @@ fn braced_enumerators(
 fn optional_enumerators(
     text: &TypeNames,
     at: usize,
-    room: u32,
+    depth_left: u32,
     out: &mut Builder,
 ) -> Result<usize, AllocError>
-    requires here { at ≤ length text.now.symbols }
-    ensures { AlwaysRule text.now (optional enumerators) at None out.old out.new result }
+    requires here { at ≤ length text.now.terminals }
+    ensures { ParsesAlways text.now (optional enumerators) at None out.old out.new result }
 {
     let mark = out.checkpoint();
-    let Some(next) = enumerators(text, at, room, out)? else {
+    let Some(next) = enumerators(text, at, depth_left, out)? else {
         out.cut(mark);
         return Ok(at);
     };
@@ -281,19 +286,19 @@ fn optional_enumerators(
 fn enumerators(
     text: &TypeNames,
     at: usize,
-    room: u32,
+    depth_left: u32,
     out: &mut Builder,
 ) -> Result<Option<usize>, AllocError>
-    requires here { at ≤ length text.now.symbols }
-    ensures { ParsedRule text.now enumerators at None out.old out.new result }
+    requires here { at ≤ length text.now.terminals }
+    ensures { ParsesLongest text.now enumerators at None out.old out.new result }
 {
-    let Some(first) = enumerator_definition(text, at, room, out)? else {
+    let Some(first) = enumerator_definition(text, at, depth_left, out)? else {
         return Ok(None);
     };
     let mut next = first;
-    'items: while text.is_at(next, Symbol::Comma) {
+    'items: while text.is_at(next, Terminal::Comma) {
         let mark = out.checkpoint();
-        let Some(behind) = enumerator_definition(text, next + 1, room, out)? else {
+        let Some(behind) = enumerator_definition(text, next + 1, depth_left, out)? else {
             out.cut(mark);
             return Ok(Some(next + 1));
         };
@@ -306,18 +311,18 @@ fn enumerators(
 fn enumerator_definition(
     text: &TypeNames,
     at: usize,
-    room: u32,
+    depth_left: u32,
     out: &mut Builder,
 ) -> Result<Option<usize>, AllocError>
-    requires here { at ≤ length text.now.symbols }
-    ensures { ParsedRule text.now (form enumerator_definition) at None out.old out.new result }
+    requires here { at ≤ length text.now.terminals }
+    ensures { ParsesLongest text.now (form enumerator_definition) at None out.old out.new result }
 {
     if !text.is_name_at(at) {
-        out.refuse(at);
+        out.expected_at(at);
         return Ok(None);
     }
     let start = out.checkpoint();
-    let next = optional_value(text, at + 1, room, out)?;
+    let next = optional_value(text, at + 1, depth_left, out)?;
     node_at_token(
         text,
         at,
@@ -333,18 +338,18 @@ fn enumerator_definition(
 fn optional_value(
     text: &TypeNames,
     at: usize,
-    room: u32,
+    depth_left: u32,
     out: &mut Builder,
 ) -> Result<usize, AllocError>
-    requires here { at ≤ length text.now.symbols }
-    ensures { AlwaysRule text.now (optional enumerator_value) at None out.old out.new result }
+    requires here { at ≤ length text.now.terminals }
+    ensures { ParsesAlways text.now (optional enumerator_value) at None out.old out.new result }
 {
-    if !text.is_at(at, Symbol::Equal) {
-        out.refuse(at);
+    if !text.is_at(at, Terminal::Equal) {
+        out.expected_at(at);
         return Ok(at);
     }
     let mark = out.checkpoint();
-    let Some(next) = conditional_expression(text, at + 1, room, out)? else {
+    let Some(next) = conditional_expression(text, at + 1, depth_left, out)? else {
         out.cut(mark);
         return Ok(at);
     };

@@ -4,37 +4,37 @@ ghost use Rattle.std.specs.Prelude.{◌≡◌, ◌≤◌, length, Some, None};
 ghost use Rattle.cpp_ast.specs.declared.kinds.NodeKind.TheVariants.{ParameterDeclarationClause};
 ghost use Rattle.cpp_syntax.specs.Rules.{form, node, nothing, qualified, plain, constructor_declarator, destructor_declarator, member_initializer};
 ghost use Rattle.cpp_syntax.specs.Grammar.{list, member_initializers};
-ghost use Rattle.cpp_syntax.specs.Parsed.{ParsedRule, AlwaysRule};
+ghost use Rattle.cpp_syntax.specs.Parsed.{ParsesLongest, ParsesAlways};
 ghost use Rattle.cpp_parse.specs.Alternatives.{constructor_name, qualified_destructor_name, destructor_name, empty_parameters, initializer_arguments, base_initializer, named_initializer, constructor_body};
 
-use crate::specifiers::around_parameters;
+use crate::specifiers::wrap_parameters;
 use crate::statements::compound_statement;
 use cpp_ast::NodeKind;
 use cpp_parse_expr::declarators::{function_parameters, function_qualifiers};
 use cpp_parse_expr::expressions::expression_list;
 use cpp_parse_expr::types::type_name;
 use cpp_syntax::read::{leaf, node};
-use cpp_syntax::{Builder, Naming, Symbol, TypeNames};
+use cpp_syntax::{Builder, Naming, Terminal, TypeNames};
 use std::alloc::AllocError;
 
 /// `T::T` with parameters.
 pub fn qualified_constructor(
     text: &TypeNames,
     at: usize,
-    room: u32,
+    depth_left: u32,
     out: &mut Builder,
 ) -> Result<Option<usize>, AllocError>
-    requires here { at ≤ length text.now.symbols }
-    ensures { ParsedRule text.now (form (constructor_declarator qualified)) at None out.old out.new result }
+    requires here { at ≤ length text.now.terminals }
+    ensures { ParsesLongest text.now (form (constructor_declarator qualified)) at None out.old out.new result }
 {
     let start = out.checkpoint();
     let Some(behind) = constructor_name(text, at, out)? else {
         return Ok(None);
     };
-    let Some(next) = function_parameters(text, behind, Naming::Unnamed, room, out)? else {
+    let Some(next) = function_parameters(text, behind, Naming::Unnamed, depth_left, out)? else {
         return Ok(None);
     };
-    around_parameters(text, behind, start, out)?;
+    wrap_parameters(text, behind, start, out)?;
     Ok(Some(next))
 }
 
@@ -42,22 +42,22 @@ pub fn qualified_constructor(
 pub fn plain_constructor(
     text: &TypeNames,
     at: usize,
-    room: u32,
+    depth_left: u32,
     out: &mut Builder,
 ) -> Result<Option<usize>, AllocError>
-    requires here { at ≤ length text.now.symbols }
-    ensures { ParsedRule text.now (form (constructor_declarator plain)) at None out.old out.new result }
+    requires here { at ≤ length text.now.terminals }
+    ensures { ParsesLongest text.now (form (constructor_declarator plain)) at None out.old out.new result }
 {
-    if !text.is_at(at, Symbol::TypeName) {
-        out.refuse(at);
+    if !text.is_at(at, Terminal::TypeName) {
+        out.expected_at(at);
         return Ok(None);
     }
     let start = out.checkpoint();
     let behind = leaf(text, at, NodeKind::DeclaratorId, out)?;
-    let Some(next) = function_parameters(text, behind, Naming::Unnamed, room, out)? else {
+    let Some(next) = function_parameters(text, behind, Naming::Unnamed, depth_left, out)? else {
         return Ok(None);
     };
-    around_parameters(text, behind, start, out)?;
+    wrap_parameters(text, behind, start, out)?;
     Ok(Some(next))
 }
 
@@ -67,8 +67,8 @@ pub fn qualified_destructor(
     at: usize,
     out: &mut Builder,
 ) -> Result<Option<usize>, AllocError>
-    requires here { at ≤ length text.now.symbols }
-    ensures { ParsedRule text.now (form (destructor_declarator qualified)) at None out.old out.new result }
+    requires here { at ≤ length text.now.terminals }
+    ensures { ParsesLongest text.now (form (destructor_declarator qualified)) at None out.old out.new result }
 {
     let start = out.checkpoint();
     let Some(behind) = qualified_destructor_name(text, at, out)? else {
@@ -77,7 +77,7 @@ pub fn qualified_destructor(
     let Some(next) = empty_parameters(text, behind, out)? else {
         return Ok(None);
     };
-    around_parameters(text, behind, start, out)?;
+    wrap_parameters(text, behind, start, out)?;
     Ok(Some(next))
 }
 
@@ -87,8 +87,8 @@ pub fn plain_destructor(
     at: usize,
     out: &mut Builder,
 ) -> Result<Option<usize>, AllocError>
-    requires here { at ≤ length text.now.symbols }
-    ensures { ParsedRule text.now (form (destructor_declarator plain)) at None out.old out.new result }
+    requires here { at ≤ length text.now.terminals }
+    ensures { ParsesLongest text.now (form (destructor_declarator plain)) at None out.old out.new result }
 {
     let start = out.checkpoint();
     let Some(behind) = destructor_name(text, at, out)? else {
@@ -97,7 +97,7 @@ pub fn plain_destructor(
     let Some(next) = empty_parameters(text, behind, out)? else {
         return Ok(None);
     };
-    around_parameters(text, behind, start, out)?;
+    wrap_parameters(text, behind, start, out)?;
     Ok(Some(next))
 }
 
@@ -107,22 +107,22 @@ fn constructor_name(
     at: usize,
     out: &mut Builder,
 ) -> Result<Option<usize>, AllocError>
-    requires here { at ≤ length text.now.symbols }
-    ensures { ParsedRule text.now constructor_name at None out.old out.new result }
+    requires here { at ≤ length text.now.terminals }
+    ensures { ParsesLongest text.now constructor_name at None out.old out.new result }
 {
-    if !text.is_at(at, Symbol::TypeName) {
-        out.refuse(at);
+    if !text.is_at(at, Terminal::TypeName) {
+        out.expected_at(at);
         return Ok(None);
     }
     let start = out.checkpoint();
     let colons = type_name(text, at, out)?;
-    if !text.is_at(colons, Symbol::ColonColon) {
-        out.refuse(colons);
+    if !text.is_at(colons, Terminal::ColonColon) {
+        out.expected_at(colons);
         return Ok(None);
     }
     let name = colons + 1;
-    if !text.is_at(name, Symbol::TypeName) {
-        out.refuse(name);
+    if !text.is_at(name, Terminal::TypeName) {
+        out.expected_at(name);
         return Ok(None);
     }
     node(
@@ -142,27 +142,27 @@ fn qualified_destructor_name(
     at: usize,
     out: &mut Builder,
 ) -> Result<Option<usize>, AllocError>
-    requires here { at ≤ length text.now.symbols }
-    ensures { ParsedRule text.now qualified_destructor_name at None out.old out.new result }
+    requires here { at ≤ length text.now.terminals }
+    ensures { ParsesLongest text.now qualified_destructor_name at None out.old out.new result }
 {
-    if !text.is_at(at, Symbol::TypeName) {
-        out.refuse(at);
+    if !text.is_at(at, Terminal::TypeName) {
+        out.expected_at(at);
         return Ok(None);
     }
     let start = out.checkpoint();
     let colons = type_name(text, at, out)?;
-    if !text.is_at(colons, Symbol::ColonColon) {
-        out.refuse(colons);
+    if !text.is_at(colons, Terminal::ColonColon) {
+        out.expected_at(colons);
         return Ok(None);
     }
     let tilde = colons + 1;
-    if !text.is_at(tilde, Symbol::Tilde) {
-        out.refuse(tilde);
+    if !text.is_at(tilde, Terminal::Tilde) {
+        out.expected_at(tilde);
         return Ok(None);
     }
     let name = tilde + 1;
-    if !text.is_at(name, Symbol::TypeName) {
-        out.refuse(name);
+    if !text.is_at(name, Terminal::TypeName) {
+        out.expected_at(name);
         return Ok(None);
     }
     node(
@@ -182,16 +182,16 @@ fn destructor_name(
     at: usize,
     out: &mut Builder,
 ) -> Result<Option<usize>, AllocError>
-    requires here { at ≤ length text.now.symbols }
-    ensures { ParsedRule text.now destructor_name at None out.old out.new result }
+    requires here { at ≤ length text.now.terminals }
+    ensures { ParsesLongest text.now destructor_name at None out.old out.new result }
 {
-    if !text.is_at(at, Symbol::Tilde) {
-        out.refuse(at);
+    if !text.is_at(at, Terminal::Tilde) {
+        out.expected_at(at);
         return Ok(None);
     }
     let name = at + 1;
-    if !text.is_at(name, Symbol::TypeName) {
-        out.refuse(name);
+    if !text.is_at(name, Terminal::TypeName) {
+        out.expected_at(name);
         return Ok(None);
     }
     let start = out.checkpoint();
@@ -212,16 +212,16 @@ fn empty_parameters(
     at: usize,
     out: &mut Builder,
 ) -> Result<Option<usize>, AllocError>
-    requires here { at ≤ length text.now.symbols }
-    ensures { ParsedRule text.now empty_parameters at (Some at) out.old out.new result }
+    requires here { at ≤ length text.now.terminals }
+    ensures { ParsesLongest text.now empty_parameters at (Some at) out.old out.new result }
 {
-    if !text.is_at(at, Symbol::OpenParen) {
-        out.refuse(at);
+    if !text.is_at(at, Terminal::OpenParen) {
+        out.expected_at(at);
         return Ok(None);
     }
     let close = no_parameter(text, at + 1, out)?;
-    if !text.is_at(close, Symbol::CloseParen) {
-        out.refuse(close);
+    if !text.is_at(close, Terminal::CloseParen) {
+        out.expected_at(close);
         return Ok(None);
     }
     Ok(Some(function_qualifiers(text, close + 1, out)?))
@@ -229,8 +229,8 @@ fn empty_parameters(
 
 /// The node of no parameters.
 fn no_parameter(text: &TypeNames, at: usize, out: &mut Builder) -> Result<usize, AllocError>
-    requires here { at ≤ length text.now.symbols }
-    ensures { AlwaysRule text.now (node ParameterDeclarationClause nothing) at None out.old out.new result }
+    requires here { at ≤ length text.now.terminals }
+    ensures { ParsesAlways text.now (node ParameterDeclarationClause nothing) at None out.old out.new result }
 {
     let start = out.checkpoint();
     node(
@@ -248,32 +248,32 @@ fn no_parameter(text: &TypeNames, at: usize, out: &mut Builder) -> Result<usize,
 pub fn constructor_body(
     text: &TypeNames,
     at: usize,
-    room: u32,
+    depth_left: u32,
     out: &mut Builder,
 ) -> Result<Option<usize>, AllocError>
-    requires here { at ≤ length text.now.symbols }
-    ensures { ParsedRule text.now constructor_body at None out.old out.new result }
+    requires here { at ≤ length text.now.terminals }
+    ensures { ParsesLongest text.now constructor_body at None out.old out.new result }
 {
-    let body = member_initializers(text, at, room, out)?;
-    compound_statement(text, body, room, out)
+    let body = member_initializers(text, at, depth_left, out)?;
+    compound_statement(text, body, depth_left, out)
 }
 
 /// `:` and what initialises bases and members, or nothing.
 fn member_initializers(
     text: &TypeNames,
     at: usize,
-    room: u32,
+    depth_left: u32,
     out: &mut Builder,
 ) -> Result<usize, AllocError>
-    requires here { at ≤ length text.now.symbols }
-    ensures { AlwaysRule text.now member_initializers at None out.old out.new result }
+    requires here { at ≤ length text.now.terminals }
+    ensures { ParsesAlways text.now member_initializers at None out.old out.new result }
 {
-    if !text.is_at(at, Symbol::Colon) {
-        out.refuse(at);
+    if !text.is_at(at, Terminal::Colon) {
+        out.expected_at(at);
         return Ok(at);
     }
     let mark = out.checkpoint();
-    let Some(next) = initializer_list(text, at + 1, room, out)? else {
+    let Some(next) = initializer_list(text, at + 1, depth_left, out)? else {
         out.cut(mark);
         return Ok(at);
     };
@@ -284,19 +284,19 @@ fn member_initializers(
 fn initializer_list(
     text: &TypeNames,
     at: usize,
-    room: u32,
+    depth_left: u32,
     out: &mut Builder,
 ) -> Result<Option<usize>, AllocError>
-    requires here { at ≤ length text.now.symbols }
-    ensures { ParsedRule text.now (list (form member_initializer)) at None out.old out.new result }
+    requires here { at ≤ length text.now.terminals }
+    ensures { ParsesLongest text.now (list (form member_initializer)) at None out.old out.new result }
 {
-    let Some(first) = member_initializer(text, at, room, out)? else {
+    let Some(first) = member_initializer(text, at, depth_left, out)? else {
         return Ok(None);
     };
     let mut next = first;
-    'items: while text.is_at(next, Symbol::Comma) {
+    'items: while text.is_at(next, Terminal::Comma) {
         let mark = out.checkpoint();
-        let Some(behind) = member_initializer(text, next + 1, room, out)? else {
+        let Some(behind) = member_initializer(text, next + 1, depth_left, out)? else {
             out.cut(mark);
             return Ok(Some(next));
         };
@@ -309,34 +309,34 @@ fn initializer_list(
 fn member_initializer(
     text: &TypeNames,
     at: usize,
-    room: u32,
+    depth_left: u32,
     out: &mut Builder,
 ) -> Result<Option<usize>, AllocError>
-    requires here { at ≤ length text.now.symbols }
-    ensures { ParsedRule text.now (form member_initializer) at None out.old out.new result }
+    requires here { at ≤ length text.now.terminals }
+    ensures { ParsesLongest text.now (form member_initializer) at None out.old out.new result }
 {
-    if text.is_at(at, Symbol::TypeName) {
-        return base_initializer(text, at, room, out);
+    if text.is_at(at, Terminal::TypeName) {
+        return base_initializer(text, at, depth_left, out);
     }
-    named_initializer(text, at, room, out)
+    named_initializer(text, at, depth_left, out)
 }
 
 /// What initialises a base.
 fn base_initializer(
     text: &TypeNames,
     at: usize,
-    room: u32,
+    depth_left: u32,
     out: &mut Builder,
 ) -> Result<Option<usize>, AllocError>
-    requires here { at ≤ length text.now.symbols }
-    ensures { ParsedRule text.now base_initializer at None out.old out.new result }
+    requires here { at ≤ length text.now.terminals }
+    ensures { ParsesLongest text.now base_initializer at None out.old out.new result }
 {
-    if !text.is_at(at, Symbol::TypeName) {
-        out.refuse(at);
+    if !text.is_at(at, Terminal::TypeName) {
+        out.expected_at(at);
         return Ok(None);
     }
     let start = out.checkpoint();
-    let Some(next) = initializer_arguments(text, at + 1, room, out)? else {
+    let Some(next) = initializer_arguments(text, at + 1, depth_left, out)? else {
         return Ok(None);
     };
     node(
@@ -354,18 +354,18 @@ fn base_initializer(
 fn named_initializer(
     text: &TypeNames,
     at: usize,
-    room: u32,
+    depth_left: u32,
     out: &mut Builder,
 ) -> Result<Option<usize>, AllocError>
-    requires here { at ≤ length text.now.symbols }
-    ensures { ParsedRule text.now named_initializer at None out.old out.new result }
+    requires here { at ≤ length text.now.terminals }
+    ensures { ParsesLongest text.now named_initializer at None out.old out.new result }
 {
     if !text.is_name_at(at) {
-        out.refuse(at);
+        out.expected_at(at);
         return Ok(None);
     }
     let start = out.checkpoint();
-    let Some(next) = initializer_arguments(text, at + 1, room, out)? else {
+    let Some(next) = initializer_arguments(text, at + 1, depth_left, out)? else {
         return Ok(None);
     };
     node(
@@ -383,19 +383,19 @@ fn named_initializer(
 fn initializer_arguments(
     text: &TypeNames,
     at: usize,
-    room: u32,
+    depth_left: u32,
     out: &mut Builder,
 ) -> Result<Option<usize>, AllocError>
-    requires here { at ≤ length text.now.symbols }
-    ensures { ParsedRule text.now initializer_arguments at None out.old out.new result }
+    requires here { at ≤ length text.now.terminals }
+    ensures { ParsesLongest text.now initializer_arguments at None out.old out.new result }
 {
-    if !text.is_at(at, Symbol::OpenParen) {
-        out.refuse(at);
+    if !text.is_at(at, Terminal::OpenParen) {
+        out.expected_at(at);
         return Ok(None);
     }
-    let close = expression_list(text, at + 1, room, out)?;
-    if !text.is_at(close, Symbol::CloseParen) {
-        out.refuse(close);
+    let close = expression_list(text, at + 1, depth_left, out)?;
+    if !text.is_at(close, Terminal::CloseParen) {
+        out.expected_at(close);
         return Ok(None);
     }
     Ok(Some(close + 1))

@@ -8,10 +8,10 @@ ghost use Rattle.cpp_parse_expr.specs.Depths.{deep_node, deep_kid};
 ghost use Rattle.cpp_parse.specs.NotedBodies.{AreWithin, IsNotedIn, IsOnceEach, HaveNodes};
 
 use cpp_ast::{At, LamBody, NodeId, NodeKind, Nodes};
-use cpp_syntax::shapes::less_room;
+use cpp_syntax::shapes::descend;
 use std::alloc::{AllocError, Global};
 
-/// The body of each node, by the place of the node.
+/// The body of each node, by the index of the node.
 pub fn bodies_by_node(
     alloc: Global,
     nodes: &Nodes,
@@ -30,7 +30,7 @@ pub fn bodies_by_node(
     Ok(noted)
 }
 
-/// The place of the first node that lies deeper than a limit, among the trees of the kids of a node of a depth: a node
+/// The position of the first node that lies deeper than a limit, among the trees of the kids of a node of a depth: a node
 /// comes before its kids, these come in their order, and the body of a lambda comes after its kids.
 #[cycle(down)]
 pub fn first_deep_kid(
@@ -39,23 +39,23 @@ pub fn first_deep_kid(
     kids: &[NodeId],
     depth: u32,
     limit: u32,
-    room: u32,
+    depth_left: u32,
 ) -> Result<Option<At>, AllocError>
     requires long { length noted.now ≡ length nodes.now }
     requires there { HaveNodes (length nodes.now) noted.now }
     requires below { are_below (length nodes.now) kids.now ≡ true }
     requires here { depth ≤ limit }
-    ensures { IfOk result (λ place. (bodies : List LamBodyRecord) (trees : Trees) → IsNotedIn bodies noted.now → ShowsAllWith bodies nodes.now kids.now trees → place ≡ deep_kid limit depth trees) }
+    ensures { IfOk result (λ position. (bodies : List LamBodyRecord) (trees : Trees) → IsNotedIn bodies noted.now → ShowsAllWith bodies nodes.now kids.now trees → position ≡ deep_kid limit depth trees) }
 {
     'kids: for kid in kids {
-        if let Some(place) = first_deep(nodes, noted, *kid, depth, limit, room)? {
-            return Ok(Some(place));
+        if let Some(position) = first_deep(nodes, noted, *kid, depth, limit, depth_left)? {
+            return Ok(Some(position));
         }
     }
     Ok(None)
 }
 
-/// The place of the first node of a tree that lies deeper than a limit, where the node that holds the tree has a depth.
+/// The position of the first node of a tree that lies deeper than a limit, where the node that holds the tree has a depth.
 #[cycle(down)]
 fn first_deep(
     nodes: &Nodes,
@@ -63,23 +63,30 @@ fn first_deep(
     id: NodeId,
     holder: u32,
     limit: u32,
-    room: u32,
+    depth_left: u32,
 ) -> Result<Option<At>, AllocError>
     requires long { length noted.now ≡ length nodes.now }
     requires there { HaveNodes (length nodes.now) noted.now }
     requires inside { id.0 < length nodes.now }
     requires here { holder ≤ limit }
-    ensures { IfOk result (λ place. (bodies : List LamBodyRecord) (tree : Tree) → IsNotedIn bodies noted.now → ShowsWith bodies nodes.now id.0 tree → place ≡ deep_node limit (kid_depth holder (kind_of tree)) tree) }
+    ensures { IfOk result (λ position. (bodies : List LamBodyRecord) (tree : Tree) → IsNotedIn bodies noted.now → ShowsWith bodies nodes.now id.0 tree → position ≡ deep_node limit (kid_depth holder (kind_of tree)) tree) }
 {
     let node = nodes.node(id);
     let Some(depth) = depth_within(node.kind, holder, limit) else {
         return Ok(Some(node.at));
     };
-    if let Some(place) = first_deep_kid(nodes, noted, &node.kids, depth, limit, less_room(room)?)? {
-        return Ok(Some(place));
+    if let Some(position) = first_deep_kid(
+        nodes,
+        noted,
+        &node.kids,
+        depth,
+        limit,
+        descend(depth_left)?,
+    )? {
+        return Ok(Some(position));
     }
     match noted[id.0 as usize] {
-        Some(body) => first_deep(nodes, noted, body, depth, limit, less_room(room)?),
+        Some(body) => first_deep(nodes, noted, body, depth, limit, descend(depth_left)?),
         None => Ok(None),
     }
 }

@@ -3,7 +3,7 @@
 
 ghost use Rattle.std.specs.Prelude.{◌≡◌, ◌≤◌, length, Some, None};
 ghost use Rattle.cpp_syntax.specs.Rules.{◌∣◌, form, simple_declaration};
-ghost use Rattle.cpp_syntax.specs.Parsed.{ParsedRule};
+ghost use Rattle.cpp_syntax.specs.Parsed.{ParsesLongest};
 ghost use Rattle.cpp_parse.specs.Alternatives.{object_declaration, function_definition, constructor_definition, destructor_definition, optional_inline};
 ghost use Rattle.cpp_parse.specs.Answers.{NamedDefinition, OneDefinition, Reaches};
 
@@ -15,7 +15,7 @@ use crate::specifiers::{
 use crate::statements::compound_statement;
 use cpp_ast::NodeKind;
 use cpp_parse_expr::declarators::declarator;
-use cpp_syntax::{Builder, Naming, Symbol, TypeNames};
+use cpp_syntax::{Builder, Naming, Terminal, TypeNames};
 use std::alloc::AllocError;
 
 /// What a simple declaration is, by its first tokens.
@@ -33,22 +33,22 @@ pub enum Definition {
 pub fn simple_declaration(
     text: &TypeNames,
     at: usize,
-    room: u32,
+    depth_left: u32,
     out: &mut Builder,
 ) -> Result<Option<usize>, AllocError>
-    requires here { at ≤ length text.now.symbols }
-    ensures { ParsedRule text.now (form simple_declaration) at None out.old out.new result }
+    requires here { at ≤ length text.now.terminals }
+    ensures { ParsesLongest text.now (form simple_declaration) at None out.old out.new result }
 {
     match definition_at(text, at) {
-        Definition::Ordinary => ordinary_declaration(text, at, room, out),
-        Definition::OfConstructor => constructor_definition(text, at, room, out),
-        Definition::OfDestructor => destructor_definition(text, at, room, out),
+        Definition::Ordinary => ordinary_declaration(text, at, depth_left, out),
+        Definition::OfConstructor => constructor_definition(text, at, depth_left, out),
+        Definition::OfDestructor => destructor_definition(text, at, depth_left, out),
     }
 }
 
-/// What a simple declaration at a place is.
+/// What a simple declaration at an index is.
 fn definition_at(text: &TypeNames, at: usize) -> Definition
-    requires here { at ≤ length text.now.symbols }
+    requires here { at ≤ length text.now.terminals }
     ensures { OneDefinition text.now at result }
 {
     let behind = attribute_end(text, at);
@@ -56,35 +56,35 @@ fn definition_at(text: &TypeNames, at: usize) -> Definition
     named_definition(text, named)
 }
 
-/// The place behind `inline`, if it stands at a place.
+/// The index behind `inline`, if it stands at an index.
 fn inline_end(text: &TypeNames, at: usize) -> usize
-    requires here { at ≤ length text.now.symbols }
+    requires here { at ≤ length text.now.terminals }
     ensures { Reaches text.now optional_inline at result }
 {
-    if text.is_at(at, Symbol::Inline) {
+    if text.is_at(at, Terminal::Inline) {
         return at + 1;
     }
     at
 }
 
-/// What a declarator at a place is, behind what may stand before it: `T::T` begins that of a constructor, `T::~` that of a
+/// What a declarator at an index is, behind what may stand before it: `T::T` begins that of a constructor, `T::~` that of a
 /// destructor.
 fn named_definition(text: &TypeNames, at: usize) -> Definition
-    requires here { at ≤ length text.now.symbols }
+    requires here { at ≤ length text.now.terminals }
     ensures { NamedDefinition text.now at result }
 {
-    if !text.is_at(at, Symbol::TypeName) {
+    if !text.is_at(at, Terminal::TypeName) {
         return Definition::Ordinary;
     }
     let colons = at + 1;
-    if !text.is_at(colons, Symbol::ColonColon) {
+    if !text.is_at(colons, Terminal::ColonColon) {
         return Definition::Ordinary;
     }
     let name = colons + 1;
-    if text.is_at(name, Symbol::Tilde) {
+    if text.is_at(name, Terminal::Tilde) {
         return Definition::OfDestructor;
     }
-    if text.is_at(name, Symbol::TypeName) {
+    if text.is_at(name, Terminal::TypeName) {
         return Definition::OfConstructor;
     }
     Definition::Ordinary
@@ -94,33 +94,33 @@ fn named_definition(text: &TypeNames, at: usize) -> Definition
 fn ordinary_declaration(
     text: &TypeNames,
     at: usize,
-    room: u32,
+    depth_left: u32,
     out: &mut Builder,
 ) -> Result<Option<usize>, AllocError>
-    requires here { at ≤ length text.now.symbols }
-    ensures { ParsedRule text.now (object_declaration ∣ function_definition) at None out.old out.new result }
+    requires here { at ≤ length text.now.terminals }
+    ensures { ParsesLongest text.now (object_declaration ∣ function_definition) at None out.old out.new result }
 {
     let start = out.checkpoint();
-    let Some(declared) = declaration_head(text, at, room, out)? else {
+    let Some(declared) = declaration_head(text, at, depth_left, out)? else {
         return Ok(None);
     };
     let mark = out.checkpoint();
-    let Some(behind) = declarator(text, declared, Naming::Named, room, out)? else {
+    let Some(behind) = declarator(text, declared, Naming::Named, depth_left, out)? else {
         return Ok(None);
     };
-    if text.is_at(behind, Symbol::OpenBrace) {
-        let Some(next) = compound_statement(text, behind, room, out)? else {
+    if text.is_at(behind, Terminal::OpenBrace) {
+        let Some(next) = compound_statement(text, behind, depth_left, out)? else {
             return Ok(None);
         };
         node_from(text, at, NodeKind::FunctionDefinition, start, out)?;
         return Ok(Some(next));
     }
     out.cut(mark);
-    let Some(end) = init_declarators(text, declared, Naming::Named, room, out)? else {
+    let Some(end) = init_declarators(text, declared, Naming::Named, depth_left, out)? else {
         return Ok(None);
     };
-    if !text.is_at(end, Symbol::Semicolon) {
-        out.refuse(end);
+    if !text.is_at(end, Terminal::Semicolon) {
+        out.expected_at(end);
         return Ok(None);
     }
     node_from(text, at, NodeKind::SimpleDeclaration, start, out)?;
@@ -131,19 +131,19 @@ fn ordinary_declaration(
 fn constructor_definition(
     text: &TypeNames,
     at: usize,
-    room: u32,
+    depth_left: u32,
     out: &mut Builder,
 ) -> Result<Option<usize>, AllocError>
-    requires here { at ≤ length text.now.symbols }
-    ensures { ParsedRule text.now constructor_definition at None out.old out.new result }
+    requires here { at ≤ length text.now.terminals }
+    ensures { ParsesLongest text.now constructor_definition at None out.old out.new result }
 {
     let start = out.checkpoint();
     let behind = optional_attribute(text, at, out)?;
     let named = optional_inline(text, behind, out)?;
-    let Some(body) = qualified_constructor(text, named, room, out)? else {
+    let Some(body) = qualified_constructor(text, named, depth_left, out)? else {
         return Ok(None);
     };
-    let Some(next) = constructor_body(text, body, room, out)? else {
+    let Some(next) = constructor_body(text, body, depth_left, out)? else {
         return Ok(None);
     };
     node_from(text, at, NodeKind::ConstructorDefinition, start, out)?;
@@ -154,11 +154,11 @@ fn constructor_definition(
 fn destructor_definition(
     text: &TypeNames,
     at: usize,
-    room: u32,
+    depth_left: u32,
     out: &mut Builder,
 ) -> Result<Option<usize>, AllocError>
-    requires here { at ≤ length text.now.symbols }
-    ensures { ParsedRule text.now destructor_definition at None out.old out.new result }
+    requires here { at ≤ length text.now.terminals }
+    ensures { ParsesLongest text.now destructor_definition at None out.old out.new result }
 {
     let start = out.checkpoint();
     let behind = optional_attribute(text, at, out)?;
@@ -166,7 +166,7 @@ fn destructor_definition(
     let Some(body) = qualified_destructor(text, named, out)? else {
         return Ok(None);
     };
-    let Some(next) = compound_statement(text, body, room, out)? else {
+    let Some(next) = compound_statement(text, body, depth_left, out)? else {
         return Ok(None);
     };
     node_from(text, at, NodeKind::DestructorDefinition, start, out)?;

@@ -17,7 +17,7 @@ pub mod parse;
 mod single_members;
 mod specifiers;
 pub mod statements;
-mod symbols;
+mod terminals;
 #[cfg(test)]
 mod tests;
 

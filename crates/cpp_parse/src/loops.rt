@@ -1,20 +1,21 @@
 //! Statements that are executed again and again: C++14 6.5.
 
 ghost use Rattle.std.specs.Prelude.{◌≡◌, ◌≤◌, true, length, Some, None};
-ghost use Rattle.cpp_syntax.specs.Source.{symbol_at};
-ghost use Rattle.cpp_syntax.specs.Symbols.{while_word, do_word, for_word};
-ghost use Rattle.cpp_syntax.specs.Rules.{form, for_init_statement};
+ghost use Rattle.cpp_syntax.specs.Source.{terminal_at};
+ghost use Rattle.cpp_syntax.specs.Terminals.{while_word, do_word, for_word, semicolon};
+ghost use Rattle.cpp_syntax.specs.Rules.{◌·◌, form, word, expression, for_init_statement};
 ghost use Rattle.cpp_syntax.specs.Grammar.{optional_expression};
-ghost use Rattle.cpp_syntax.specs.Parsed.{ParsedRule, AlwaysRule};
+ghost use Rattle.cpp_syntax.specs.Parsed.{ParsesLongest, ParsesAlways};
 ghost use Rattle.cpp_parse.specs.Lines.{while_statement, until, do_statement, for_rest, for_statement};
+ghost use Rattle.cpp_syntax.specs.declared.limits.TheConstants.{MAX_TOKENS};
 
 use crate::initializers::block_declaration;
-use crate::statements::{condition, statement};
+use crate::statements::{condition, note_declaration, statement};
 use cpp_ast::NodeKind;
 use cpp_parse_expr::expressions::expression;
 use cpp_syntax::read::node;
-use cpp_syntax::shapes::less_room;
-use cpp_syntax::{Builder, Symbol, TypeNames};
+use cpp_syntax::shapes::descend;
+use cpp_syntax::{Builder, Terminal, TypeNames};
 use std::alloc::AllocError;
 
 /// `while`: C++14 6.5.1.
@@ -22,16 +23,16 @@ use std::alloc::AllocError;
 pub fn while_statement(
     text: &TypeNames,
     at: usize,
-    room: u32,
+    depth_left: u32,
     out: &mut Builder,
 ) -> Result<Option<usize>, AllocError>
-    requires here { at ≤ length text.now.symbols }
-    requires begins { while_word (symbol_at text.now at) ≡ true }
-    requires few { length text.now.symbols ≤ 1048576 }
-    ensures { ParsedRule text.now while_statement at None out.old out.new result }
+    requires here { at ≤ length text.now.terminals }
+    requires begins { while_word (terminal_at text.now at) ≡ true }
+    requires few { length text.now.terminals ≤ MAX_TOKENS }
+    ensures { ParsesLongest text.now while_statement at None out.old out.new result }
 {
     let start = out.checkpoint();
-    let inner = less_room(room)?;
+    let inner = descend(depth_left)?;
     let Some(held) = condition(text, at + 1, inner, out)? else {
         return Ok(None);
     };
@@ -54,19 +55,19 @@ pub fn while_statement(
 pub fn do_statement(
     text: &TypeNames,
     at: usize,
-    room: u32,
+    depth_left: u32,
     out: &mut Builder,
 ) -> Result<Option<usize>, AllocError>
-    requires here { at ≤ length text.now.symbols }
-    requires begins { do_word (symbol_at text.now at) ≡ true }
-    requires few { length text.now.symbols ≤ 1048576 }
-    ensures { ParsedRule text.now do_statement at None out.old out.new result }
+    requires here { at ≤ length text.now.terminals }
+    requires begins { do_word (terminal_at text.now at) ≡ true }
+    requires few { length text.now.terminals ≤ MAX_TOKENS }
+    ensures { ParsesLongest text.now do_statement at None out.old out.new result }
 {
     let start = out.checkpoint();
-    let Some(behind) = statement(text, at + 1, less_room(room)?, out)? else {
+    let Some(behind) = statement(text, at + 1, descend(depth_left)?, out)? else {
         return Ok(None);
     };
-    let Some(next) = until(text, behind, room, out)? else {
+    let Some(next) = until(text, behind, depth_left, out)? else {
         return Ok(None);
     };
     node(text, at, NodeKind::DoStatement, Some(at as u32), start, out)?;
@@ -77,21 +78,21 @@ pub fn do_statement(
 fn until(
     text: &TypeNames,
     at: usize,
-    room: u32,
+    depth_left: u32,
     out: &mut Builder,
 ) -> Result<Option<usize>, AllocError>
-    requires here { at ≤ length text.now.symbols }
-    ensures { ParsedRule text.now until at None out.old out.new result }
+    requires here { at ≤ length text.now.terminals }
+    ensures { ParsesLongest text.now until at None out.old out.new result }
 {
-    if !text.is_at(at, Symbol::While) {
-        out.refuse(at);
+    if !text.is_at(at, Terminal::While) {
+        out.expected_at(at);
         return Ok(None);
     }
-    let Some(close) = condition(text, at + 1, room, out)? else {
+    let Some(close) = condition(text, at + 1, depth_left, out)? else {
         return Ok(None);
     };
-    if !text.is_at(close, Symbol::Semicolon) {
-        out.refuse(close);
+    if !text.is_at(close, Terminal::Semicolon) {
+        out.expected_at(close);
         return Ok(None);
     }
     Ok(Some(close + 1))
@@ -102,20 +103,20 @@ fn until(
 pub fn for_statement(
     text: &TypeNames,
     at: usize,
-    room: u32,
+    depth_left: u32,
     out: &mut Builder,
 ) -> Result<Option<usize>, AllocError>
-    requires here { at ≤ length text.now.symbols }
-    requires begins { for_word (symbol_at text.now at) ≡ true }
-    requires few { length text.now.symbols ≤ 1048576 }
-    ensures { ParsedRule text.now for_statement at None out.old out.new result }
+    requires here { at ≤ length text.now.terminals }
+    requires begins { for_word (terminal_at text.now at) ≡ true }
+    requires few { length text.now.terminals ≤ MAX_TOKENS }
+    ensures { ParsesLongest text.now for_statement at None out.old out.new result }
 {
-    if !text.is_at(at + 1, Symbol::OpenParen) {
-        out.refuse(at + 1);
+    if !text.is_at(at + 1, Terminal::OpenParen) {
+        out.expected_at(at + 1);
         return Ok(None);
     }
     let start = out.checkpoint();
-    let inner = less_room(room)?;
+    let inner = descend(depth_left)?;
     let Some(first) = for_init_statement(text, at + 2, inner, out)? else {
         return Ok(None);
     };
@@ -137,24 +138,41 @@ pub fn for_statement(
 fn for_init_statement(
     text: &TypeNames,
     at: usize,
-    room: u32,
+    depth_left: u32,
     out: &mut Builder,
 ) -> Result<Option<usize>, AllocError>
-    requires here { at ≤ length text.now.symbols }
-    ensures { ParsedRule text.now (form for_init_statement) at None out.old out.new result }
+    requires here { at ≤ length text.now.terminals }
+    ensures { ParsesLongest text.now (form for_init_statement) at None out.old out.new result }
 {
-    if text.is_at(at, Symbol::Semicolon) {
-        out.leaf(NodeKind::Absent, text.place(at), None)?;
+    if text.is_at(at, Terminal::Semicolon) {
+        out.leaf(NodeKind::Absent, text.position(at), None)?;
         return Ok(Some(at + 1));
     }
-    if text.sees_declaration(at, room)? {
-        return block_declaration(text, at, room, out);
+    if text.lookahead_declaration(at, depth_left)? {
+        return block_declaration(text, at, depth_left, out);
     }
-    let Some(close) = expression(text, at, room, out)? else {
+    let Some(next) = expression_and_semicolon(text, at, depth_left, out)? else {
+        note_declaration(text, at, depth_left, out)?;
         return Ok(None);
     };
-    if !text.is_at(close, Symbol::Semicolon) {
-        out.refuse(close);
+    Ok(Some(next))
+}
+
+/// An expression and `;`.
+fn expression_and_semicolon(
+    text: &TypeNames,
+    at: usize,
+    depth_left: u32,
+    out: &mut Builder,
+) -> Result<Option<usize>, AllocError>
+    requires here { at ≤ length text.now.terminals }
+    ensures { ParsesLongest text.now (form expression · word semicolon) at None out.old out.new result }
+{
+    let Some(close) = expression(text, at, depth_left, out)? else {
+        return Ok(None);
+    };
+    if !text.is_at(close, Terminal::Semicolon) {
+        out.expected_at(close);
         return Ok(None);
     }
     Ok(Some(close + 1))
@@ -165,39 +183,39 @@ fn for_init_statement(
 fn for_rest(
     text: &TypeNames,
     at: usize,
-    room: u32,
+    depth_left: u32,
     out: &mut Builder,
 ) -> Result<Option<usize>, AllocError>
-    requires here { at ≤ length text.now.symbols }
-    ensures { ParsedRule text.now for_rest at None out.old out.new result }
+    requires here { at ≤ length text.now.terminals }
+    ensures { ParsesLongest text.now for_rest at None out.old out.new result }
 {
-    let middle = optional_expression(text, at, room, out)?;
-    if !text.is_at(middle, Symbol::Semicolon) {
-        out.refuse(middle);
+    let middle = optional_expression(text, at, depth_left, out)?;
+    if !text.is_at(middle, Terminal::Semicolon) {
+        out.expected_at(middle);
         return Ok(None);
     }
-    let close = optional_expression(text, middle + 1, room, out)?;
-    if !text.is_at(close, Symbol::CloseParen) {
-        out.refuse(close);
+    let close = optional_expression(text, middle + 1, depth_left, out)?;
+    if !text.is_at(close, Terminal::CloseParen) {
+        out.expected_at(close);
         return Ok(None);
     }
-    statement(text, close + 1, room, out)
+    statement(text, close + 1, depth_left, out)
 }
 
 /// An expression, or a node that says that there is none.
 fn optional_expression(
     text: &TypeNames,
     at: usize,
-    room: u32,
+    depth_left: u32,
     out: &mut Builder,
 ) -> Result<usize, AllocError>
-    requires here { at ≤ length text.now.symbols }
-    ensures { AlwaysRule text.now optional_expression at None out.old out.new result }
+    requires here { at ≤ length text.now.terminals }
+    ensures { ParsesAlways text.now optional_expression at None out.old out.new result }
 {
     let mark = out.checkpoint();
-    let Some(next) = expression(text, at, room, out)? else {
+    let Some(next) = expression(text, at, depth_left, out)? else {
         out.cut(mark);
-        out.leaf(NodeKind::Absent, text.place(at), None)?;
+        out.leaf(NodeKind::Absent, text.position(at), None)?;
         return Ok(at);
     };
     Ok(next)

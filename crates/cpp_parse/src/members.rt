@@ -1,10 +1,10 @@
 //! Members of a class: C++14 clause 9.
 
 ghost use Rattle.std.specs.Prelude.{◌≡◌, ◌≤◌, true, false, length, Some, None};
-ghost use Rattle.cpp_syntax.specs.Source.{symbol_at};
-ghost use Rattle.cpp_syntax.specs.Lookahead.{begins_types};
+ghost use Rattle.cpp_syntax.specs.Source.{terminal_at};
+ghost use Rattle.cpp_syntax.specs.FirstSets.{first_of_types};
 ghost use Rattle.cpp_syntax.specs.Rules.{◌∣◌, form, member_declaration};
-ghost use Rattle.cpp_syntax.specs.Parsed.{ParsedRule, NoneOf};
+ghost use Rattle.cpp_syntax.specs.Parsed.{ParsesLongest, NoneOf};
 ghost use Rattle.cpp_parse.specs.Alternatives.{access_label, single_declaration, initialized_declaration, listed_declaration, member_function, constructor_declared, constructor_defined, destructor_declared, destructor_defined};
 ghost use Rattle.cpp_parse.specs.Answers.{ShapeFound, IsConstructor, IsDestructor, ParametersSeen};
 
@@ -17,13 +17,13 @@ use crate::specifiers::{
     virt_specifiers,
 };
 use crate::statements::compound_statement;
-use crate::symbols::{begins_types_at, is_access_at};
+use crate::terminals::{begins_type_at, is_access_at};
 use cpp_ast::NodeKind;
 use cpp_parse_expr::declarators::declarator;
 use cpp_parse_expr::expressions::assignment_expression;
 use cpp_parse_expr::types::type_specifier_seq;
 use cpp_syntax::read::node;
-use cpp_syntax::{Builder, Naming, Symbol, TypeNames};
+use cpp_syntax::{Builder, Naming, Terminal, TypeNames};
 use std::alloc::AllocError;
 
 /// What a member is that begins with its type.
@@ -43,39 +43,39 @@ pub enum MemberShape {
 pub fn member_declaration(
     text: &TypeNames,
     at: usize,
-    room: u32,
+    depth_left: u32,
     out: &mut Builder,
 ) -> Result<Option<usize>, AllocError>
-    requires here { at ≤ length text.now.symbols }
-    ensures { ParsedRule text.now (form member_declaration) at None out.old out.new result }
+    requires here { at ≤ length text.now.terminals }
+    ensures { ParsesLongest text.now (form member_declaration) at None out.old out.new result }
 {
     if is_access_at(text, at) {
         return access_label(text, at, out);
     }
     if is_destructor(text, at) {
-        return destructor(text, at, room, out);
+        return destructor(text, at, depth_left, out);
     }
     if is_constructor(text, at) {
-        return constructor(text, at, room, out);
+        return constructor(text, at, depth_left, out);
     }
-    if begins_types_at(text, at) {
-        return typed_member(text, at, room, out);
+    if begins_type_at(text, at) {
+        return typed_member(text, at, depth_left, out);
     }
-    specified_member(text, at, room, out)
+    specified_member(text, at, depth_left, out)
 }
 
 /// `public:`, `protected:` or `private:`.
 fn access_label(text: &TypeNames, at: usize, out: &mut Builder) -> Result<Option<usize>, AllocError>
-    requires here { at ≤ length text.now.symbols }
-    ensures { ParsedRule text.now access_label at None out.old out.new result }
+    requires here { at ≤ length text.now.terminals }
+    ensures { ParsesLongest text.now access_label at None out.old out.new result }
 {
     if !is_access_at(text, at) {
-        out.refuse(at);
+        out.expected_at(at);
         return Ok(None);
     }
     let colon = at + 1;
-    if !text.is_at(colon, Symbol::Colon) {
-        out.refuse(colon);
+    if !text.is_at(colon, Terminal::Colon) {
+        out.expected_at(colon);
         return Ok(None);
     }
     let start = out.checkpoint();
@@ -87,21 +87,21 @@ fn access_label(text: &TypeNames, at: usize, out: &mut Builder) -> Result<Option
 fn is_destructor(text: &TypeNames, at: usize) -> bool
     ensures { IsDestructor text.now at result }
 {
-    if text.is_at(at, Symbol::Virtual) {
-        return text.is_at(at + 1, Symbol::Tilde);
+    if text.is_at(at, Terminal::Virtual) {
+        return text.is_at(at + 1, Terminal::Tilde);
     }
-    text.is_at(at, Symbol::Tilde)
+    text.is_at(at, Terminal::Tilde)
 }
 
 /// A destructor, declared or defined.
 fn destructor(
     text: &TypeNames,
     at: usize,
-    room: u32,
+    depth_left: u32,
     out: &mut Builder,
 ) -> Result<Option<usize>, AllocError>
-    requires here { at ≤ length text.now.symbols }
-    ensures { ParsedRule text.now (destructor_declared ∣ destructor_defined) at None out.old out.new result }
+    requires here { at ≤ length text.now.terminals }
+    ensures { ParsesLongest text.now (destructor_declared ∣ destructor_defined) at None out.old out.new result }
 {
     let start = out.checkpoint();
     let named = optional_virtual(text, at, out)?;
@@ -109,11 +109,11 @@ fn destructor(
         return Ok(None);
     };
     let end = virt_specifiers(text, behind, out)?;
-    if text.is_at(end, Symbol::Semicolon) {
+    if text.is_at(end, Terminal::Semicolon) {
         node_from(text, at, NodeKind::DestructorDeclaration, start, out)?;
         return Ok(Some(end + 1));
     }
-    let Some(next) = compound_statement(text, end, room, out)? else {
+    let Some(next) = compound_statement(text, end, depth_left, out)? else {
         return Ok(None);
     };
     node_from(text, at, NodeKind::DestructorDefinition, start, out)?;
@@ -123,57 +123,57 @@ fn destructor(
 /// Whether a member is a constructor: behind an attribute, `explicit`, or `T` with what parameters begin with in
 /// parentheses.
 fn is_constructor(text: &TypeNames, at: usize) -> bool
-    requires here { at ≤ length text.now.symbols }
+    requires here { at ≤ length text.now.terminals }
     ensures { IsConstructor text.now at result }
 {
     let named = attribute_end(text, at);
-    if text.is_at(named, Symbol::Explicit) {
+    if text.is_at(named, Terminal::Explicit) {
         return true;
     }
-    if !text.is_at(named, Symbol::TypeName) {
+    if !text.is_at(named, Terminal::TypeName) {
         return false;
     }
     let open = named + 1;
-    if !text.is_at(open, Symbol::OpenParen) {
+    if !text.is_at(open, Terminal::OpenParen) {
         return false;
     }
     begins_parameters(text, open + 1)
 }
 
-/// Whether parameters or `)` begin at a place, and no declarator that names something does.
+/// Whether parameters or `)` begin at an index, and no declarator that names something does.
 fn begins_parameters(text: &TypeNames, at: usize) -> bool
     ensures { ParametersSeen text.now at result }
 {
-    if text.is_at(at, Symbol::CloseParen) {
+    if text.is_at(at, Terminal::CloseParen) {
         return true;
     }
-    if text.is_at(at, Symbol::TypeName) {
-        return !text.is_at(at + 1, Symbol::ColonColon);
+    if text.is_at(at, Terminal::TypeName) {
+        return !text.is_at(at + 1, Terminal::ColonColon);
     }
-    begins_types_at(text, at)
+    begins_type_at(text, at)
 }
 
 /// A constructor, declared or defined.
 fn constructor(
     text: &TypeNames,
     at: usize,
-    room: u32,
+    depth_left: u32,
     out: &mut Builder,
 ) -> Result<Option<usize>, AllocError>
-    requires here { at ≤ length text.now.symbols }
-    ensures { ParsedRule text.now (constructor_declared ∣ constructor_defined) at None out.old out.new result }
+    requires here { at ≤ length text.now.terminals }
+    ensures { ParsesLongest text.now (constructor_declared ∣ constructor_defined) at None out.old out.new result }
 {
     let start = out.checkpoint();
     let behind = optional_attribute(text, at, out)?;
     let named = optional_explicit(text, behind, out)?;
-    let Some(end) = plain_constructor(text, named, room, out)? else {
+    let Some(end) = plain_constructor(text, named, depth_left, out)? else {
         return Ok(None);
     };
-    if text.is_at(end, Symbol::Semicolon) {
+    if text.is_at(end, Terminal::Semicolon) {
         node_from(text, at, NodeKind::ConstructorDeclaration, start, out)?;
         return Ok(Some(end + 1));
     }
-    let Some(next) = constructor_body(text, end, room, out)? else {
+    let Some(next) = constructor_body(text, end, depth_left, out)? else {
         return Ok(None);
     };
     node_from(text, at, NodeKind::ConstructorDefinition, start, out)?;
@@ -184,21 +184,21 @@ fn constructor(
 fn typed_member(
     text: &TypeNames,
     at: usize,
-    room: u32,
+    depth_left: u32,
     out: &mut Builder,
 ) -> Result<Option<usize>, AllocError>
-    requires here { at ≤ length text.now.symbols }
-    requires begins { begins_types (symbol_at text.now at) ≡ true }
-    ensures { ParsedRule text.now (single_declaration ∣ initialized_declaration ∣ listed_declaration ∣ member_function) at None out.old out.new result }
+    requires here { at ≤ length text.now.terminals }
+    requires begins { first_of_types (terminal_at text.now at) ≡ true }
+    ensures { ParsesLongest text.now (single_declaration ∣ initialized_declaration ∣ listed_declaration ∣ member_function) at None out.old out.new result }
 {
     let start = out.checkpoint();
-    let shape = member_shape(text, at, room, out)?;
+    let shape = member_shape(text, at, depth_left, out)?;
     out.cut(start);
     match shape {
-        MemberShape::Function => member_function(text, at, room, out),
-        MemberShape::Single => single_declaration(text, at, room, out),
-        MemberShape::Initialized => initialized_declaration(text, at, room, out),
-        MemberShape::Listed => listed_declaration(text, at, room, out),
+        MemberShape::Function => member_function(text, at, depth_left, out),
+        MemberShape::Single => single_declaration(text, at, depth_left, out),
+        MemberShape::Initialized => initialized_declaration(text, at, depth_left, out),
+        MemberShape::Listed => listed_declaration(text, at, depth_left, out),
     }
 }
 
@@ -206,66 +206,66 @@ fn typed_member(
 fn specified_member(
     text: &TypeNames,
     at: usize,
-    room: u32,
+    depth_left: u32,
     out: &mut Builder,
 ) -> Result<Option<usize>, AllocError>
-    requires here { at ≤ length text.now.symbols }
-    ensures { ParsedRule text.now (single_declaration ∣ member_function) at None out.old out.new result }
+    requires here { at ≤ length text.now.terminals }
+    ensures { ParsesLongest text.now (single_declaration ∣ member_function) at None out.old out.new result }
 {
     let start = out.checkpoint();
     let behind = optional_attribute(text, at, out)?;
     let typed = optional_virtual(text, behind, out)?;
-    if text.is_at(typed, Symbol::Inline) {
+    if text.is_at(typed, Terminal::Inline) {
         out.cut(start);
-        return member_function(text, at, room, out);
+        return member_function(text, at, depth_left, out);
     }
-    let shape = member_shape(text, typed, room, out)?;
+    let shape = member_shape(text, typed, depth_left, out)?;
     out.cut(start);
     match shape {
-        MemberShape::Function => member_function(text, at, room, out),
+        MemberShape::Function => member_function(text, at, depth_left, out),
         MemberShape::Single | MemberShape::Initialized | MemberShape::Listed => {
-            single_declaration(text, at, room, out)
+            single_declaration(text, at, depth_left, out)
         }
     }
 }
 
-/// What a member is whose type begins at a place, by what stands behind its first declarator.
+/// What a member is whose type begins at an index, by what stands behind its first declarator.
 fn member_shape(
     text: &TypeNames,
     at: usize,
-    room: u32,
+    depth_left: u32,
     out: &mut Builder,
 ) -> Result<MemberShape, AllocError>
-    requires here { at ≤ length text.now.symbols }
+    requires here { at ≤ length text.now.terminals }
     ensures { ShapeFound text.now at out.old out.new result }
 {
-    let Some(named) = type_specifier_seq(text, at, room, out)? else {
+    let Some(named) = type_specifier_seq(text, at, depth_left, out)? else {
         return Ok(MemberShape::Single);
     };
-    let Some(behind) = declarator(text, named, Naming::Named, room, out)? else {
+    let Some(behind) = declarator(text, named, Naming::Named, depth_left, out)? else {
         return Ok(MemberShape::Single);
     };
-    if text.is_at(behind, Symbol::Comma) {
+    if text.is_at(behind, Terminal::Comma) {
         return Ok(MemberShape::Listed);
     }
-    if !text.is_at(behind, Symbol::Equal) {
+    if !text.is_at(behind, Terminal::Equal) {
         let body = virt_specifiers(text, behind, out)?;
-        if text.is_at(body, Symbol::OpenBrace) {
+        if text.is_at(body, Terminal::OpenBrace) {
             return Ok(MemberShape::Function);
         }
         return Ok(MemberShape::Single);
     }
     let value = behind + 1;
-    let Some(end) = assignment_expression(text, value, room, out)? else {
+    let Some(end) = assignment_expression(text, value, depth_left, out)? else {
         return Ok(MemberShape::Single);
     };
-    if text.is_at(end, Symbol::Comma) {
+    if text.is_at(end, Terminal::Comma) {
         return Ok(MemberShape::Listed);
     }
-    if !text.is_at(value, Symbol::Zero) {
+    if !text.is_at(value, Terminal::Zero) {
         return Ok(MemberShape::Initialized);
     }
-    if !text.is_at(value + 1, Symbol::Semicolon) {
+    if !text.is_at(value + 1, Terminal::Semicolon) {
         return Ok(MemberShape::Initialized);
     }
     Ok(MemberShape::Single)

@@ -5,29 +5,20 @@ ghost use Rattle.cpp_lex.specs.Tokens.{lexeme_of, lexemes_of};
 ghost use Rattle.cpp_syntax.specs.Classes.{source_of};
 ghost use Rattle.cpp_parse.specs.Units.{ParsesUnit};
 ghost use Rattle.cpp_parse.specs.Steps.{ReadsDeclarations, ReadsWhole, AnswersUnit, IsWholeRead};
+ghost use Rattle.cpp_syntax.specs.declared.limits.TheConstants.{MAX_TOKENS};
 
 use crate::bodies::read_bodies;
 use crate::declarations::translation_unit;
 use crate::depth::{bodies_by_node, first_deep_kid};
+use crate::statements::compound_statement;
 use cpp_ast::{LamBody, NodeId, Nodes, Unit};
 use cpp_lex::{Token, Tokens};
 use cpp_parse_expr::ParseFault;
 use cpp_parse_expr::parse::token_at;
-use cpp_syntax::{Builder, OpenBody, Parts, TypeNames};
+use cpp_syntax::limits::{MAX_DEPTH, MAX_NESTED_BODIES, MAX_NESTED_CALLS, MAX_NESTED_SEARCHES};
+use cpp_syntax::{Builder, OpenBody, Parts, Terminal, TypeNames};
 use std::alloc::{AllocError, Global};
 use std::mem;
-
-/// How many calls may be nested.
-const ROOM: u32 = 500;
-
-/// How many lambdas may be nested, so that the machine's own stack is never used up.
-const BODY_ROOM: u32 = 500;
-
-/// How far the calls that look for a node that nests too deep may be nested.
-const DEPTH_ROOM: u32 = 10_000;
-
-/// How deep a unit may nest.
-const DEEPEST: u32 = 200;
 
 /// What the declarations of a unit were read as.
 #[derive(Drop)]
@@ -68,7 +59,7 @@ enum Answer {
 }
 
 /// The one unit of the tokens of a source, of which there are at most 1,048,576: C++14 annex A cut to the language, with the
-/// blocks of ISO/IEC TS 19841:2015. `source` is the number that the places of its nodes have.
+/// blocks of ISO/IEC TS 19841:2015. `source` is the number that the positions of its nodes have.
 ///
 /// Its trees are those of the grammar ([`cpp_syntax`]): its declarations, with the body of each lambda as its last kid.
 ///
@@ -76,7 +67,7 @@ enum Answer {
 /// of the text. `Nesting` comes exactly where they are a unit that nests deeper than 200; its token is that of the first node that does.
 /// `Memory` comes where memory ran out, or where the text nests further than calls may be nested.
 pub fn parse_unit(alloc: Global, source: u32, tokens: &Tokens) -> Result<Unit, ParseFault>
-    requires { length tokens.now.items.items ≤ 1048576 }
+    requires { length tokens.now.items.items ≤ MAX_TOKENS }
     ensures { ParsesUnit source (lexemes_of tokens.now) result }
 {
     match answer_unit(alloc, source, tokens) {
@@ -89,7 +80,7 @@ pub fn parse_unit(alloc: Global, source: u32, tokens: &Tokens) -> Result<Unit, P
 
 /// Reads a unit, and measures it.
 fn answer_unit(alloc: Global, source: u32, tokens: &Tokens) -> Result<Answer, AllocError>
-    requires { length tokens.now.items.items ≤ 1048576 }
+    requires { length tokens.now.items.items ≤ MAX_TOKENS }
     ensures { AnswersUnit source (lexemes_of tokens.now) result }
 {
     let types = TypeNames::of(alloc, source, tokens)?;
@@ -107,7 +98,14 @@ fn read_whole(alloc: Global, types: &TypeNames) -> Result<Reading, AllocError>
     match read_declarations(alloc, types, &mut nodes)? {
         Declarations::Read { decls, bodies } => {
             let mut noted = Vec::new(alloc);
-            match read_bodies(alloc, types, &bodies, BODY_ROOM, &mut nodes, &mut noted)? {
+            match read_bodies(
+                alloc,
+                types,
+                &bodies,
+                MAX_NESTED_BODIES,
+                &mut nodes,
+                &mut noted,
+            )? {
                 None => Ok(Reading::Read(Whole {
                     nodes,
                     decls,
@@ -116,8 +114,46 @@ fn read_whole(alloc: Global, types: &TypeNames) -> Result<Reading, AllocError>
                 Some(token) => Ok(Reading::Refused { token }),
             }
         }
-        Declarations::Refused { token } => Ok(Reading::Refused { token }),
+        Declarations::Refused { token } => {
+            let token = furthest_token(alloc, types, token)?;
+            Ok(Reading::Refused { token })
+        }
     }
+}
+
+/// The token up to which the tokens could be a unit, where readers came to one: in the body of a lambda whose brackets do
+/// not match, which they leave unread, that is the one to which its statements lead.
+fn furthest_token(alloc: Global, types: &TypeNames, token: u32) -> Result<u32, AllocError>
+    requires { token ≤ length types.now.terminals }
+    ensures { IfOk result (λ furthest. furthest ≤ length types.now.terminals) }
+{
+    let mut furthest = token;
+    'bodies: for _ in 0..types.len() {
+        let next = furthest_in_body(alloc, types, furthest)?;
+        if next == furthest {
+            return Ok(furthest);
+        }
+        furthest = next;
+    }
+    Ok(furthest)
+}
+
+/// The token to which statements in braces lead from a token on, where the braces do not match, and else that token.
+fn furthest_in_body(alloc: Global, types: &TypeNames, token: u32) -> Result<u32, AllocError>
+    requires { token ≤ length types.now.terminals }
+    ensures { IfOk result (λ furthest. furthest ≤ length types.now.terminals) }
+{
+    let at = token as usize;
+    if !types.is_at(at, Terminal::OpenBrace) {
+        return Ok(token);
+    }
+    if types.partner(at).is_some() {
+        return Ok(token);
+    }
+    let mut out = Builder::over(alloc, Nodes::new(alloc));
+    compound_statement(types, at, MAX_NESTED_CALLS, &mut out)?;
+    let furthest = out.furthest_failure().max(at).min(types.len());
+    Ok(furthest as u32)
 }
 
 /// Reads all tokens as declarations.
@@ -130,8 +166,8 @@ fn read_declarations(
 {
     let len = types.len();
     let mut out = Builder::over(alloc, mem::replace(nodes, Nodes::new(alloc)));
-    let read = translation_unit(types, 0, ROOM, &mut out);
-    let reached = out.reached();
+    let read = translation_unit(types, 0, MAX_NESTED_CALLS, &mut out);
+    let furthest_failure = out.furthest_failure();
     let Parts {
         nodes: grown,
         roots,
@@ -146,7 +182,7 @@ fn read_declarations(
                     bodies,
                 })
             } else {
-                let token = reached.max(next).min(len) as u32;
+                let token = furthest_failure.max(next).min(len) as u32;
                 Ok(Declarations::Refused { token })
             }
         }
@@ -167,15 +203,15 @@ fn measure(
     ensures { AnswersUnit source (lexemes_of tokens.now) result }
 {
     let noted = bodies_by_node(alloc, &whole.nodes, &whole.bodies)?;
-    if let Some(place) = first_deep_kid(
+    if let Some(position) = first_deep_kid(
         &whole.nodes,
         &noted,
         &whole.decls,
         1,
-        DEEPEST,
-        DEPTH_ROOM,
+        MAX_DEPTH,
+        MAX_NESTED_SEARCHES,
     )? {
-        let token = token_at(types, place);
+        let token = token_at(types, position);
         return Ok(Answer::TooDeep { token });
     }
     let tokens = copy_of(alloc, tokens)?;

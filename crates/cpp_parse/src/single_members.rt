@@ -2,11 +2,11 @@
 
 ghost use Rattle.std.specs.Prelude.{◌≡◌, ◌≤◌, not, length, Some, None, Ok};
 ghost use Rattle.cpp_ast.specs.declared.kinds.NodeKind.TheVariants.{EqualInitializer};
-ghost use Rattle.cpp_syntax.specs.Symbols.{semicolon};
+ghost use Rattle.cpp_syntax.specs.Terminals.{semicolon};
 ghost use Rattle.cpp_syntax.specs.Rules.{form, node, optional, word, member_declarator, initialized_member, listed_member};
 ghost use Rattle.cpp_syntax.specs.Types.{is_not_zero};
-ghost use Rattle.cpp_syntax.specs.View.{Building};
-ghost use Rattle.cpp_syntax.specs.Parsed.{ParsedRule, AlwaysRule};
+ghost use Rattle.cpp_syntax.specs.View.{BuilderState};
+ghost use Rattle.cpp_syntax.specs.Parsed.{ParsesLongest, ParsesAlways};
 ghost use Rattle.cpp_parse.specs.Alternatives.{single_declaration, initialized_declaration, listed_declaration, more_members, member_function, member_function_alone, pure_specifier, value, value_but_zero};
 
 use crate::specifiers::{
@@ -19,15 +19,15 @@ use cpp_parse_expr::declarators::declarator;
 use cpp_parse_expr::expressions::assignment_expression;
 use cpp_parse_expr::types::type_specifier_seq;
 use cpp_syntax::read::{leaf, node, node_at_name};
-use cpp_syntax::{Builder, Naming, Symbol, TypeNames};
+use cpp_syntax::{Builder, Naming, Terminal, TypeNames};
 use std::alloc::AllocError;
 
-/// The place behind a semicolon, if one stands at a place.
+/// The index behind a semicolon, if one stands at an index.
 pub fn semicolon_end(text: &TypeNames, at: usize) -> usize
-    requires here { at ≤ length text.now.symbols }
-    ensures { (old : Building) → AlwaysRule text.now (optional (word semicolon)) at None old old (Ok result) }
+    requires here { at ≤ length text.now.terminals }
+    ensures { (old : BuilderState) → ParsesAlways text.now (optional (word semicolon)) at None old old (Ok result) }
 {
-    if text.is_at(at, Symbol::Semicolon) {
+    if text.is_at(at, Terminal::Semicolon) {
         return at + 1;
     }
     at
@@ -37,13 +37,13 @@ pub fn semicolon_end(text: &TypeNames, at: usize) -> usize
 pub fn member_function(
     text: &TypeNames,
     at: usize,
-    room: u32,
+    depth_left: u32,
     out: &mut Builder,
 ) -> Result<Option<usize>, AllocError>
-    requires here { at ≤ length text.now.symbols }
-    ensures { ParsedRule text.now member_function at None out.old out.new result }
+    requires here { at ≤ length text.now.terminals }
+    ensures { ParsesLongest text.now member_function at None out.old out.new result }
 {
-    let Some(next) = member_function_alone(text, at, room, out)? else {
+    let Some(next) = member_function_alone(text, at, depth_left, out)? else {
         return Ok(None);
     };
     Ok(Some(semicolon_end(text, next)))
@@ -53,24 +53,24 @@ pub fn member_function(
 fn member_function_alone(
     text: &TypeNames,
     at: usize,
-    room: u32,
+    depth_left: u32,
     out: &mut Builder,
 ) -> Result<Option<usize>, AllocError>
-    requires here { at ≤ length text.now.symbols }
-    ensures { ParsedRule text.now member_function_alone at None out.old out.new result }
+    requires here { at ≤ length text.now.terminals }
+    ensures { ParsesLongest text.now member_function_alone at None out.old out.new result }
 {
     let start = out.checkpoint();
     let behind = optional_attribute(text, at, out)?;
     let changed = optional_virtual(text, behind, out)?;
     let typed = optional_inline(text, changed, out)?;
-    let Some(named) = type_specifier_seq(text, typed, room, out)? else {
+    let Some(named) = type_specifier_seq(text, typed, depth_left, out)? else {
         return Ok(None);
     };
-    let Some(end) = declarator(text, named, Naming::Named, room, out)? else {
+    let Some(end) = declarator(text, named, Naming::Named, depth_left, out)? else {
         return Ok(None);
     };
     let body = virt_specifiers(text, end, out)?;
-    let Some(next) = compound_statement(text, body, room, out)? else {
+    let Some(next) = compound_statement(text, body, depth_left, out)? else {
         return Ok(None);
     };
     node_from(text, at, NodeKind::FunctionDefinition, start, out)?;
@@ -81,23 +81,23 @@ fn member_function_alone(
 pub fn single_declaration(
     text: &TypeNames,
     at: usize,
-    room: u32,
+    depth_left: u32,
     out: &mut Builder,
 ) -> Result<Option<usize>, AllocError>
-    requires here { at ≤ length text.now.symbols }
-    ensures { ParsedRule text.now single_declaration at None out.old out.new result }
+    requires here { at ≤ length text.now.terminals }
+    ensures { ParsesLongest text.now single_declaration at None out.old out.new result }
 {
     let start = out.checkpoint();
     let behind = optional_attribute(text, at, out)?;
     let typed = optional_virtual(text, behind, out)?;
-    let Some(named) = type_specifier_seq(text, typed, room, out)? else {
+    let Some(named) = type_specifier_seq(text, typed, depth_left, out)? else {
         return Ok(None);
     };
-    let Some(end) = member_declarator(text, named, room, out)? else {
+    let Some(end) = member_declarator(text, named, depth_left, out)? else {
         return Ok(None);
     };
-    if !text.is_at(end, Symbol::Semicolon) {
-        out.refuse(end);
+    if !text.is_at(end, Terminal::Semicolon) {
+        out.expected_at(end);
         return Ok(None);
     }
     node_from(text, at, NodeKind::MemberDeclaration, start, out)?;
@@ -108,21 +108,21 @@ pub fn single_declaration(
 pub fn initialized_declaration(
     text: &TypeNames,
     at: usize,
-    room: u32,
+    depth_left: u32,
     out: &mut Builder,
 ) -> Result<Option<usize>, AllocError>
-    requires here { at ≤ length text.now.symbols }
-    ensures { ParsedRule text.now initialized_declaration at None out.old out.new result }
+    requires here { at ≤ length text.now.terminals }
+    ensures { ParsesLongest text.now initialized_declaration at None out.old out.new result }
 {
     let start = out.checkpoint();
-    let Some(named) = type_specifier_seq(text, at, room, out)? else {
+    let Some(named) = type_specifier_seq(text, at, depth_left, out)? else {
         return Ok(None);
     };
-    let Some(end) = initialized_member(text, named, room, out)? else {
+    let Some(end) = initialized_member(text, named, depth_left, out)? else {
         return Ok(None);
     };
-    if !text.is_at(end, Symbol::Semicolon) {
-        out.refuse(end);
+    if !text.is_at(end, Terminal::Semicolon) {
+        out.expected_at(end);
         return Ok(None);
     }
     node_from(text, at, NodeKind::MemberDeclaration, start, out)?;
@@ -133,24 +133,24 @@ pub fn initialized_declaration(
 pub fn listed_declaration(
     text: &TypeNames,
     at: usize,
-    room: u32,
+    depth_left: u32,
     out: &mut Builder,
 ) -> Result<Option<usize>, AllocError>
-    requires here { at ≤ length text.now.symbols }
-    ensures { ParsedRule text.now listed_declaration at None out.old out.new result }
+    requires here { at ≤ length text.now.terminals }
+    ensures { ParsesLongest text.now listed_declaration at None out.old out.new result }
 {
     let start = out.checkpoint();
-    let Some(named) = type_specifier_seq(text, at, room, out)? else {
+    let Some(named) = type_specifier_seq(text, at, depth_left, out)? else {
         return Ok(None);
     };
-    let Some(behind) = listed_member(text, named, room, out)? else {
+    let Some(behind) = listed_member(text, named, depth_left, out)? else {
         return Ok(None);
     };
-    let Some(end) = more_members(text, behind, room, out)? else {
+    let Some(end) = more_members(text, behind, depth_left, out)? else {
         return Ok(None);
     };
-    if !text.is_at(end, Symbol::Semicolon) {
-        out.refuse(end);
+    if !text.is_at(end, Terminal::Semicolon) {
+        out.expected_at(end);
         return Ok(None);
     }
     node_from(text, at, NodeKind::MemberDeclaration, start, out)?;
@@ -161,23 +161,23 @@ pub fn listed_declaration(
 fn more_members(
     text: &TypeNames,
     at: usize,
-    room: u32,
+    depth_left: u32,
     out: &mut Builder,
 ) -> Result<Option<usize>, AllocError>
-    requires here { at ≤ length text.now.symbols }
-    ensures { ParsedRule text.now more_members at None out.old out.new result }
+    requires here { at ≤ length text.now.terminals }
+    ensures { ParsesLongest text.now more_members at None out.old out.new result }
 {
-    if !text.is_at(at, Symbol::Comma) {
-        out.refuse(at);
+    if !text.is_at(at, Terminal::Comma) {
+        out.expected_at(at);
         return Ok(None);
     }
-    let Some(first) = listed_member(text, at + 1, room, out)? else {
+    let Some(first) = listed_member(text, at + 1, depth_left, out)? else {
         return Ok(None);
     };
     let mut next = first;
-    'items: while text.is_at(next, Symbol::Comma) {
+    'items: while text.is_at(next, Terminal::Comma) {
         let mark = out.checkpoint();
-        let Some(behind) = listed_member(text, next + 1, room, out)? else {
+        let Some(behind) = listed_member(text, next + 1, depth_left, out)? else {
             out.cut(mark);
             return Ok(Some(next));
         };
@@ -190,14 +190,14 @@ fn more_members(
 fn member_declarator(
     text: &TypeNames,
     at: usize,
-    room: u32,
+    depth_left: u32,
     out: &mut Builder,
 ) -> Result<Option<usize>, AllocError>
-    requires here { at ≤ length text.now.symbols }
-    ensures { ParsedRule text.now (form member_declarator) at None out.old out.new result }
+    requires here { at ≤ length text.now.terminals }
+    ensures { ParsesLongest text.now (form member_declarator) at None out.old out.new result }
 {
     let start = out.checkpoint();
-    let Some(behind) = declarator(text, at, Naming::Named, room, out)? else {
+    let Some(behind) = declarator(text, at, Naming::Named, depth_left, out)? else {
         return Ok(None);
     };
     let name = declared_token(start, out);
@@ -209,14 +209,14 @@ fn member_declarator(
 
 /// `= 0`, or nothing.
 fn optional_pure(text: &TypeNames, at: usize, out: &mut Builder) -> Result<usize, AllocError>
-    requires here { at ≤ length text.now.symbols }
-    ensures { AlwaysRule text.now (optional pure_specifier) at None out.old out.new result }
+    requires here { at ≤ length text.now.terminals }
+    ensures { ParsesAlways text.now (optional pure_specifier) at None out.old out.new result }
 {
-    if !text.is_at(at, Symbol::Equal) {
+    if !text.is_at(at, Terminal::Equal) {
         return Ok(at);
     }
     let zero = at + 1;
-    if !text.is_at(zero, Symbol::Zero) {
+    if !text.is_at(zero, Terminal::Zero) {
         return Ok(at);
     }
     let start = out.checkpoint();
@@ -236,18 +236,18 @@ fn optional_pure(text: &TypeNames, at: usize, out: &mut Builder) -> Result<usize
 fn initialized_member(
     text: &TypeNames,
     at: usize,
-    room: u32,
+    depth_left: u32,
     out: &mut Builder,
 ) -> Result<Option<usize>, AllocError>
-    requires here { at ≤ length text.now.symbols }
-    ensures { ParsedRule text.now (form initialized_member) at None out.old out.new result }
+    requires here { at ≤ length text.now.terminals }
+    ensures { ParsesLongest text.now (form initialized_member) at None out.old out.new result }
 {
     let start = out.checkpoint();
-    let Some(behind) = declarator(text, at, Naming::Named, room, out)? else {
+    let Some(behind) = declarator(text, at, Naming::Named, depth_left, out)? else {
         return Ok(None);
     };
     let name = declared_token(start, out);
-    let Some(next) = value_but_zero(text, behind, room, out)? else {
+    let Some(next) = value_but_zero(text, behind, depth_left, out)? else {
         return Ok(None);
     };
     node_at_name(text, at, NodeKind::MemberDeclarator, name, start, out)?;
@@ -258,23 +258,23 @@ fn initialized_member(
 fn value_but_zero(
     text: &TypeNames,
     at: usize,
-    room: u32,
+    depth_left: u32,
     out: &mut Builder,
 ) -> Result<Option<usize>, AllocError>
-    requires here { at ≤ length text.now.symbols }
-    ensures { ParsedRule text.now (node EqualInitializer value_but_zero) at None out.old out.new result }
+    requires here { at ≤ length text.now.terminals }
+    ensures { ParsesLongest text.now (node EqualInitializer value_but_zero) at None out.old out.new result }
 {
-    if !text.is_at(at, Symbol::Equal) {
-        out.refuse(at);
+    if !text.is_at(at, Terminal::Equal) {
+        out.expected_at(at);
         return Ok(None);
     }
     let start = out.checkpoint();
     let first = at + 1;
-    let Some(next) = assignment_expression(text, first, room, out)? else {
+    let Some(next) = assignment_expression(text, first, depth_left, out)? else {
         return Ok(None);
     };
     if is_zero_alone(text, first, next) {
-        out.refuse(next);
+        out.expected_at(next);
         return Ok(None);
     }
     node(
@@ -288,30 +288,30 @@ fn value_but_zero(
     Ok(Some(next))
 }
 
-/// Whether `0` stands alone between two places.
+/// Whether `0` stands alone between two indices.
 fn is_zero_alone(text: &TypeNames, at: usize, end: usize) -> bool
-    requires here { at ≤ length text.now.symbols }
+    requires here { at ≤ length text.now.terminals }
     ensures { not result ≡ is_not_zero text.now at end }
 {
-    text.is_at(at, Symbol::Zero) && end == at + 1
+    text.is_at(at, Terminal::Zero) && end == at + 1
 }
 
 /// The declarator of one of several members.
 fn listed_member(
     text: &TypeNames,
     at: usize,
-    room: u32,
+    depth_left: u32,
     out: &mut Builder,
 ) -> Result<Option<usize>, AllocError>
-    requires here { at ≤ length text.now.symbols }
-    ensures { ParsedRule text.now (form listed_member) at None out.old out.new result }
+    requires here { at ≤ length text.now.terminals }
+    ensures { ParsesLongest text.now (form listed_member) at None out.old out.new result }
 {
     let start = out.checkpoint();
-    let Some(behind) = declarator(text, at, Naming::Named, room, out)? else {
+    let Some(behind) = declarator(text, at, Naming::Named, depth_left, out)? else {
         return Ok(None);
     };
     let name = declared_token(start, out);
-    let next = optional_value(text, behind, room, out)?;
+    let next = optional_value(text, behind, depth_left, out)?;
     node_at_name(text, at, NodeKind::MemberDeclarator, name, start, out)?;
     Ok(Some(next))
 }
@@ -320,14 +320,14 @@ fn listed_member(
 fn optional_value(
     text: &TypeNames,
     at: usize,
-    room: u32,
+    depth_left: u32,
     out: &mut Builder,
 ) -> Result<usize, AllocError>
-    requires here { at ≤ length text.now.symbols }
-    ensures { AlwaysRule text.now (optional (node EqualInitializer value)) at None out.old out.new result }
+    requires here { at ≤ length text.now.terminals }
+    ensures { ParsesAlways text.now (optional (node EqualInitializer value)) at None out.old out.new result }
 {
     let mark = out.checkpoint();
-    let Some(next) = equal_initializer(text, at, room, out)? else {
+    let Some(next) = equal_initializer(text, at, depth_left, out)? else {
         out.cut(mark);
         return Ok(at);
     };
@@ -338,18 +338,18 @@ fn optional_value(
 fn equal_initializer(
     text: &TypeNames,
     at: usize,
-    room: u32,
+    depth_left: u32,
     out: &mut Builder,
 ) -> Result<Option<usize>, AllocError>
-    requires here { at ≤ length text.now.symbols }
-    ensures { ParsedRule text.now (node EqualInitializer value) at None out.old out.new result }
+    requires here { at ≤ length text.now.terminals }
+    ensures { ParsesLongest text.now (node EqualInitializer value) at None out.old out.new result }
 {
-    if !text.is_at(at, Symbol::Equal) {
-        out.refuse(at);
+    if !text.is_at(at, Terminal::Equal) {
+        out.expected_at(at);
         return Ok(None);
     }
     let start = out.checkpoint();
-    let Some(next) = assignment_expression(text, at + 1, room, out)? else {
+    let Some(next) = assignment_expression(text, at + 1, depth_left, out)? else {
         return Ok(None);
     };
     node(

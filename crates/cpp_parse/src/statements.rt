@@ -1,23 +1,25 @@
 //! Statements: C++14 clause 6. What has the shape of a declaration is one.
 
 ghost use Rattle.std.specs.Prelude.{◌≡◌, ◌≤◌, Bool, true, false, length, Some, None};
-ghost use Rattle.cpp_syntax.specs.declared.symbol.Symbol.{Symbol};
-ghost use Rattle.cpp_syntax.specs.Source.{symbol_at};
-ghost use Rattle.cpp_syntax.specs.Symbols.{if_word, switch_word, case_word, default_word, return_word};
+ghost use Rattle.cpp_syntax.specs.declared.terminal.Terminal.{Terminal};
+ghost use Rattle.cpp_syntax.specs.Source.{terminal_at};
+ghost use Rattle.cpp_syntax.specs.Terminals.{if_word, switch_word, case_word, default_word, return_word};
 ghost use Rattle.cpp_syntax.specs.Rules.{form, optional, expression, compound_statement, statement};
 ghost use Rattle.cpp_syntax.specs.Grammar.{condition};
-ghost use Rattle.cpp_syntax.specs.Parsed.{ParsedRule, AlwaysRule};
+ghost use Rattle.cpp_syntax.specs.Parsed.{Leaves, ParsesLongest, ParsesAlways};
 ghost use Rattle.cpp_syntax.specs.View.{is_lambda};
 ghost use Rattle.cpp_parse.specs.Lines.{declaration_or_expression, expression_statement, if_statement, switch_statement, labelled, case_statement, default_statement, return_statement, jump};
+ghost use Rattle.cpp_syntax.specs.declared.limits.TheConstants.{MAX_TOKENS};
 
 use crate::blocks::{marked_block, try_block};
 use crate::initializers::block_declaration;
 use crate::loops::{do_statement, for_statement, while_statement};
+use crate::terminals::begins_type_at;
 use cpp_ast::NodeKind;
 use cpp_parse_expr::expressions::{conditional_expression, expression};
 use cpp_syntax::read::{leaf, node};
-use cpp_syntax::shapes::less_room;
-use cpp_syntax::{Builder, Symbol, TypeNames};
+use cpp_syntax::shapes::descend;
+use cpp_syntax::{Builder, Terminal, TypeNames};
 use std::alloc::AllocError;
 
 /// A statement.
@@ -25,33 +27,33 @@ use std::alloc::AllocError;
 pub fn statement(
     text: &TypeNames,
     at: usize,
-    room: u32,
+    depth_left: u32,
     out: &mut Builder,
 ) -> Result<Option<usize>, AllocError>
-    requires here { at ≤ length text.now.symbols }
-    ensures { ParsedRule text.now (form statement) at None out.old out.new result }
+    requires here { at ≤ length text.now.terminals }
+    ensures { ParsesLongest text.now (form statement) at None out.old out.new result }
 {
-    match text.symbol(at) {
-        Symbol::OpenBrace => compound_statement(text, at, room, out),
-        Symbol::Semicolon => Ok(Some(leaf(text, at, NodeKind::NullStatement, out)?)),
-        Symbol::If => if_statement(text, at, room, out),
-        Symbol::While => while_statement(text, at, room, out),
-        Symbol::Do => do_statement(text, at, room, out),
-        Symbol::For => for_statement(text, at, room, out),
-        Symbol::Switch => switch_statement(text, at, room, out),
-        Symbol::Case => case_statement(text, at, room, out),
-        Symbol::Default => default_statement(text, at, room, out),
-        Symbol::Break => jump(text, at, NodeKind::BreakStatement, out),
-        Symbol::Continue => jump(text, at, NodeKind::ContinueStatement, out),
-        Symbol::Return => return_statement(text, at, room, out),
-        Symbol::Try => try_block(text, at, room, out),
-        Symbol::Synchronized => {
-            marked_block(text, at, NodeKind::SynchronizedStatement, room, out)
+    match text.terminal(at) {
+        Terminal::OpenBrace => compound_statement(text, at, depth_left, out),
+        Terminal::Semicolon => Ok(Some(leaf(text, at, NodeKind::NullStatement, out)?)),
+        Terminal::If => if_statement(text, at, depth_left, out),
+        Terminal::While => while_statement(text, at, depth_left, out),
+        Terminal::Do => do_statement(text, at, depth_left, out),
+        Terminal::For => for_statement(text, at, depth_left, out),
+        Terminal::Switch => switch_statement(text, at, depth_left, out),
+        Terminal::Case => case_statement(text, at, depth_left, out),
+        Terminal::Default => default_statement(text, at, depth_left, out),
+        Terminal::Break => jump(text, at, NodeKind::BreakStatement, out),
+        Terminal::Continue => jump(text, at, NodeKind::ContinueStatement, out),
+        Terminal::Return => return_statement(text, at, depth_left, out),
+        Terminal::Try => try_block(text, at, depth_left, out),
+        Terminal::Synchronized => {
+            marked_block(text, at, NodeKind::SynchronizedStatement, depth_left, out)
         }
-        Symbol::AtomicNoexcept | Symbol::AtomicCancel | Symbol::AtomicCommit => {
-            marked_block(text, at, NodeKind::AtomicStatement, room, out)
+        Terminal::AtomicNoexcept | Terminal::AtomicCancel | Terminal::AtomicCommit => {
+            marked_block(text, at, NodeKind::AtomicStatement, depth_left, out)
         }
-        _ => declaration_or_expression(text, at, room, out),
+        _ => declaration_or_expression(text, at, depth_left, out),
     }
 }
 
@@ -60,20 +62,20 @@ pub fn statement(
 pub fn compound_statement(
     text: &TypeNames,
     at: usize,
-    room: u32,
+    depth_left: u32,
     out: &mut Builder,
 ) -> Result<Option<usize>, AllocError>
-    requires here { at ≤ length text.now.symbols }
-    ensures { ParsedRule text.now (form compound_statement) at None out.old out.new result }
+    requires here { at ≤ length text.now.terminals }
+    ensures { ParsesLongest text.now (form compound_statement) at None out.old out.new result }
 {
-    if !text.is_at(at, Symbol::OpenBrace) {
-        out.refuse(at);
+    if !text.is_at(at, Terminal::OpenBrace) {
+        out.expected_at(at);
         return Ok(None);
     }
     let start = out.checkpoint();
-    let inner = less_room(room)?;
+    let inner = descend(depth_left)?;
     let mut next = at + 1;
-    'statements: while !text.is_at(next, Symbol::CloseBrace) {
+    'statements: while !text.is_at(next, Terminal::CloseBrace) {
         let Some(behind) = statement(text, next, inner, out)? else {
             return Ok(None);
         };
@@ -94,34 +96,56 @@ pub fn compound_statement(
 fn declaration_or_expression(
     text: &TypeNames,
     at: usize,
-    room: u32,
+    depth_left: u32,
     out: &mut Builder,
 ) -> Result<Option<usize>, AllocError>
-    requires here { at ≤ length text.now.symbols }
-    ensures { ParsedRule text.now declaration_or_expression at None out.old out.new result }
+    requires here { at ≤ length text.now.terminals }
+    ensures { ParsesLongest text.now declaration_or_expression at None out.old out.new result }
 {
-    if text.sees_declaration(at, room)? {
-        return block_declaration(text, at, room, out);
+    if text.lookahead_declaration(at, depth_left)? {
+        return block_declaration(text, at, depth_left, out);
     }
-    expression_statement(text, at, room, out)
+    let Some(next) = expression_statement(text, at, depth_left, out)? else {
+        note_declaration(text, at, depth_left, out)?;
+        return Ok(None);
+    };
+    Ok(Some(next))
+}
+
+/// Where a type begins a statement that is neither a declaration nor an expression, notes how far it reads as a
+/// declaration, so that a fault stands where that breaks off.
+pub fn note_declaration(
+    text: &TypeNames,
+    at: usize,
+    depth_left: u32,
+    out: &mut Builder,
+) -> Result<(), AllocError>
+    requires here { at ≤ length text.now.terminals }
+    ensures { Leaves out.old out.new }
+{
+    if !begins_type_at(text, at) {
+        return Ok(());
+    }
+    block_declaration(text, at, depth_left, out)?;
+    Ok(())
 }
 
 /// An expression and `;`: C++14 6.2.
 fn expression_statement(
     text: &TypeNames,
     at: usize,
-    room: u32,
+    depth_left: u32,
     out: &mut Builder,
 ) -> Result<Option<usize>, AllocError>
-    requires here { at ≤ length text.now.symbols }
-    ensures { ParsedRule text.now expression_statement at None out.old out.new result }
+    requires here { at ≤ length text.now.terminals }
+    ensures { ParsesLongest text.now expression_statement at None out.old out.new result }
 {
     let start = out.checkpoint();
-    let Some(close) = expression(text, at, room, out)? else {
+    let Some(close) = expression(text, at, depth_left, out)? else {
         return Ok(None);
     };
-    if !text.is_at(close, Symbol::Semicolon) {
-        out.refuse(close);
+    if !text.is_at(close, Terminal::Semicolon) {
+        out.expected_at(close);
         return Ok(None);
     }
     node(
@@ -139,21 +163,21 @@ fn expression_statement(
 pub fn condition(
     text: &TypeNames,
     at: usize,
-    room: u32,
+    depth_left: u32,
     out: &mut Builder,
 ) -> Result<Option<usize>, AllocError>
-    requires here { at ≤ length text.now.symbols }
-    ensures { ParsedRule text.now condition at None out.old out.new result }
+    requires here { at ≤ length text.now.terminals }
+    ensures { ParsesLongest text.now condition at None out.old out.new result }
 {
-    if !text.is_at(at, Symbol::OpenParen) {
-        out.refuse(at);
+    if !text.is_at(at, Terminal::OpenParen) {
+        out.expected_at(at);
         return Ok(None);
     }
-    let Some(close) = expression(text, at + 1, room, out)? else {
+    let Some(close) = expression(text, at + 1, depth_left, out)? else {
         return Ok(None);
     };
-    if !text.is_at(close, Symbol::CloseParen) {
-        out.refuse(close);
+    if !text.is_at(close, Terminal::CloseParen) {
+        out.expected_at(close);
         return Ok(None);
     }
     Ok(Some(close + 1))
@@ -164,23 +188,23 @@ pub fn condition(
 fn if_statement(
     text: &TypeNames,
     at: usize,
-    room: u32,
+    depth_left: u32,
     out: &mut Builder,
 ) -> Result<Option<usize>, AllocError>
-    requires here { at ≤ length text.now.symbols }
-    requires begins { if_word (symbol_at text.now at) ≡ true }
-    requires few { length text.now.symbols ≤ 1048576 }
-    ensures { ParsedRule text.now if_statement at None out.old out.new result }
+    requires here { at ≤ length text.now.terminals }
+    requires begins { if_word (terminal_at text.now at) ≡ true }
+    requires few { length text.now.terminals ≤ MAX_TOKENS }
+    ensures { ParsesLongest text.now if_statement at None out.old out.new result }
 {
     let start = out.checkpoint();
-    let inner = less_room(room)?;
+    let inner = descend(depth_left)?;
     let Some(held) = condition(text, at + 1, inner, out)? else {
         return Ok(None);
     };
     let Some(middle) = statement(text, held, inner, out)? else {
         return Ok(None);
     };
-    if !text.is_at(middle, Symbol::Else) {
+    if !text.is_at(middle, Terminal::Else) {
         node(text, at, NodeKind::IfStatement, Some(at as u32), start, out)?;
         return Ok(Some(middle));
     }
@@ -196,19 +220,19 @@ fn if_statement(
 fn switch_statement(
     text: &TypeNames,
     at: usize,
-    room: u32,
+    depth_left: u32,
     out: &mut Builder,
 ) -> Result<Option<usize>, AllocError>
-    requires here { at ≤ length text.now.symbols }
-    requires begins { switch_word (symbol_at text.now at) ≡ true }
-    requires few { length text.now.symbols ≤ 1048576 }
-    ensures { ParsedRule text.now switch_statement at None out.old out.new result }
+    requires here { at ≤ length text.now.terminals }
+    requires begins { switch_word (terminal_at text.now at) ≡ true }
+    requires few { length text.now.terminals ≤ MAX_TOKENS }
+    ensures { ParsesLongest text.now switch_statement at None out.old out.new result }
 {
     let start = out.checkpoint();
-    let Some(held) = condition(text, at + 1, room, out)? else {
+    let Some(held) = condition(text, at + 1, depth_left, out)? else {
         return Ok(None);
     };
-    let Some(next) = compound_statement(text, held, room, out)? else {
+    let Some(next) = compound_statement(text, held, depth_left, out)? else {
         return Ok(None);
     };
     node(
@@ -227,16 +251,16 @@ fn switch_statement(
 fn case_statement(
     text: &TypeNames,
     at: usize,
-    room: u32,
+    depth_left: u32,
     out: &mut Builder,
 ) -> Result<Option<usize>, AllocError>
-    requires here { at ≤ length text.now.symbols }
-    requires begins { case_word (symbol_at text.now at) ≡ true }
-    requires few { length text.now.symbols ≤ 1048576 }
-    ensures { ParsedRule text.now case_statement at None out.old out.new result }
+    requires here { at ≤ length text.now.terminals }
+    requires begins { case_word (terminal_at text.now at) ≡ true }
+    requires few { length text.now.terminals ≤ MAX_TOKENS }
+    ensures { ParsesLongest text.now case_statement at None out.old out.new result }
 {
     let start = out.checkpoint();
-    let inner = less_room(room)?;
+    let inner = descend(depth_left)?;
     let Some(colon) = conditional_expression(text, at + 1, inner, out)? else {
         return Ok(None);
     };
@@ -259,16 +283,16 @@ fn case_statement(
 fn default_statement(
     text: &TypeNames,
     at: usize,
-    room: u32,
+    depth_left: u32,
     out: &mut Builder,
 ) -> Result<Option<usize>, AllocError>
-    requires here { at ≤ length text.now.symbols }
-    requires begins { default_word (symbol_at text.now at) ≡ true }
-    requires few { length text.now.symbols ≤ 1048576 }
-    ensures { ParsedRule text.now default_statement at None out.old out.new result }
+    requires here { at ≤ length text.now.terminals }
+    requires begins { default_word (terminal_at text.now at) ≡ true }
+    requires few { length text.now.terminals ≤ MAX_TOKENS }
+    ensures { ParsesLongest text.now default_statement at None out.old out.new result }
 {
     let start = out.checkpoint();
-    let Some(next) = labelled_statement(text, at + 1, less_room(room)?, out)? else {
+    let Some(next) = labelled_statement(text, at + 1, descend(depth_left)?, out)? else {
         return Ok(None);
     };
     node(
@@ -287,17 +311,17 @@ fn default_statement(
 fn labelled_statement(
     text: &TypeNames,
     at: usize,
-    room: u32,
+    depth_left: u32,
     out: &mut Builder,
 ) -> Result<Option<usize>, AllocError>
-    requires here { at ≤ length text.now.symbols }
-    ensures { ParsedRule text.now labelled at None out.old out.new result }
+    requires here { at ≤ length text.now.terminals }
+    ensures { ParsesLongest text.now labelled at None out.old out.new result }
 {
-    if !text.is_at(at, Symbol::Colon) {
-        out.refuse(at);
+    if !text.is_at(at, Terminal::Colon) {
+        out.expected_at(at);
         return Ok(None);
     }
-    statement(text, at + 1, room, out)
+    statement(text, at + 1, depth_left, out)
 }
 
 /// A word and `;`, as `break` and `continue` are: C++14 6.6.
@@ -307,16 +331,16 @@ fn jump(
     kind: NodeKind,
     out: &mut Builder,
 ) -> Result<Option<usize>, AllocError>
-    requires here { at ≤ length text.now.symbols }
-    requires few { length text.now.symbols ≤ 1048576 }
+    requires here { at ≤ length text.now.terminals }
+    requires few { length text.now.terminals ≤ MAX_TOKENS }
     requires kind { is_lambda kind ≡ false }
-    ensures { (word : Symbol → Bool) → word (symbol_at text.now at) ≡ true → ParsedRule text.now (jump kind word) at None out.old out.new result }
+    ensures { (word : Terminal → Bool) → word (terminal_at text.now at) ≡ true → ParsesLongest text.now (jump kind word) at None out.old out.new result }
 {
-    if !text.is_at(at + 1, Symbol::Semicolon) {
-        out.refuse(at + 1);
+    if !text.is_at(at + 1, Terminal::Semicolon) {
+        out.expected_at(at + 1);
         return Ok(None);
     }
-    out.leaf(kind, text.place(at), Some(at as u32))?;
+    out.leaf(kind, text.position(at), Some(at as u32))?;
     Ok(Some(at + 2))
 }
 
@@ -324,18 +348,18 @@ fn jump(
 fn return_statement(
     text: &TypeNames,
     at: usize,
-    room: u32,
+    depth_left: u32,
     out: &mut Builder,
 ) -> Result<Option<usize>, AllocError>
-    requires here { at ≤ length text.now.symbols }
-    requires begins { return_word (symbol_at text.now at) ≡ true }
-    requires few { length text.now.symbols ≤ 1048576 }
-    ensures { ParsedRule text.now return_statement at None out.old out.new result }
+    requires here { at ≤ length text.now.terminals }
+    requires begins { return_word (terminal_at text.now at) ≡ true }
+    requires few { length text.now.terminals ≤ MAX_TOKENS }
+    ensures { ParsesLongest text.now return_statement at None out.old out.new result }
 {
     let start = out.checkpoint();
-    let close = returned_value(text, at + 1, room, out)?;
-    if !text.is_at(close, Symbol::Semicolon) {
-        out.refuse(close);
+    let close = returned_value(text, at + 1, depth_left, out)?;
+    if !text.is_at(close, Terminal::Semicolon) {
+        out.expected_at(close);
         return Ok(None);
     }
     node(
@@ -353,14 +377,14 @@ fn return_statement(
 fn returned_value(
     text: &TypeNames,
     at: usize,
-    room: u32,
+    depth_left: u32,
     out: &mut Builder,
 ) -> Result<usize, AllocError>
-    requires here { at ≤ length text.now.symbols }
-    ensures { AlwaysRule text.now (optional (form expression)) at None out.old out.new result }
+    requires here { at ≤ length text.now.terminals }
+    ensures { ParsesAlways text.now (optional (form expression)) at None out.old out.new result }
 {
     let mark = out.checkpoint();
-    let Some(next) = expression(text, at, room, out)? else {
+    let Some(next) = expression(text, at, depth_left, out)? else {
         out.cut(mark);
         return Ok(at);
     };

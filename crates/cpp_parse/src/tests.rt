@@ -1,4 +1,4 @@
-// Texts with the trees that they are read as, and texts that are refused.
+// Derivations with the trees that they are read as, and texts that are refused.
 
 use crate::parse_unit;
 use cpp_ast::{Node, NodeId, Nodes, Unit};
@@ -11,6 +11,7 @@ use std::test::Fail;
 mod bank;
 mod declarations;
 mod nests;
+mod slips;
 mod statements;
 
 // The spelling of a token.
@@ -21,7 +22,7 @@ fn word(alloc: Global, tokens: &Tokens, at: u32) -> Result<String, Fail> {
     }
 }
 
-// The trees at some places, with blanks between them.
+// The trees at some indices, with blanks between them.
 fn joined(alloc: Global, trees: &[String], ids: &[NodeId]) -> Result<String, Fail> {
     let mut text = String::new(alloc);
     for id in ids {
@@ -119,7 +120,7 @@ fn check(
     Ok(())
 }
 
-// Texts are refused with this answer.
+// Derivations are refused with this answer.
 fn check_refused(rt: &impl Abort, alloc: Global, rows: &[(&str, &str)]) -> Result<(), Fail> {
     for (text, expected) in rows {
         let found = answer(rt, alloc, text)?;

@@ -23,7 +23,7 @@ abbrev mutual
   height_in none = 0
   height_in (more t ts) = max (step (kind_of t) + height t) (height_in ts)
 
--- what is found in one place, or else in another
+-- what is found in one index, or else in another
 abbrev pub or_else : Option At → Option At → Option At
 or_else None other = other
 or_else (Some at) other = Some at
@@ -42,31 +42,32 @@ abbrev mutual
 pub record IsKid (nodes : List Node) (holder id : ℕ) : Type 0 where
   pub found : Node
   pub stands : slice_get nodes holder ≡ Some found
-  pub place : ℕ
-  pub there : slice_get found.kids.items place ≡ Some (record { 0 = id })
+  pub position : ℕ
+  pub there : slice_get found.kids.items position ≡ Some (record { 0 = id })
 
 -- A node lies below a root, and this is its depth where the root has a depth.
 pub data Path (nodes : List Node) (root depth : ℕ) : ℕ → ℕ → Type 0 where
   at_root : {id d : ℕ} → id ≡ root → d ≡ depth → Path nodes root depth id d
-  to_kid : {holder id above d : ℕ} {kid : Node} → Path nodes root depth holder above → IsKid nodes holder id → slice_get nodes id ≡ Some kid → d ≡ kid_depth above kid.kind → Path nodes root depth id d
+  to_kid : {holder id above d : ℕ} {kid : Node} → Path nodes root depth holder above → IsKid nodes holder id → slice_get nodes id ≡ Some kid
+      → d ≡ kid_depth above kid.kind → Path nodes root depth id d
 
--- each of these ids is a place or stands behind it
+-- each of these ids is an index or stands behind it
 abbrev pub are_from : ℕ → List NodeId → Bool
 are_from first ids = list_all (λ (id : NodeId). nat_le first id.0) ids
 
--- the kids of the nodes from a place on stand there too
+-- the kids of the nodes from an index on stand there too
 pub record HoldOwn (first : ℕ) (nodes : List Node) : Type 0 where
   pub own : (id : ℕ) (n : Node) → first ≤ id → slice_get nodes id ≡ Some n → are_from first n.kids.items ≡ true
 
--- the kids of the nodes from a place on stand before them
+-- the kids of the nodes from an index on stand before them
 pub record HoldLower (first : ℕ) (nodes : List Node) : Type 0 where
   pub lower : (id : ℕ) (n : Node) → first ≤ id → slice_get nodes id ≡ Some n → are_below id n.kids.items ≡ true
 
--- the nodes from a place on hold each node once at most
+-- the nodes from an index on hold each node once at most
 pub record HoldOnce (first : ℕ) (nodes : List Node) : Type 0 where
   pub each : (id : ℕ) → times_a_kid id (drop first nodes) ≤ 1
 
--- The numbers are the heights of the trees of the nodes from a place on, as far as there are some.
+-- The numbers are the heights of the trees of the nodes from an index on, as far as there are some.
 pub record AreHeights (nodes : List Node) (first : ℕ) (heights : List ℕ) : Type 0 where
   pub within : first + length heights ≤ length nodes
   pub each : (i : ℕ) (tree : Tree) → i < length heights → Shows nodes (first + i) tree → slice_index heights i ≡ height tree
@@ -87,14 +88,15 @@ pub record HasDeep (nodes : List Node) (id limit depth : ℕ) (trees : Trees) : 
 -- Kids were given their depths, in a node of a depth, and no other number was changed.
 pub record HandsDown (nodes : List Node) (first : ℕ) (kids : List NodeId) (depth : ℕ) (old new : List ℕ) : Type 0 where
   pub many : length new ≡ length old
-  pub given : (k : ℕ) (kid : NodeId) (n : Node) → slice_get kids k ≡ Some kid → slice_get nodes kid.0 ≡ Some n → slice_index new (kid.0 - first) ≡ kid_depth depth n.kind
+  pub given : (k : ℕ) (kid : NodeId) (n : Node) → slice_get kids k ≡ Some kid → slice_get nodes kid.0 ≡ Some n
+      → slice_index new (kid.0 - first) ≡ kid_depth depth n.kind
   pub kept : (i : ℕ) → ((k : ℕ) (kid : NodeId) → slice_get kids k ≡ Some kid → kid.0 - first ≡ i → ⊥) → slice_index new i ≡ slice_index old i
 
--- the numbers are so low that they may grow on the way down from each place
+-- the numbers are so low that they may grow on the way down from each index
 pub record AreLow (most : ℕ) (depths : List ℕ) : Type 0 where
   pub low : (i : ℕ) → i < length depths → slice_index depths i + i ≤ most
 
--- The numbers are the depths of the nodes below a root, from a place on.
+-- The numbers are the depths of the nodes below a root, from an index on.
 pub record AreDepths (nodes : List Node) (root depth first : ℕ) (depths : List ℕ) : Type 0 where
   pub many : first + length depths ≡ length nodes
   pub each : (id d : ℕ) → Path nodes root depth id d → (first ≤ id) × (slice_index depths (id - first) ≡ d)

@@ -4,13 +4,13 @@ use Rattle.std.specs.declared.alloc.AllocError.{AllocError}
 use Rattle.cpp_ast.specs.declared.arena.Node.{Node}
 use Rattle.cpp_ast.specs.declared.arena.NodeId.{NodeId}
 use Rattle.cpp_ast.specs.Trees.{Tree, node, Trees, none, more, kind_of, Shows, Extends, kid_depth, deepest}
-use Rattle.cpp_syntax.specs.declared.places.OpenBody.{OpenBody}
-use Rattle.cpp_syntax.specs.Source.{Source, place_at}
-use Rattle.cpp_syntax.specs.Rules.{Form, expression, assignment_expression, conditional_expression, type_specifier_seq, type_id, declarator, parameter_declaration, parameter_declaration_clause, function_qualifiers, whole, named, form}
-use Rattle.cpp_syntax.specs.Texts.{Body, Read, no_read, one_tree, kept_apart}
-use Rattle.cpp_syntax.specs.Looks.{sees}
-use Rattle.cpp_syntax.specs.Longest.{Long, NoText}
-use Rattle.cpp_syntax.specs.View.{is_lambda, body_of, Shown}
+use Rattle.cpp_syntax.specs.declared.positions.OpenBody.{OpenBody}
+use Rattle.cpp_syntax.specs.Source.{Source, position_at}
+use Rattle.cpp_syntax.specs.Rules.{Nonterminal, expression, assignment_expression, conditional_expression, type_specifier_seq, type_id, declarator, parameter_declaration, parameter_declaration_clause, function_qualifiers, whole, named, form}
+use Rattle.cpp_syntax.specs.Derivations.{Body, Read, no_read, one_tree, kept_apart}
+use Rattle.cpp_syntax.specs.Lookahead.{lookahead}
+use Rattle.cpp_syntax.specs.Longest.{LongestMatch, NoDerivation}
+use Rattle.cpp_syntax.specs.View.{is_lambda, body_of, BuiltTrees}
 use Rattle.cpp_parse_expr.specs.declared.parse.ExprForm.{ExprForm}
 use Rattle.cpp_parse_expr.specs.declared.parse.ExprForm.TheVariants as asked
 use Rattle.cpp_parse_expr.specs.declared.parse.BodyRange.{BodyRange}
@@ -24,7 +24,7 @@ use Rattle.cpp_parse_expr.specs.declared.parse.Outcome.TheVariants as outcome
 use Rattle.cpp_parse_expr.specs.Depths.{deep_node}
 
 -- the form of the grammar that is asked for
-abbrev pub form_of : ExprForm → Form
+abbrev pub form_of : ExprForm → Nonterminal
 form_of asked.Expr = expression
 form_of asked.Assign = assignment_expression
 form_of asked.Cond = conditional_expression
@@ -39,13 +39,13 @@ form_of asked.Quals = function_qualifiers
 abbrev pub tree_read : Tree → List Body → Read
 tree_read tree bodies = record { trees = one_tree tree; bodies = bodies }
 
--- Between two places stands the longest text of a form that begins at the first, and this is its tree.
-abbrev pub IsText : Source → Form → ℕ → ℕ → Tree → List Body → Type 0
-IsText source f from next tree bodies = Long (sees source) kept_apart source (form f) no_read from next None (tree_read tree bodies)
+-- Between two indices stands the longest text of a form that begins at the first, and this is its tree.
+abbrev pub IsText : Source → Nonterminal → ℕ → ℕ → Tree → List Body → Type 0
+IsText source f from next tree bodies = LongestMatch (lookahead source) kept_apart source (form f) no_read from next None (tree_read tree bodies)
 
--- no text of a form begins at a place
-abbrev pub NoneBegins : Source → Form → ℕ → Type 0
-NoneBegins source f from = NoText (sees source) kept_apart source (form f) no_read from
+-- no text of a form begins at an index
+abbrev pub NoneBegins : Source → Nonterminal → ℕ → Type 0
+NoneBegins source f from = NoDerivation (lookahead source) kept_apart source (form f) no_read from
 
 -- The depths of the lambdas of a tree whose root has this depth, those in the kids of a node before the node itself.
 abbrev mutual
@@ -65,35 +65,35 @@ open_bodies bodies = map open_of bodies
 
 -- A text was read: its nodes stand behind those that were there, hold none of them and each other once at most, and the
 -- bodies are those of its lambdas in their order.
-pub record IsParsed (source : Source) (f : Form) (from depth limit : ℕ) (old new : List Node) (out : ExprOut) : Type 0 where
+pub record IsParsed (source : Source) (f : Nonterminal) (from depth limit : ℕ) (old new : List Node) (out : ExprOut) : Type 0 where
   pub tree : Tree
   pub bodies : List Body
   pub text : IsText source f from out.next tree bodies
-  pub inside : out.next ≤ length source.symbols
+  pub inside : out.next ≤ length source.terminals
   pub shallow : deepest depth tree ≤ limit
   pub shows : Shows new out.root.0 tree
   pub grown : Extends old new
-  pub shown : Shown (length old) new (out.root ∷ []) (open_bodies out.bodies.items)
+  pub shown : BuiltTrees (length old) new (out.root ∷ []) (open_bodies out.bodies.items)
   pub ranges : map (body_of new) (open_bodies out.bodies.items) ≡ bodies
   pub depths : map (λ (body : BodyRange). body.depth) out.bodies.items ≡ lambda_depths depth tree
 
--- A text stands there that nests too deep: the token is the place of its first node that lies below the limit.
-pub record IsTooDeep (source : Source) (f : Form) (from depth limit token : ℕ) : Type 0 where
+-- A text stands there that nests too deep: the token is the index of its first node that lies below the limit.
+pub record IsTooDeep (source : Source) (f : Nonterminal) (from depth limit token : ℕ) : Type 0 where
   pub next : ℕ
   pub tree : Tree
   pub bodies : List Body
   pub text : IsText source f from next tree bodies
   pub deep : limit < deepest depth tree
-  pub place : deep_node limit depth tree ≡ Some (place_at source token)
-  pub inside : token ≤ length source.symbols
+  pub position : deep_node limit depth tree ≡ Some (position_at source token)
+  pub inside : token ≤ length source.terminals
 
 -- No text of the form begins there.
-pub record IsRefused (source : Source) (f : Form) (from token : ℕ) : Type 0 where
+pub record IsRefused (source : Source) (f : Nonterminal) (from token : ℕ) : Type 0 where
   pub nothing : NoneBegins source f from
-  pub inside : token ≤ length source.symbols
+  pub inside : token ≤ length source.terminals
 
--- What is answered of a form from a place on, with the nodes that were there and that are.
-abbrev pub Parses : Source → Form → ℕ → ℕ → ℕ → List Node → List Node → Result ExprOut ParseFault → Type 0
+-- What is answered of a form from an index on, with the nodes that were there and that are.
+abbrev pub Parses : Source → Nonterminal → ℕ → ℕ → ℕ → List Node → List Node → Result ExprOut ParseFault → Type 0
 Parses source f from depth limit old new (Ok out) = IsParsed source f from depth limit old new out
 Parses source f from depth limit old new (Err (fault.Syntax token)) = IsRefused source f from token × (new ≡ old)
 Parses source f from depth limit old new (Err (fault.Nesting token)) = IsTooDeep source f from depth limit token × (new ≡ old)
@@ -102,22 +102,22 @@ Parses source f from depth limit old new (Err fault.Memory) = new ≡ old
 -- Steps on the way.
 
 -- A text was read, and nothing is said yet of how deep it is.
-pub record IsRead (source : Source) (f : Form) (from : ℕ) (old new : List Node) (root : NodeId) (next : ℕ) (open_ : List OpenBody) : Type 0 where
+pub record IsRead (source : Source) (f : Nonterminal) (from : ℕ) (old new : List Node) (root : NodeId) (next : ℕ) (open_ : List OpenBody) : Type 0 where
   pub tree : Tree
   pub bodies : List Body
   pub text : IsText source f from next tree bodies
-  pub inside : next ≤ length source.symbols
+  pub inside : next ≤ length source.terminals
   pub shows : Shows new root.0 tree
   pub grown : Extends old new
-  pub shown : Shown (length old) new (root ∷ []) open_
+  pub shown : BuiltTrees (length old) new (root ∷ []) open_
   pub ranges : map (body_of new) open_ ≡ bodies
 
-abbrev pub ReadsText : Source → Form → ℕ → List Node → List Node → Result Reading AllocError → Type 0
-ReadsText source f from old new (Ok (reading.Text root next open_)) = IsRead source f from old new root next open_.items
+abbrev pub ReadsText : Source → Nonterminal → ℕ → List Node → List Node → Result Reading AllocError → Type 0
+ReadsText source f from old new (Ok (reading.Found root next open_)) = IsRead source f from old new root next open_.items
 ReadsText source f from old new (Ok (reading.Nothing token)) = IsRefused source f from token × Extends old new
 ReadsText source f from old new (Err e) = Extends old new
 
-abbrev pub Measures : Source → Form → ℕ → ℕ → ℕ → List Node → List Node → Result Outcome AllocError → Type 0
+abbrev pub Measures : Source → Nonterminal → ℕ → ℕ → ℕ → List Node → List Node → Result Outcome AllocError → Type 0
 Measures source f from depth limit old new (Ok (outcome.Parsed out)) = IsParsed source f from depth limit old new out
 Measures source f from depth limit old new (Ok (outcome.Refused token)) = IsRefused source f from token × Extends old new
 Measures source f from depth limit old new (Ok (outcome.TooDeep token)) = IsTooDeep source f from depth limit token × Extends old new

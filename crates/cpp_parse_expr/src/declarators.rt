@@ -2,19 +2,20 @@
 
 ghost use Rattle.std.specs.Prelude.{◌≡◌, ◌≤◌, true, length, Some, None};
 ghost use Rattle.cpp_ast.specs.declared.kinds.NodeKind.TheVariants.{CvQualifier};
-ghost use Rattle.cpp_syntax.specs.Source.{symbol_at};
-ghost use Rattle.cpp_syntax.specs.Symbols.{star, amp, open_bracket, const_word};
+ghost use Rattle.cpp_syntax.specs.Source.{terminal_at};
+ghost use Rattle.cpp_syntax.specs.Terminals.{star, amp, open_bracket, const_word};
 ghost use Rattle.cpp_syntax.specs.Names.{naming_of};
 ghost use Rattle.cpp_syntax.specs.Rules.{◌·◌, form, many, optional, whole, type_id, declarator, direct_declarator, conditional_expression, function_qualifiers, parameter_declaration_clause, parameter_declaration};
 ghost use Rattle.cpp_syntax.specs.Grammar.{leaf, omitted_id, array_suffix, pointer_declarator, reference_declarator, declarator_head, declarator_id, parenthesized_declarator, array_bound, tx_qualifier, noexcept_specification, parameter_list, parameters_behind, suffix};
-ghost use Rattle.cpp_syntax.specs.Parsed.{ParsedRule, AlwaysRule, AlwaysBehind};
+ghost use Rattle.cpp_syntax.specs.Parsed.{ParsesLongest, ParsesAlways, ParsesAlwaysBehind};
+ghost use Rattle.cpp_syntax.specs.declared.limits.TheConstants.{MAX_TOKENS};
 
 use crate::expressions::conditional_expression;
 use crate::types::{cv_qualifiers, type_name, type_specifier_seq};
 use cpp_ast::NodeKind;
-use cpp_syntax::read::{around, leaf, node, node_at_name};
-use cpp_syntax::shapes::less_room;
-use cpp_syntax::{Builder, Checkpoint, Naming, Symbol, TypeNames};
+use cpp_syntax::read::{leaf, node, node_at_name, wrap};
+use cpp_syntax::shapes::descend;
+use cpp_syntax::{Builder, Checkpoint, Naming, Terminal, TypeNames};
 use std::alloc::AllocError;
 
 /// A type with a declarator that names nothing.
@@ -22,17 +23,17 @@ use std::alloc::AllocError;
 pub fn type_id(
     text: &TypeNames,
     at: usize,
-    room: u32,
+    depth_left: u32,
     out: &mut Builder,
 ) -> Result<Option<usize>, AllocError>
-    requires here { at ≤ length text.now.symbols }
-    ensures { ParsedRule text.now (form (type_id whole)) at None out.old out.new result }
+    requires here { at ≤ length text.now.terminals }
+    ensures { ParsesLongest text.now (form (type_id whole)) at None out.old out.new result }
 {
     let start = out.checkpoint();
-    let Some(behind) = type_specifier_seq(text, at, room, out)? else {
+    let Some(behind) = type_specifier_seq(text, at, depth_left, out)? else {
         return Ok(None);
     };
-    let Some(next) = declarator(text, behind, Naming::Unnamed, room, out)? else {
+    let Some(next) = declarator(text, behind, Naming::Unnamed, depth_left, out)? else {
         return Ok(None);
     };
     node(text, at, NodeKind::TypeId, None, start, out)?;
@@ -45,19 +46,19 @@ pub fn declarator(
     text: &TypeNames,
     at: usize,
     naming: Naming,
-    room: u32,
+    depth_left: u32,
     out: &mut Builder,
 ) -> Result<Option<usize>, AllocError>
-    requires here { at ≤ length text.now.symbols }
-    ensures { ParsedRule text.now (form (declarator whole (naming_of naming))) at None out.old out.new result }
+    requires here { at ≤ length text.now.terminals }
+    ensures { ParsesLongest text.now (form (declarator whole (naming_of naming))) at None out.old out.new result }
 {
-    if text.is_at(at, Symbol::Star) {
-        return pointer_declarator(text, at, naming, room, out);
+    if text.is_at(at, Terminal::Star) {
+        return pointer_declarator(text, at, naming, depth_left, out);
     }
-    if text.is_at(at, Symbol::Amp) {
-        return reference_declarator(text, at, naming, room, out);
+    if text.is_at(at, Terminal::Amp) {
+        return reference_declarator(text, at, naming, depth_left, out);
     }
-    direct_declarator(text, at, naming, room, out)
+    direct_declarator(text, at, naming, depth_left, out)
 }
 
 /// `* d`, with `const` and `volatile` behind the `*`.
@@ -66,17 +67,17 @@ fn pointer_declarator(
     text: &TypeNames,
     at: usize,
     naming: Naming,
-    room: u32,
+    depth_left: u32,
     out: &mut Builder,
 ) -> Result<Option<usize>, AllocError>
-    requires here { at ≤ length text.now.symbols }
-    requires begins { star (symbol_at text.now at) ≡ true }
-    requires few { length text.now.symbols ≤ 1048576 }
-    ensures { ParsedRule text.now (pointer_declarator whole (naming_of naming)) at None out.old out.new result }
+    requires here { at ≤ length text.now.terminals }
+    requires begins { star (terminal_at text.now at) ≡ true }
+    requires few { length text.now.terminals ≤ MAX_TOKENS }
+    ensures { ParsesLongest text.now (pointer_declarator whole (naming_of naming)) at None out.old out.new result }
 {
     let start = out.checkpoint();
     let behind = cv_qualifiers(text, at + 1, out)?;
-    let Some(next) = declarator(text, behind, naming, less_room(room)?, out)? else {
+    let Some(next) = declarator(text, behind, naming, descend(depth_left)?, out)? else {
         return Ok(None);
     };
     node(
@@ -96,16 +97,16 @@ fn reference_declarator(
     text: &TypeNames,
     at: usize,
     naming: Naming,
-    room: u32,
+    depth_left: u32,
     out: &mut Builder,
 ) -> Result<Option<usize>, AllocError>
-    requires here { at ≤ length text.now.symbols }
-    requires begins { amp (symbol_at text.now at) ≡ true }
-    requires few { length text.now.symbols ≤ 1048576 }
-    ensures { ParsedRule text.now (reference_declarator whole (naming_of naming)) at None out.old out.new result }
+    requires here { at ≤ length text.now.terminals }
+    requires begins { amp (terminal_at text.now at) ≡ true }
+    requires few { length text.now.terminals ≤ MAX_TOKENS }
+    ensures { ParsesLongest text.now (reference_declarator whole (naming_of naming)) at None out.old out.new result }
 {
     let start = out.checkpoint();
-    let Some(next) = declarator(text, at + 1, naming, less_room(room)?, out)? else {
+    let Some(next) = declarator(text, at + 1, naming, descend(depth_left)?, out)? else {
         return Ok(None);
     };
     node(
@@ -125,24 +126,24 @@ fn direct_declarator(
     text: &TypeNames,
     at: usize,
     naming: Naming,
-    room: u32,
+    depth_left: u32,
     out: &mut Builder,
 ) -> Result<Option<usize>, AllocError>
-    requires here { at ≤ length text.now.symbols }
-    ensures { ParsedRule text.now (form (direct_declarator whole (naming_of naming))) at None out.old out.new result }
+    requires here { at ≤ length text.now.terminals }
+    ensures { ParsesLongest text.now (form (direct_declarator whole (naming_of naming))) at None out.old out.new result }
 {
     if naming.is_in_block() && text.begins_name(at) {
-        return name_in_block(text, at, naming, room, out);
+        return name_in_block(text, at, naming, depth_left, out);
     }
     let start = out.checkpoint();
-    if let Some(behind) = declarator_head(text, at, naming, room, out)? {
-        return Ok(Some(suffixes(text, behind, naming, room, start, out)?));
+    if let Some(behind) = declarator_head(text, at, naming, depth_left, out)? {
+        return Ok(Some(suffixes(text, behind, naming, depth_left, start, out)?));
     }
     out.cut(start);
     if !naming.may_be_unnamed() {
         return Ok(None);
     }
-    Ok(Some(omitted_declarator(text, at, naming, room, out)?))
+    Ok(Some(omitted_declarator(text, at, naming, depth_left, out)?))
 }
 
 /// A declared name in a block, behind which parameters do not follow at once.
@@ -151,20 +152,20 @@ fn name_in_block(
     text: &TypeNames,
     at: usize,
     naming: Naming,
-    room: u32,
+    depth_left: u32,
     out: &mut Builder,
 ) -> Result<Option<usize>, AllocError>
-    requires here { at ≤ length text.now.symbols }
-    ensures { ParsedRule text.now (declarator_id · optional (array_suffix whole · many (suffix whole (naming_of naming)))) at None out.old out.new result }
+    requires here { at ≤ length text.now.terminals }
+    ensures { ParsesLongest text.now (declarator_id · optional (array_suffix whole · many (suffix whole (naming_of naming)))) at None out.old out.new result }
 {
     let start = out.checkpoint();
     let Some(behind) = declarator_id(text, at, out)? else {
         return Ok(None);
     };
-    if !text.is_at(behind, Symbol::OpenBracket) {
+    if !text.is_at(behind, Terminal::OpenBracket) {
         return Ok(Some(behind));
     }
-    Ok(Some(suffixes(text, behind, naming, room, start, out)?))
+    Ok(Some(suffixes(text, behind, naming, depth_left, start, out)?))
 }
 
 /// A declarator without a name and without parentheses.
@@ -173,15 +174,15 @@ fn omitted_declarator(
     text: &TypeNames,
     at: usize,
     naming: Naming,
-    room: u32,
+    depth_left: u32,
     out: &mut Builder,
 ) -> Result<usize, AllocError>
-    requires here { at ≤ length text.now.symbols }
-    ensures { AlwaysRule text.now (omitted_id · many (suffix whole (naming_of naming))) at None out.old out.new result }
+    requires here { at ≤ length text.now.terminals }
+    ensures { ParsesAlways text.now (omitted_id · many (suffix whole (naming_of naming))) at None out.old out.new result }
 {
     let start = out.checkpoint();
-    out.leaf(NodeKind::OmittedId, text.place(at), None)?;
-    suffixes(text, at, naming, room, start, out)
+    out.leaf(NodeKind::OmittedId, text.position(at), None)?;
+    suffixes(text, at, naming, depth_left, start, out)
 }
 
 /// A declared name, or a declarator in parentheses.
@@ -190,16 +191,16 @@ fn declarator_head(
     text: &TypeNames,
     at: usize,
     naming: Naming,
-    room: u32,
+    depth_left: u32,
     out: &mut Builder,
 ) -> Result<Option<usize>, AllocError>
-    requires here { at ≤ length text.now.symbols }
-    ensures { ParsedRule text.now (declarator_head whole (naming_of naming)) at None out.old out.new result }
+    requires here { at ≤ length text.now.terminals }
+    ensures { ParsesLongest text.now (declarator_head whole (naming_of naming)) at None out.old out.new result }
 {
     if naming.may_be_named() && text.begins_name(at) {
         return declarator_id(text, at, out);
     }
-    parenthesized_declarator(text, at, naming, room, out)
+    parenthesized_declarator(text, at, naming, depth_left, out)
 }
 
 /// `N` or `T::N`.
@@ -208,22 +209,22 @@ fn declarator_id(
     at: usize,
     out: &mut Builder,
 ) -> Result<Option<usize>, AllocError>
-    requires here { at ≤ length text.now.symbols }
-    ensures { ParsedRule text.now declarator_id at None out.old out.new result }
+    requires here { at ≤ length text.now.terminals }
+    ensures { ParsesLongest text.now declarator_id at None out.old out.new result }
 {
     if text.is_name_at(at) {
         return Ok(Some(leaf(text, at, NodeKind::DeclaratorId, out)?));
     }
-    if !text.is_at(at, Symbol::TypeName) {
-        out.refuse(at);
+    if !text.is_at(at, Terminal::TypeName) {
+        out.expected_at(at);
         return Ok(None);
     }
-    if !text.is_at(at + 1, Symbol::ColonColon) {
-        out.refuse(at + 1);
+    if !text.is_at(at + 1, Terminal::ColonColon) {
+        out.expected_at(at + 1);
         return Ok(None);
     }
     if !text.is_name_at(at + 2) {
-        out.refuse(at + 2);
+        out.expected_at(at + 2);
         return Ok(None);
     }
     let start = out.checkpoint();
@@ -245,26 +246,26 @@ fn parenthesized_declarator(
     text: &TypeNames,
     at: usize,
     naming: Naming,
-    room: u32,
+    depth_left: u32,
     out: &mut Builder,
 ) -> Result<Option<usize>, AllocError>
-    requires here { at ≤ length text.now.symbols }
-    ensures { ParsedRule text.now (parenthesized_declarator whole (naming_of naming)) at None out.old out.new result }
+    requires here { at ≤ length text.now.terminals }
+    ensures { ParsesLongest text.now (parenthesized_declarator whole (naming_of naming)) at None out.old out.new result }
 {
-    if !text.is_at(at, Symbol::OpenParen) {
-        out.refuse(at);
+    if !text.is_at(at, Terminal::OpenParen) {
+        out.expected_at(at);
         return Ok(None);
     }
     let start = out.checkpoint();
-    let Some(close) = declarator(text, at + 1, naming, less_room(room)?, out)? else {
+    let Some(close) = declarator(text, at + 1, naming, descend(depth_left)?, out)? else {
         return Ok(None);
     };
     if close == at + 1 {
-        out.refuse(close);
+        out.expected_at(close);
         return Ok(None);
     }
-    if !text.is_at(close, Symbol::CloseParen) {
-        out.refuse(close);
+    if !text.is_at(close, Terminal::CloseParen) {
+        out.expected_at(close);
         return Ok(None);
     }
     node(
@@ -284,22 +285,22 @@ fn suffixes(
     text: &TypeNames,
     at: usize,
     naming: Naming,
-    room: u32,
+    depth_left: u32,
     start: Checkpoint,
     out: &mut Builder,
 ) -> Result<usize, AllocError>
-    requires here { at ≤ length text.now.symbols }
-    ensures { AlwaysBehind text.now (many (suffix whole (naming_of naming))) start at out.old out.new result }
+    requires here { at ≤ length text.now.terminals }
+    ensures { ParsesAlwaysBehind text.now (many (suffix whole (naming_of naming))) start at out.old out.new result }
 {
     let mut next = at;
     'suffixes: loop {
         let mark = out.checkpoint();
-        if text.is_at(next, Symbol::OpenBracket) {
-            let Some(behind) = array_bound(text, next, room, out)? else {
+        if text.is_at(next, Terminal::OpenBracket) {
+            let Some(behind) = array_bound(text, next, depth_left, out)? else {
                 out.cut(mark);
                 return Ok(next);
             };
-            around(
+            wrap(
                 text,
                 next,
                 NodeKind::ArrayDeclarator,
@@ -309,11 +310,11 @@ fn suffixes(
             )?;
             next = behind;
         } else {
-            let Some(behind) = function_parameters(text, next, naming, room, out)? else {
+            let Some(behind) = function_parameters(text, next, naming, depth_left, out)? else {
                 out.cut(mark);
                 return Ok(next);
             };
-            around(
+            wrap(
                 text,
                 next,
                 NodeKind::FunctionDeclarator,
@@ -331,17 +332,17 @@ fn suffixes(
 fn array_bound(
     text: &TypeNames,
     at: usize,
-    room: u32,
+    depth_left: u32,
     out: &mut Builder,
 ) -> Result<Option<usize>, AllocError>
-    requires here { at ≤ length text.now.symbols }
-    requires begins { open_bracket (symbol_at text.now at) ≡ true }
-    requires few { length text.now.symbols ≤ 1048576 }
-    ensures { ParsedRule text.now (array_bound whole) at (Some at) out.old out.new result }
+    requires here { at ≤ length text.now.terminals }
+    requires begins { open_bracket (terminal_at text.now at) ≡ true }
+    requires few { length text.now.terminals ≤ MAX_TOKENS }
+    ensures { ParsesLongest text.now (array_bound whole) at (Some at) out.old out.new result }
 {
-    let close = optional_conditional_expression(text, at + 1, less_room(room)?, out)?;
-    if !text.is_at(close, Symbol::CloseBracket) {
-        out.refuse(close);
+    let close = optional_conditional_expression(text, at + 1, descend(depth_left)?, out)?;
+    if !text.is_at(close, Terminal::CloseBracket) {
+        out.expected_at(close);
         return Ok(None);
     }
     Ok(Some(close + 1))
@@ -352,14 +353,14 @@ fn array_bound(
 fn optional_conditional_expression(
     text: &TypeNames,
     at: usize,
-    room: u32,
+    depth_left: u32,
     out: &mut Builder,
 ) -> Result<usize, AllocError>
-    requires here { at ≤ length text.now.symbols }
-    ensures { AlwaysRule text.now (optional (form conditional_expression)) at None out.old out.new result }
+    requires here { at ≤ length text.now.terminals }
+    ensures { ParsesAlways text.now (optional (form conditional_expression)) at None out.old out.new result }
 {
     let mark = out.checkpoint();
-    let Some(next) = conditional_expression(text, at, room, out)? else {
+    let Some(next) = conditional_expression(text, at, depth_left, out)? else {
         out.cut(mark);
         return Ok(at);
     };
@@ -372,22 +373,22 @@ pub fn function_parameters(
     text: &TypeNames,
     at: usize,
     naming: Naming,
-    room: u32,
+    depth_left: u32,
     out: &mut Builder,
 ) -> Result<Option<usize>, AllocError>
-    requires here { at ≤ length text.now.symbols }
-    ensures { ParsedRule text.now (parameters_behind whole (naming_of naming)) at (Some at) out.old out.new result }
+    requires here { at ≤ length text.now.terminals }
+    ensures { ParsesLongest text.now (parameters_behind whole (naming_of naming)) at (Some at) out.old out.new result }
 {
-    if !text.is_at(at, Symbol::OpenParen) {
-        out.refuse(at);
+    if !text.is_at(at, Terminal::OpenParen) {
+        out.expected_at(at);
         return Ok(None);
     }
-    if !naming.may_be_unnamed() && !text.sees_parameters(at) {
+    let close = parameter_clause(text, at + 1, descend(depth_left)?, out)?;
+    if !text.is_at(close, Terminal::CloseParen) {
+        out.expected_at(close);
         return Ok(None);
     }
-    let close = parameter_clause(text, at + 1, less_room(room)?, out)?;
-    if !text.is_at(close, Symbol::CloseParen) {
-        out.refuse(close);
+    if !naming.may_be_unnamed() && !text.lookahead_parameters(at) {
         return Ok(None);
     }
     Ok(Some(function_qualifiers(text, close + 1, out)?))
@@ -399,8 +400,8 @@ pub fn function_qualifiers(
     at: usize,
     out: &mut Builder,
 ) -> Result<usize, AllocError>
-    requires here { at ≤ length text.now.symbols }
-    ensures { AlwaysRule text.now (form function_qualifiers) at None out.old out.new result }
+    requires here { at ≤ length text.now.terminals }
+    ensures { ParsesAlways text.now (form function_qualifiers) at None out.old out.new result }
 {
     let start = out.checkpoint();
     let constant = optional_const(text, at, out)?;
@@ -412,10 +413,10 @@ pub fn function_qualifiers(
 
 /// `const`, or nothing.
 fn optional_const(text: &TypeNames, at: usize, out: &mut Builder) -> Result<usize, AllocError>
-    requires here { at ≤ length text.now.symbols }
-    ensures { AlwaysRule text.now (optional (leaf CvQualifier const_word)) at None out.old out.new result }
+    requires here { at ≤ length text.now.terminals }
+    ensures { ParsesAlways text.now (optional (leaf CvQualifier const_word)) at None out.old out.new result }
 {
-    if !text.is_at(at, Symbol::Const) {
+    if !text.is_at(at, Terminal::Const) {
         return Ok(at);
     }
     leaf(text, at, NodeKind::CvQualifier, out)
@@ -423,8 +424,8 @@ fn optional_const(text: &TypeNames, at: usize, out: &mut Builder) -> Result<usiz
 
 /// `transaction_safe` or `transaction_safe_dynamic`, or nothing.
 pub fn optional_safety(text: &TypeNames, at: usize, out: &mut Builder) -> Result<usize, AllocError>
-    requires here { at ≤ length text.now.symbols }
-    ensures { AlwaysRule text.now (optional tx_qualifier) at None out.old out.new result }
+    requires here { at ≤ length text.now.terminals }
+    ensures { ParsesAlways text.now (optional tx_qualifier) at None out.old out.new result }
 {
     if !text.is_safety_at(at) {
         return Ok(at);
@@ -438,10 +439,10 @@ pub fn optional_noexcept(
     at: usize,
     out: &mut Builder,
 ) -> Result<usize, AllocError>
-    requires here { at ≤ length text.now.symbols }
-    ensures { AlwaysRule text.now (optional noexcept_specification) at None out.old out.new result }
+    requires here { at ≤ length text.now.terminals }
+    ensures { ParsesAlways text.now (optional noexcept_specification) at None out.old out.new result }
 {
-    if !text.is_at(at, Symbol::Noexcept) {
+    if !text.is_at(at, Terminal::Noexcept) {
         return Ok(at);
     }
     leaf(text, at, NodeKind::NoexceptSpecification, out)
@@ -452,15 +453,15 @@ pub fn optional_noexcept(
 pub fn parameter_clause(
     text: &TypeNames,
     at: usize,
-    room: u32,
+    depth_left: u32,
     out: &mut Builder,
 ) -> Result<usize, AllocError>
-    requires here { at ≤ length text.now.symbols }
-    ensures { AlwaysRule text.now (form (parameter_declaration_clause whole)) at None out.old out.new result }
+    requires here { at ≤ length text.now.terminals }
+    ensures { ParsesAlways text.now (form (parameter_declaration_clause whole)) at None out.old out.new result }
 {
     let start = out.checkpoint();
-    let next = parameters(text, at, room, out)?;
-    if text.is_at(at, Symbol::Void) && next == at + 1 {
+    let next = parameters(text, at, depth_left, out)?;
+    if text.is_at(at, Terminal::Void) && next == at + 1 {
         out.cut(start);
         node(
             text,
@@ -488,21 +489,21 @@ pub fn parameter_clause(
 fn parameters(
     text: &TypeNames,
     at: usize,
-    room: u32,
+    depth_left: u32,
     out: &mut Builder,
 ) -> Result<usize, AllocError>
-    requires here { at ≤ length text.now.symbols }
-    ensures { AlwaysRule text.now (optional (parameter_list whole)) at None out.old out.new result }
+    requires here { at ≤ length text.now.terminals }
+    ensures { ParsesAlways text.now (optional (parameter_list whole)) at None out.old out.new result }
 {
     let mark = out.checkpoint();
-    let Some(first) = parameter_declaration(text, at, room, out)? else {
+    let Some(first) = parameter_declaration(text, at, depth_left, out)? else {
         out.cut(mark);
         return Ok(at);
     };
     let mut next = first;
-    'items: while text.is_at(next, Symbol::Comma) {
+    'items: while text.is_at(next, Terminal::Comma) {
         let mark = out.checkpoint();
-        let Some(behind) = parameter_declaration(text, next + 1, room, out)? else {
+        let Some(behind) = parameter_declaration(text, next + 1, depth_left, out)? else {
             out.cut(mark);
             return Ok(next);
         };
@@ -516,17 +517,17 @@ fn parameters(
 pub fn parameter_declaration(
     text: &TypeNames,
     at: usize,
-    room: u32,
+    depth_left: u32,
     out: &mut Builder,
 ) -> Result<Option<usize>, AllocError>
-    requires here { at ≤ length text.now.symbols }
-    ensures { ParsedRule text.now (form (parameter_declaration whole)) at None out.old out.new result }
+    requires here { at ≤ length text.now.terminals }
+    ensures { ParsesLongest text.now (form (parameter_declaration whole)) at None out.old out.new result }
 {
     let start = out.checkpoint();
-    let Some(behind) = type_specifier_seq(text, at, room, out)? else {
+    let Some(behind) = type_specifier_seq(text, at, depth_left, out)? else {
         return Ok(None);
     };
-    let Some(next) = declarator(text, behind, Naming::Either, room, out)? else {
+    let Some(next) = declarator(text, behind, Naming::Either, depth_left, out)? else {
         return Ok(None);
     };
     node_at_name(text, at, NodeKind::ParameterDeclaration, None, start, out)?;

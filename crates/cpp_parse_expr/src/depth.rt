@@ -101,7 +101,7 @@ fn deeper_kid(
     requires below { are_below (first + length heights.now.items) kids.now ≡ true }
     requires here { here ≤ limit }
     ensures deep { (trees : Trees) → ShowsAll nodes.now kids.now trees → MatchOption result (deep_kid limit here trees ≡ None) (λ id. HasDeep nodes.now id.0 limit here trees) }
-    ensures lower { (place : ℕ) → are_below place kids.now ≡ true → IfSome result (λ id. id.0 < place) }
+    ensures lower { (position : ℕ) → are_below position kids.now ≡ true → IfSome result (λ id. id.0 < position) }
     ensures own { IfSome result (λ id. first ≤ id.0) }
 {
     'kids: for kid in kids {
@@ -150,7 +150,7 @@ fn hand_down(nodes: &Nodes, first: u32, kids: &[NodeId], depth: u64, depths: &mu
     requires below { are_below (length nodes.now) kids.now ≡ true }
     requires fits { depth + 1 < 2 ^ 64 }
     ensures handed { HandsDown nodes.now first kids.now depth depths.old.items depths.new.items }
-    ensures low { (most place : ℕ) → are_below place kids.now ≡ true → depth + place ≤ most + first → AreLow most depths.old.items → AreLow most depths.new.items }
+    ensures low { (most position : ℕ) → are_below position kids.now ≡ true → depth + position ≤ most + first → AreLow most depths.old.items → AreLow most depths.new.items }
 {
     'kids: for kid in kids {
         depths[(kid.0 - first) as usize] = depth + step(nodes.node(*kid).kind);

@@ -1,21 +1,22 @@
 //! Expressions: C++14 clause 5.
 
 ghost use Rattle.std.specs.Prelude.{◌≡◌, ◌≤◌, true, length, Ok, Some, None};
-ghost use Rattle.cpp_syntax.specs.Source.{symbol_at};
-ghost use Rattle.cpp_syntax.specs.Symbols.{question, throw_word, sizeof_word, open_paren, static_cast_word, is_type_name, is_literal, std, dot, arrow, open_bracket};
+ghost use Rattle.cpp_syntax.specs.Source.{terminal_at};
+ghost use Rattle.cpp_syntax.specs.Terminals.{question, throw_word, sizeof_word, open_paren, static_cast_word, is_type_name, is_literal, std, dot, arrow, open_bracket};
 ghost use Rattle.cpp_syntax.specs.Rules.{◌∣◌, form, optional, expression, assignment_expression, conditional_expression, binary_expression, cast_expression, unary_expression, postfix_expression, expression_list, primary_expression, functional_type};
 ghost use Rattle.cpp_syntax.specs.Grammar.{list, throw_expression, choice, sizeof_expression, arguments, parenthesized_expression, static_cast, qualified_id, std_abort, functional_cast, literal};
-ghost use Rattle.cpp_syntax.specs.View.{Building};
-ghost use Rattle.cpp_syntax.specs.Parsed.{ParsedRule, AlwaysRule};
+ghost use Rattle.cpp_syntax.specs.View.{BuilderState};
+ghost use Rattle.cpp_syntax.specs.Parsed.{ParsesLongest, ParsesAlways};
 ghost use Rattle.cpp_parse_expr.specs.Suffixes.{ParsedSuffix, literal_kind};
+ghost use Rattle.cpp_syntax.specs.declared.limits.TheConstants.{MAX_TOKENS};
 
 use crate::declarators::type_id;
 use crate::lambdas::lambda_expression;
 use crate::types::{tx_exception, type_name};
 use cpp_ast::NodeKind;
-use cpp_syntax::read::{around, leaf, node};
-use cpp_syntax::shapes::less_room;
-use cpp_syntax::{Builder, Symbol, TypeNames};
+use cpp_syntax::read::{leaf, node, wrap};
+use cpp_syntax::shapes::descend;
+use cpp_syntax::{Builder, Terminal, TypeNames};
 use std::alloc::AllocError;
 
 /// The levels of operators between two operands, from `*` to `||`.
@@ -26,24 +27,24 @@ const LEVELS: u32 = 10;
 pub fn expression(
     text: &TypeNames,
     at: usize,
-    room: u32,
+    depth_left: u32,
     out: &mut Builder,
 ) -> Result<Option<usize>, AllocError>
-    requires here { at ≤ length text.now.symbols }
-    ensures { ParsedRule text.now (form expression) at None out.old out.new result }
+    requires here { at ≤ length text.now.terminals }
+    ensures { ParsesLongest text.now (form expression) at None out.old out.new result }
 {
     let start = out.checkpoint();
-    let Some(first) = assignment_expression(text, at, room, out)? else {
+    let Some(first) = assignment_expression(text, at, depth_left, out)? else {
         return Ok(None);
     };
     let mut next = first;
-    'operands: while text.is_at(next, Symbol::Comma) {
+    'operands: while text.is_at(next, Terminal::Comma) {
         let mark = out.checkpoint();
-        let Some(behind) = assignment_expression(text, next + 1, room, out)? else {
+        let Some(behind) = assignment_expression(text, next + 1, depth_left, out)? else {
             out.cut(mark);
             return Ok(Some(next));
         };
-        around(
+        wrap(
             text,
             next,
             NodeKind::CommaExpression,
@@ -61,26 +62,26 @@ pub fn expression(
 pub fn assignment_expression(
     text: &TypeNames,
     at: usize,
-    room: u32,
+    depth_left: u32,
     out: &mut Builder,
 ) -> Result<Option<usize>, AllocError>
-    requires here { at ≤ length text.now.symbols }
-    ensures { ParsedRule text.now (form assignment_expression) at None out.old out.new result }
+    requires here { at ≤ length text.now.terminals }
+    ensures { ParsesLongest text.now (form assignment_expression) at None out.old out.new result }
 {
-    if text.is_at(at, Symbol::Throw) {
-        return Ok(Some(throw_expression(text, at, room, out)?));
+    if text.is_at(at, Terminal::Throw) {
+        return Ok(Some(throw_expression(text, at, depth_left, out)?));
     }
     let start = out.checkpoint();
-    let Some(left) = binary_expression(text, at, LEVELS, room, out)? else {
+    let Some(left) = binary_expression(text, at, LEVELS, depth_left, out)? else {
         return Ok(None);
     };
     let mark = out.checkpoint();
     if text.is_assignment_at(left) {
-        let Some(next) = assignment_expression(text, left + 1, less_room(room)?, out)? else {
+        let Some(next) = assignment_expression(text, left + 1, descend(depth_left)?, out)? else {
             out.cut(mark);
             return Ok(Some(left));
         };
-        around(
+        wrap(
             text,
             left,
             NodeKind::AssignmentExpression,
@@ -90,15 +91,15 @@ pub fn assignment_expression(
         )?;
         return Ok(Some(next));
     }
-    if !text.is_at(left, Symbol::Question) {
-        out.refuse(left);
+    if !text.is_at(left, Terminal::Question) {
+        out.expected_at(left);
         return Ok(Some(left));
     }
-    let Some(next) = choice(text, left, room, out)? else {
+    let Some(next) = choice(text, left, depth_left, out)? else {
         out.cut(mark);
         return Ok(Some(left));
     };
-    around(
+    wrap(
         text,
         left,
         NodeKind::ConditionalExpression,
@@ -114,16 +115,16 @@ pub fn assignment_expression(
 fn throw_expression(
     text: &TypeNames,
     at: usize,
-    room: u32,
+    depth_left: u32,
     out: &mut Builder,
 ) -> Result<usize, AllocError>
-    requires here { at ≤ length text.now.symbols }
-    requires begins { throw_word (symbol_at text.now at) ≡ true }
-    requires few { length text.now.symbols ≤ 1048576 }
-    ensures { AlwaysRule text.now throw_expression at None out.old out.new result }
+    requires here { at ≤ length text.now.terminals }
+    requires begins { throw_word (terminal_at text.now at) ≡ true }
+    requires few { length text.now.terminals ≤ MAX_TOKENS }
+    ensures { ParsesAlways text.now throw_expression at None out.old out.new result }
 {
     let start = out.checkpoint();
-    let next = optional_assignment_expression(text, at + 1, less_room(room)?, out)?;
+    let next = optional_assignment_expression(text, at + 1, descend(depth_left)?, out)?;
     node(
         text,
         at,
@@ -140,14 +141,14 @@ fn throw_expression(
 fn optional_assignment_expression(
     text: &TypeNames,
     at: usize,
-    room: u32,
+    depth_left: u32,
     out: &mut Builder,
 ) -> Result<usize, AllocError>
-    requires here { at ≤ length text.now.symbols }
-    ensures { AlwaysRule text.now (optional (form assignment_expression)) at None out.old out.new result }
+    requires here { at ≤ length text.now.terminals }
+    ensures { ParsesAlways text.now (optional (form assignment_expression)) at None out.old out.new result }
 {
     let mark = out.checkpoint();
-    let Some(next) = assignment_expression(text, at, room, out)? else {
+    let Some(next) = assignment_expression(text, at, depth_left, out)? else {
         out.cut(mark);
         return Ok(at);
     };
@@ -159,26 +160,26 @@ fn optional_assignment_expression(
 pub fn conditional_expression(
     text: &TypeNames,
     at: usize,
-    room: u32,
+    depth_left: u32,
     out: &mut Builder,
 ) -> Result<Option<usize>, AllocError>
-    requires here { at ≤ length text.now.symbols }
-    ensures { ParsedRule text.now (form conditional_expression) at None out.old out.new result }
+    requires here { at ≤ length text.now.terminals }
+    ensures { ParsesLongest text.now (form conditional_expression) at None out.old out.new result }
 {
     let start = out.checkpoint();
-    let Some(left) = binary_expression(text, at, LEVELS, room, out)? else {
+    let Some(left) = binary_expression(text, at, LEVELS, depth_left, out)? else {
         return Ok(None);
     };
-    if !text.is_at(left, Symbol::Question) {
-        out.refuse(left);
+    if !text.is_at(left, Terminal::Question) {
+        out.expected_at(left);
         return Ok(Some(left));
     }
     let mark = out.checkpoint();
-    let Some(next) = choice(text, left, room, out)? else {
+    let Some(next) = choice(text, left, depth_left, out)? else {
         out.cut(mark);
         return Ok(Some(left));
     };
-    around(
+    wrap(
         text,
         left,
         NodeKind::ConditionalExpression,
@@ -194,20 +195,20 @@ pub fn conditional_expression(
 fn choice(
     text: &TypeNames,
     at: usize,
-    room: u32,
+    depth_left: u32,
     out: &mut Builder,
 ) -> Result<Option<usize>, AllocError>
-    requires here { at ≤ length text.now.symbols }
-    requires begins { question (symbol_at text.now at) ≡ true }
-    requires few { length text.now.symbols ≤ 1048576 }
-    ensures { ParsedRule text.now choice at (Some at) out.old out.new result }
+    requires here { at ≤ length text.now.terminals }
+    requires begins { question (terminal_at text.now at) ≡ true }
+    requires few { length text.now.terminals ≤ MAX_TOKENS }
+    ensures { ParsesLongest text.now choice at (Some at) out.old out.new result }
 {
-    let inner = less_room(room)?;
+    let inner = descend(depth_left)?;
     let Some(middle) = expression(text, at + 1, inner, out)? else {
         return Ok(None);
     };
-    if !text.is_at(middle, Symbol::Colon) {
-        out.refuse(middle);
+    if !text.is_at(middle, Terminal::Colon) {
+        out.expected_at(middle);
         return Ok(None);
     }
     assignment_expression(text, middle + 1, inner, out)
@@ -219,26 +220,26 @@ fn binary_expression(
     text: &TypeNames,
     at: usize,
     level: u32,
-    room: u32,
+    depth_left: u32,
     out: &mut Builder,
 ) -> Result<Option<usize>, AllocError>
-    requires here { at ≤ length text.now.symbols }
-    ensures { ParsedRule text.now (form (binary_expression level)) at None out.old out.new result }
+    requires here { at ≤ length text.now.terminals }
+    ensures { ParsesLongest text.now (form (binary_expression level)) at None out.old out.new result }
 {
     let start = out.checkpoint();
-    let Some(first) = cast_expression(text, at, room, out)? else {
+    let Some(first) = cast_expression(text, at, depth_left, out)? else {
         return Ok(None);
     };
     let mut next = first;
     'levels: for below in 0..level {
         'operands: while text.level_at(next) == below + 1 {
             let mark = out.checkpoint();
-            let Some(behind) = binary_expression(text, next + 1, below, less_room(room)?, out)?
+            let Some(behind) = binary_expression(text, next + 1, below, descend(depth_left)?, out)?
             else {
                 out.cut(mark);
                 return Ok(Some(next));
             };
-            around(
+            wrap(
                 text,
                 next,
                 NodeKind::BinaryExpression,
@@ -257,25 +258,25 @@ fn binary_expression(
 fn cast_expression(
     text: &TypeNames,
     at: usize,
-    room: u32,
+    depth_left: u32,
     out: &mut Builder,
 ) -> Result<Option<usize>, AllocError>
-    requires here { at ≤ length text.now.symbols }
-    ensures { ParsedRule text.now (form cast_expression) at None out.old out.new result }
+    requires here { at ≤ length text.now.terminals }
+    ensures { ParsesLongest text.now (form cast_expression) at None out.old out.new result }
 {
-    if !text.is_at(at, Symbol::OpenParen) {
-        return unary_expression(text, at, room, out);
+    if !text.is_at(at, Terminal::OpenParen) {
+        return unary_expression(text, at, depth_left, out);
     }
-    if !text.sees_cast(at, room)? {
-        return unary_expression(text, at, room, out);
+    if !text.lookahead_cast(at, depth_left)? {
+        return unary_expression(text, at, depth_left, out);
     }
     let start = out.checkpoint();
-    let inner = less_room(room)?;
+    let inner = descend(depth_left)?;
     let Some(close) = type_id(text, at + 1, inner, out)? else {
         return Ok(None);
     };
-    if !text.is_at(close, Symbol::CloseParen) {
-        out.refuse(close);
+    if !text.is_at(close, Terminal::CloseParen) {
+        out.expected_at(close);
         return Ok(None);
     }
     let Some(next) = cast_expression(text, close + 1, inner, out)? else {
@@ -297,20 +298,20 @@ fn cast_expression(
 fn unary_expression(
     text: &TypeNames,
     at: usize,
-    room: u32,
+    depth_left: u32,
     out: &mut Builder,
 ) -> Result<Option<usize>, AllocError>
-    requires here { at ≤ length text.now.symbols }
-    ensures { ParsedRule text.now (form unary_expression) at None out.old out.new result }
+    requires here { at ≤ length text.now.terminals }
+    ensures { ParsesLongest text.now (form unary_expression) at None out.old out.new result }
 {
-    if text.is_at(at, Symbol::Sizeof) {
-        return sizeof_expression(text, at, room, out);
+    if text.is_at(at, Terminal::Sizeof) {
+        return sizeof_expression(text, at, depth_left, out);
     }
     if !text.is_prefix_at(at) {
-        return postfix_expression(text, at, room, out);
+        return postfix_expression(text, at, depth_left, out);
     }
     let start = out.checkpoint();
-    let Some(next) = cast_expression(text, at + 1, less_room(room)?, out)? else {
+    let Some(next) = cast_expression(text, at + 1, descend(depth_left)?, out)? else {
         return Ok(None);
     };
     node(
@@ -329,17 +330,17 @@ fn unary_expression(
 fn sizeof_expression(
     text: &TypeNames,
     at: usize,
-    room: u32,
+    depth_left: u32,
     out: &mut Builder,
 ) -> Result<Option<usize>, AllocError>
-    requires here { at ≤ length text.now.symbols }
-    requires begins { sizeof_word (symbol_at text.now at) ≡ true }
-    requires few { length text.now.symbols ≤ 1048576 }
-    ensures { ParsedRule text.now sizeof_expression at None out.old out.new result }
+    requires here { at ≤ length text.now.terminals }
+    requires begins { sizeof_word (terminal_at text.now at) ≡ true }
+    requires few { length text.now.terminals ≤ MAX_TOKENS }
+    ensures { ParsesLongest text.now sizeof_expression at None out.old out.new result }
 {
     let start = out.checkpoint();
-    let inner = less_room(room)?;
-    if !text.sees_type_in_parentheses(at + 1, room)? {
+    let inner = descend(depth_left)?;
+    if !text.lookahead_type_in_parentheses(at + 1, depth_left)? {
         let Some(next) = unary_expression(text, at + 1, inner, out)? else {
             return Ok(None);
         };
@@ -356,8 +357,8 @@ fn sizeof_expression(
     let Some(close) = type_id(text, at + 2, inner, out)? else {
         return Ok(None);
     };
-    if !text.is_at(close, Symbol::CloseParen) {
-        out.refuse(close);
+    if !text.is_at(close, Terminal::CloseParen) {
+        out.expected_at(close);
         return Ok(None);
     }
     node(text, at, NodeKind::SizeofType, Some(at as u32), start, out)?;
@@ -369,24 +370,24 @@ fn sizeof_expression(
 fn postfix_expression(
     text: &TypeNames,
     at: usize,
-    room: u32,
+    depth_left: u32,
     out: &mut Builder,
 ) -> Result<Option<usize>, AllocError>
-    requires here { at ≤ length text.now.symbols }
-    ensures { ParsedRule text.now (form postfix_expression) at None out.old out.new result }
+    requires here { at ≤ length text.now.terminals }
+    ensures { ParsesLongest text.now (form postfix_expression) at None out.old out.new result }
 {
     let start = out.checkpoint();
-    let Some(first) = primary_expression(text, at, room, out)? else {
+    let Some(first) = primary_expression(text, at, depth_left, out)? else {
         return Ok(None);
     };
     let mut next = first;
     'suffixes: loop {
         let mark = out.checkpoint();
-        let Some(suffix) = postfix(text, next, room, out)? else {
+        let Some(suffix) = postfix(text, next, depth_left, out)? else {
             out.cut(mark);
             return Ok(Some(next));
         };
-        around(text, next, suffix.kind, suffix.token, start, out)?;
+        wrap(text, next, suffix.kind, suffix.token, start, out)?;
         next = suffix.next;
     }
 }
@@ -404,22 +405,22 @@ struct Suffix {
 fn postfix(
     text: &TypeNames,
     at: usize,
-    room: u32,
+    depth_left: u32,
     out: &mut Builder,
 ) -> Result<Option<Suffix>, AllocError>
-    requires here { at ≤ length text.now.symbols }
+    requires here { at ≤ length text.now.terminals }
     ensures { ParsedSuffix text.now at out.old out.new result }
 {
-    if text.is_at(at, Symbol::OpenBracket) {
-        return subscript(text, at, room, out);
+    if text.is_at(at, Terminal::OpenBracket) {
+        return subscript(text, at, depth_left, out);
     }
-    if text.is_at(at, Symbol::OpenParen) {
-        return call(text, at, room, out);
+    if text.is_at(at, Terminal::OpenParen) {
+        return call(text, at, depth_left, out);
     }
-    if text.is_at(at, Symbol::Dot) {
+    if text.is_at(at, Terminal::Dot) {
         return Ok(member(text, at));
     }
-    if text.is_at(at, Symbol::Arrow) {
+    if text.is_at(at, Terminal::Arrow) {
         return Ok(pointer_member(text, at));
     }
     if text.is_step_at(at) {
@@ -429,7 +430,7 @@ fn postfix(
             next: at + 1,
         }));
     }
-    out.refuse(at);
+    out.expected_at(at);
     Ok(None)
 }
 
@@ -438,19 +439,19 @@ fn postfix(
 fn subscript(
     text: &TypeNames,
     at: usize,
-    room: u32,
+    depth_left: u32,
     out: &mut Builder,
 ) -> Result<Option<Suffix>, AllocError>
-    requires here { at ≤ length text.now.symbols }
-    requires begins { open_bracket (symbol_at text.now at) ≡ true }
-    requires few { length text.now.symbols ≤ 1048576 }
+    requires here { at ≤ length text.now.terminals }
+    requires begins { open_bracket (terminal_at text.now at) ≡ true }
+    requires few { length text.now.terminals ≤ MAX_TOKENS }
     ensures { ParsedSuffix text.now at out.old out.new result }
 {
-    let Some(close) = expression(text, at + 1, less_room(room)?, out)? else {
+    let Some(close) = expression(text, at + 1, descend(depth_left)?, out)? else {
         return Ok(None);
     };
-    if !text.is_at(close, Symbol::CloseBracket) {
-        out.refuse(close);
+    if !text.is_at(close, Terminal::CloseBracket) {
+        out.expected_at(close);
         return Ok(None);
     }
     Ok(Some(Suffix {
@@ -465,15 +466,15 @@ fn subscript(
 fn call(
     text: &TypeNames,
     at: usize,
-    room: u32,
+    depth_left: u32,
     out: &mut Builder,
 ) -> Result<Option<Suffix>, AllocError>
-    requires here { at ≤ length text.now.symbols }
-    requires begins { open_paren (symbol_at text.now at) ≡ true }
-    requires few { length text.now.symbols ≤ 1048576 }
+    requires here { at ≤ length text.now.terminals }
+    requires begins { open_paren (terminal_at text.now at) ≡ true }
+    requires few { length text.now.terminals ≤ MAX_TOKENS }
     ensures { ParsedSuffix text.now at out.old out.new result }
 {
-    let Some(next) = arguments(text, at, room, out)? else {
+    let Some(next) = arguments(text, at, depth_left, out)? else {
         return Ok(None);
     };
     Ok(Some(Suffix {
@@ -485,10 +486,10 @@ fn call(
 
 /// The name of a member behind `.`.
 fn member(text: &TypeNames, at: usize) -> Option<Suffix>
-    requires here { at ≤ length text.now.symbols }
-    requires begins { dot (symbol_at text.now at) ≡ true }
-    requires few { length text.now.symbols ≤ 1048576 }
-    ensures { (old : Building) → ParsedSuffix text.now at old old (Ok result) }
+    requires here { at ≤ length text.now.terminals }
+    requires begins { dot (terminal_at text.now at) ≡ true }
+    requires few { length text.now.terminals ≤ MAX_TOKENS }
+    ensures { (old : BuilderState) → ParsedSuffix text.now at old old (Ok result) }
 {
     if !text.is_name_at(at + 1) {
         return None;
@@ -502,10 +503,10 @@ fn member(text: &TypeNames, at: usize) -> Option<Suffix>
 
 /// The name of a member behind `->`.
 fn pointer_member(text: &TypeNames, at: usize) -> Option<Suffix>
-    requires here { at ≤ length text.now.symbols }
-    requires begins { arrow (symbol_at text.now at) ≡ true }
-    requires few { length text.now.symbols ≤ 1048576 }
-    ensures { (old : Building) → ParsedSuffix text.now at old old (Ok result) }
+    requires here { at ≤ length text.now.terminals }
+    requires begins { arrow (terminal_at text.now at) ≡ true }
+    requires few { length text.now.terminals ≤ MAX_TOKENS }
+    ensures { (old : BuilderState) → ParsedSuffix text.now at old old (Ok result) }
 {
     if !text.is_name_at(at + 1) {
         return None;
@@ -522,17 +523,17 @@ fn pointer_member(text: &TypeNames, at: usize) -> Option<Suffix>
 fn arguments(
     text: &TypeNames,
     at: usize,
-    room: u32,
+    depth_left: u32,
     out: &mut Builder,
 ) -> Result<Option<usize>, AllocError>
-    requires here { at ≤ length text.now.symbols }
-    requires begins { open_paren (symbol_at text.now at) ≡ true }
-    requires few { length text.now.symbols ≤ 1048576 }
-    ensures { ParsedRule text.now arguments at (Some at) out.old out.new result }
+    requires here { at ≤ length text.now.terminals }
+    requires begins { open_paren (terminal_at text.now at) ≡ true }
+    requires few { length text.now.terminals ≤ MAX_TOKENS }
+    ensures { ParsesLongest text.now arguments at (Some at) out.old out.new result }
 {
-    let close = expression_list(text, at + 1, less_room(room)?, out)?;
-    if !text.is_at(close, Symbol::CloseParen) {
-        out.refuse(close);
+    let close = expression_list(text, at + 1, descend(depth_left)?, out)?;
+    if !text.is_at(close, Terminal::CloseParen) {
+        out.expected_at(close);
         return Ok(None);
     }
     Ok(Some(close + 1))
@@ -543,14 +544,14 @@ fn arguments(
 pub fn expression_list(
     text: &TypeNames,
     at: usize,
-    room: u32,
+    depth_left: u32,
     out: &mut Builder,
 ) -> Result<usize, AllocError>
-    requires here { at ≤ length text.now.symbols }
-    ensures { AlwaysRule text.now (form expression_list) at None out.old out.new result }
+    requires here { at ≤ length text.now.terminals }
+    ensures { ParsesAlways text.now (form expression_list) at None out.old out.new result }
 {
     let mark = out.checkpoint();
-    let Some(next) = expressions(text, at, room, out)? else {
+    let Some(next) = expressions(text, at, depth_left, out)? else {
         out.cut(mark);
         return Ok(at);
     };
@@ -562,19 +563,19 @@ pub fn expression_list(
 pub fn expressions(
     text: &TypeNames,
     at: usize,
-    room: u32,
+    depth_left: u32,
     out: &mut Builder,
 ) -> Result<Option<usize>, AllocError>
-    requires here { at ≤ length text.now.symbols }
-    ensures { ParsedRule text.now (list (form assignment_expression)) at None out.old out.new result }
+    requires here { at ≤ length text.now.terminals }
+    ensures { ParsesLongest text.now (list (form assignment_expression)) at None out.old out.new result }
 {
-    let Some(first) = assignment_expression(text, at, room, out)? else {
+    let Some(first) = assignment_expression(text, at, depth_left, out)? else {
         return Ok(None);
     };
     let mut next = first;
-    'items: while text.is_at(next, Symbol::Comma) {
+    'items: while text.is_at(next, Terminal::Comma) {
         let mark = out.checkpoint();
-        let Some(behind) = assignment_expression(text, next + 1, room, out)? else {
+        let Some(behind) = assignment_expression(text, next + 1, depth_left, out)? else {
             out.cut(mark);
             return Ok(Some(next));
         };
@@ -588,11 +589,11 @@ pub fn expressions(
 fn primary_expression(
     text: &TypeNames,
     at: usize,
-    room: u32,
+    depth_left: u32,
     out: &mut Builder,
 ) -> Result<Option<usize>, AllocError>
-    requires here { at ≤ length text.now.symbols }
-    ensures { ParsedRule text.now (form primary_expression) at None out.old out.new result }
+    requires here { at ≤ length text.now.terminals }
+    ensures { ParsesLongest text.now (form primary_expression) at None out.old out.new result }
 {
     if text.is_name_at(at) {
         return Ok(Some(leaf(text, at, NodeKind::UnqualifiedId, out)?));
@@ -600,47 +601,47 @@ fn primary_expression(
     if text.is_literal_at(at) {
         return Ok(Some(literal(text, at, out)?));
     }
-    if text.is_at(at, Symbol::TypeName) {
-        return of_type_name(text, at, room, out);
+    if text.is_at(at, Terminal::TypeName) {
+        return of_type_name(text, at, depth_left, out);
     }
-    if text.is_at(at, Symbol::OpenParen) {
-        return parenthesized_expression(text, at, room, out);
+    if text.is_at(at, Terminal::OpenParen) {
+        return parenthesized_expression(text, at, depth_left, out);
     }
-    if text.is_at(at, Symbol::OpenBracket) {
-        return lambda_expression(text, at, less_room(room)?, out);
+    if text.is_at(at, Terminal::OpenBracket) {
+        return lambda_expression(text, at, descend(depth_left)?, out);
     }
-    if text.is_at(at, Symbol::StaticCast) {
-        return static_cast(text, at, room, out);
+    if text.is_at(at, Terminal::StaticCast) {
+        return static_cast(text, at, depth_left, out);
     }
-    if text.is_at(at, Symbol::Std) {
-        return of_std(text, at, room, out);
+    if text.is_at(at, Terminal::Std) {
+        return of_std(text, at, depth_left, out);
     }
     if text.is_type_word_at(at) {
-        return functional_cast(text, at, room, out);
+        return functional_cast(text, at, depth_left, out);
     }
-    out.refuse(at);
+    out.expected_at(at);
     Ok(None)
 }
 
 /// An integer, a character, a string, a truth value, `nullptr` or `this`.
 fn literal(text: &TypeNames, at: usize, out: &mut Builder) -> Result<usize, AllocError>
-    requires here { at ≤ length text.now.symbols }
-    requires begins { is_literal (symbol_at text.now at) ≡ true }
-    ensures { AlwaysRule text.now literal at None out.old out.new result }
+    requires here { at ≤ length text.now.terminals }
+    requires begins { is_literal (terminal_at text.now at) ≡ true }
+    ensures { ParsesAlways text.now literal at None out.old out.new result }
 {
-    leaf(text, at, literal_kind(text.symbol(at)), out)
+    leaf(text, at, literal_kind(text.terminal(at)), out)
 }
 
 /// The kind of a node that is such a token.
-fn literal_kind(symbol: Symbol) -> NodeKind
-    ensures { result ≡ literal_kind symbol }
+fn literal_kind(terminal: Terminal) -> NodeKind
+    ensures { result ≡ literal_kind terminal }
 {
-    match symbol {
-        Symbol::Character => NodeKind::CharacterLiteral,
-        Symbol::String => NodeKind::StringLiteral,
-        Symbol::True | Symbol::False => NodeKind::BooleanLiteral,
-        Symbol::Nullptr => NodeKind::PointerLiteral,
-        Symbol::This => NodeKind::This,
+    match terminal {
+        Terminal::Character => NodeKind::CharacterLiteral,
+        Terminal::String => NodeKind::StringLiteral,
+        Terminal::True | Terminal::False => NodeKind::BooleanLiteral,
+        Terminal::Nullptr => NodeKind::PointerLiteral,
+        Terminal::This => NodeKind::This,
         _ => NodeKind::IntegerLiteral,
     }
 }
@@ -650,20 +651,20 @@ fn literal_kind(symbol: Symbol) -> NodeKind
 fn parenthesized_expression(
     text: &TypeNames,
     at: usize,
-    room: u32,
+    depth_left: u32,
     out: &mut Builder,
 ) -> Result<Option<usize>, AllocError>
-    requires here { at ≤ length text.now.symbols }
-    requires begins { open_paren (symbol_at text.now at) ≡ true }
-    requires few { length text.now.symbols ≤ 1048576 }
-    ensures { ParsedRule text.now parenthesized_expression at None out.old out.new result }
+    requires here { at ≤ length text.now.terminals }
+    requires begins { open_paren (terminal_at text.now at) ≡ true }
+    requires few { length text.now.terminals ≤ MAX_TOKENS }
+    ensures { ParsesLongest text.now parenthesized_expression at None out.old out.new result }
 {
     let start = out.checkpoint();
-    let Some(close) = expression(text, at + 1, less_room(room)?, out)? else {
+    let Some(close) = expression(text, at + 1, descend(depth_left)?, out)? else {
         return Ok(None);
     };
-    if !text.is_at(close, Symbol::CloseParen) {
-        out.refuse(close);
+    if !text.is_at(close, Terminal::CloseParen) {
+        out.expected_at(close);
         return Ok(None);
     }
     node(
@@ -682,36 +683,36 @@ fn parenthesized_expression(
 fn static_cast(
     text: &TypeNames,
     at: usize,
-    room: u32,
+    depth_left: u32,
     out: &mut Builder,
 ) -> Result<Option<usize>, AllocError>
-    requires here { at ≤ length text.now.symbols }
-    requires begins { static_cast_word (symbol_at text.now at) ≡ true }
-    requires few { length text.now.symbols ≤ 1048576 }
-    ensures { ParsedRule text.now static_cast at None out.old out.new result }
+    requires here { at ≤ length text.now.terminals }
+    requires begins { static_cast_word (terminal_at text.now at) ≡ true }
+    requires few { length text.now.terminals ≤ MAX_TOKENS }
+    ensures { ParsesLongest text.now static_cast at None out.old out.new result }
 {
-    if !text.is_at(at + 1, Symbol::Less) {
-        out.refuse(at + 1);
+    if !text.is_at(at + 1, Terminal::Less) {
+        out.expected_at(at + 1);
         return Ok(None);
     }
     let start = out.checkpoint();
-    let inner = less_room(room)?;
+    let inner = descend(depth_left)?;
     let Some(greater) = type_id(text, at + 2, inner, out)? else {
         return Ok(None);
     };
-    if !text.is_at(greater, Symbol::Greater) {
-        out.refuse(greater);
+    if !text.is_at(greater, Terminal::Greater) {
+        out.expected_at(greater);
         return Ok(None);
     }
-    if !text.is_at(greater + 1, Symbol::OpenParen) {
-        out.refuse(greater + 1);
+    if !text.is_at(greater + 1, Terminal::OpenParen) {
+        out.expected_at(greater + 1);
         return Ok(None);
     }
     let Some(close) = expression(text, greater + 2, inner, out)? else {
         return Ok(None);
     };
-    if !text.is_at(close, Symbol::CloseParen) {
-        out.refuse(close);
+    if !text.is_at(close, Terminal::CloseParen) {
+        out.expected_at(close);
         return Ok(None);
     }
     node(text, at, NodeKind::StaticCast, Some(at as u32), start, out)?;
@@ -723,19 +724,19 @@ fn static_cast(
 fn of_type_name(
     text: &TypeNames,
     at: usize,
-    room: u32,
+    depth_left: u32,
     out: &mut Builder,
 ) -> Result<Option<usize>, AllocError>
-    requires here { at ≤ length text.now.symbols }
-    requires begins { is_type_name (symbol_at text.now at) ≡ true }
-    requires few { length text.now.symbols ≤ 1048576 }
-    ensures { ParsedRule text.now (qualified_id ∣ functional_cast) at None out.old out.new result }
+    requires here { at ≤ length text.now.terminals }
+    requires begins { is_type_name (terminal_at text.now at) ≡ true }
+    requires few { length text.now.terminals ≤ MAX_TOKENS }
+    ensures { ParsesLongest text.now (qualified_id ∣ functional_cast) at None out.old out.new result }
 {
-    if !text.is_at(at + 1, Symbol::ColonColon) {
-        return functional_cast(text, at, room, out);
+    if !text.is_at(at + 1, Terminal::ColonColon) {
+        return functional_cast(text, at, depth_left, out);
     }
     if !text.is_name_at(at + 2) {
-        out.refuse(at + 2);
+        out.expected_at(at + 2);
         return Ok(None);
     }
     let start = out.checkpoint();
@@ -756,22 +757,22 @@ fn of_type_name(
 fn of_std(
     text: &TypeNames,
     at: usize,
-    room: u32,
+    depth_left: u32,
     out: &mut Builder,
 ) -> Result<Option<usize>, AllocError>
-    requires here { at ≤ length text.now.symbols }
-    requires begins { std (symbol_at text.now at) ≡ true }
-    requires few { length text.now.symbols ≤ 1048576 }
-    ensures { ParsedRule text.now (std_abort ∣ functional_cast) at None out.old out.new result }
+    requires here { at ≤ length text.now.terminals }
+    requires begins { std (terminal_at text.now at) ≡ true }
+    requires few { length text.now.terminals ≤ MAX_TOKENS }
+    ensures { ParsesLongest text.now (std_abort ∣ functional_cast) at None out.old out.new result }
 {
-    if !text.is_at(at + 1, Symbol::ColonColon) {
-        out.refuse(at + 1);
+    if !text.is_at(at + 1, Terminal::ColonColon) {
+        out.expected_at(at + 1);
         return Ok(None);
     }
-    if !text.is_at(at + 2, Symbol::Abort) {
-        return functional_cast(text, at, room, out);
+    if !text.is_at(at + 2, Terminal::Abort) {
+        return functional_cast(text, at, depth_left, out);
     }
-    out.leaf(NodeKind::StdAbort, text.place(at), Some((at + 2) as u32))?;
+    out.leaf(NodeKind::StdAbort, text.position(at), Some((at + 2) as u32))?;
     Ok(Some(at + 3))
 }
 
@@ -780,21 +781,21 @@ fn of_std(
 fn functional_cast(
     text: &TypeNames,
     at: usize,
-    room: u32,
+    depth_left: u32,
     out: &mut Builder,
 ) -> Result<Option<usize>, AllocError>
-    requires here { at ≤ length text.now.symbols }
-    ensures { ParsedRule text.now functional_cast at None out.old out.new result }
+    requires here { at ≤ length text.now.terminals }
+    ensures { ParsesLongest text.now functional_cast at None out.old out.new result }
 {
     let start = out.checkpoint();
-    let Some(open) = functional_type(text, at, room, out)? else {
+    let Some(open) = functional_type(text, at, depth_left, out)? else {
         return Ok(None);
     };
-    if !text.is_at(open, Symbol::OpenParen) {
-        out.refuse(open);
+    if !text.is_at(open, Terminal::OpenParen) {
+        out.expected_at(open);
         return Ok(None);
     }
-    let Some(next) = arguments(text, open, room, out)? else {
+    let Some(next) = arguments(text, open, depth_left, out)? else {
         return Ok(None);
     };
     node(
@@ -813,17 +814,17 @@ fn functional_cast(
 fn functional_type(
     text: &TypeNames,
     at: usize,
-    room: u32,
+    depth_left: u32,
     out: &mut Builder,
 ) -> Result<Option<usize>, AllocError>
-    requires here { at ≤ length text.now.symbols }
-    ensures { ParsedRule text.now (form functional_type) at None out.old out.new result }
+    requires here { at ≤ length text.now.terminals }
+    ensures { ParsesLongest text.now (form functional_type) at None out.old out.new result }
 {
     if text.is_type_word_at(at) {
         return Ok(Some(leaf(text, at, NodeKind::SimpleTypeSpecifier, out)?));
     }
-    if text.is_at(at, Symbol::TypeName) {
+    if text.is_at(at, Terminal::TypeName) {
         return Ok(Some(leaf(text, at, NodeKind::TypeName, out)?));
     }
-    tx_exception(text, at, room, out)
+    tx_exception(text, at, depth_left, out)
 }

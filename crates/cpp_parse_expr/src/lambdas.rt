@@ -2,17 +2,17 @@
 
 ghost use Rattle.std.specs.Prelude.{◌≡◌, ◌≤◌, true, length, Some, None};
 ghost use Rattle.cpp_ast.specs.declared.kinds.NodeKind.TheVariants.{LambdaDeclarator, Mutable};
-ghost use Rattle.cpp_syntax.specs.Source.{symbol_at};
-ghost use Rattle.cpp_syntax.specs.Symbols.{is_safety, mutable_word};
+ghost use Rattle.cpp_syntax.specs.Source.{terminal_at};
+ghost use Rattle.cpp_syntax.specs.Terminals.{is_safety, mutable_word};
 ghost use Rattle.cpp_syntax.specs.Rules.{form, optional, node, lambda_expression, lambda_introducer, lambda_declarator};
 ghost use Rattle.cpp_syntax.specs.Grammar.{leaf, capture, first_capture, capture_list, tx_qualifier, lambda_parameters, trailing_return_type};
-ghost use Rattle.cpp_syntax.specs.Parsed.{ParsedRule, AlwaysRule};
+ghost use Rattle.cpp_syntax.specs.Parsed.{ParsesLongest, ParsesAlways};
 
 use crate::declarators::{optional_noexcept, optional_safety, parameter_clause, type_id};
 use cpp_ast::NodeKind;
 use cpp_syntax::read::{leaf, node};
-use cpp_syntax::shapes::less_room;
-use cpp_syntax::{Builder, Symbol, TypeNames};
+use cpp_syntax::shapes::descend;
+use cpp_syntax::{Builder, Terminal, TypeNames};
 use std::alloc::AllocError;
 
 /// A lambda, whose body is kept apart as a run of tokens.
@@ -20,27 +20,28 @@ use std::alloc::AllocError;
 pub fn lambda_expression(
     text: &TypeNames,
     at: usize,
-    room: u32,
+    depth_left: u32,
     out: &mut Builder,
 ) -> Result<Option<usize>, AllocError>
-    requires here { at ≤ length text.now.symbols }
-    ensures { ParsedRule text.now (form lambda_expression) at None out.old out.new result }
+    requires here { at ≤ length text.now.terminals }
+    ensures { ParsesLongest text.now (form lambda_expression) at None out.old out.new result }
 {
     let start = out.checkpoint();
     let Some(introduced) = lambda_introducer(text, at, out)? else {
         return Ok(None);
     };
-    let open = optional_declarator(text, introduced, room, out)?;
-    if !text.is_at(open, Symbol::OpenBrace) {
-        out.refuse(open);
+    let open = optional_declarator(text, introduced, depth_left, out)?;
+    if !text.is_at(open, Terminal::OpenBrace) {
+        out.expected_at(open);
         return Ok(None);
     }
     let Some(close) = text.partner(open) else {
+        out.expected_at(open);
         return Ok(None);
     };
     out.lambda(
         start.trees,
-        text.place(at),
+        text.position(at),
         at as u32,
         (open + 1) as u32,
         close as u32,
@@ -54,17 +55,17 @@ fn lambda_introducer(
     at: usize,
     out: &mut Builder,
 ) -> Result<Option<usize>, AllocError>
-    requires here { at ≤ length text.now.symbols }
-    ensures { ParsedRule text.now (form lambda_introducer) at None out.old out.new result }
+    requires here { at ≤ length text.now.terminals }
+    ensures { ParsesLongest text.now (form lambda_introducer) at None out.old out.new result }
 {
-    if !text.is_at(at, Symbol::OpenBracket) {
-        out.refuse(at);
+    if !text.is_at(at, Terminal::OpenBracket) {
+        out.expected_at(at);
         return Ok(None);
     }
     let start = out.checkpoint();
     let next = captures(text, at + 1, out)?;
-    if !text.is_at(next, Symbol::CloseBracket) {
-        out.refuse(next);
+    if !text.is_at(next, Terminal::CloseBracket) {
+        out.expected_at(next);
         return Ok(None);
     }
     node(
@@ -80,8 +81,8 @@ fn lambda_introducer(
 
 /// What a lambda captures, or nothing.
 fn captures(text: &TypeNames, at: usize, out: &mut Builder) -> Result<usize, AllocError>
-    requires here { at ≤ length text.now.symbols }
-    ensures { AlwaysRule text.now capture_list at None out.old out.new result }
+    requires here { at ≤ length text.now.terminals }
+    ensures { ParsesAlways text.now capture_list at None out.old out.new result }
 {
     let mark = out.checkpoint();
     let Some(first) = first_capture(text, at, out)? else {
@@ -89,7 +90,7 @@ fn captures(text: &TypeNames, at: usize, out: &mut Builder) -> Result<usize, All
         return Ok(at);
     };
     let mut next = first;
-    'captures: while text.is_at(next, Symbol::Comma) {
+    'captures: while text.is_at(next, Terminal::Comma) {
         let mark = out.checkpoint();
         let Some(behind) = capture(text, next + 1, out)? else {
             out.cut(mark);
@@ -106,8 +107,8 @@ fn first_capture(
     at: usize,
     out: &mut Builder,
 ) -> Result<Option<usize>, AllocError>
-    requires here { at ≤ length text.now.symbols }
-    ensures { ParsedRule text.now first_capture at None out.old out.new result }
+    requires here { at ≤ length text.now.terminals }
+    ensures { ParsesLongest text.now first_capture at None out.old out.new result }
 {
     if !text.is_capture_default_at(at) {
         return capture(text, at, out);
@@ -120,26 +121,26 @@ fn first_capture(
 
 /// A name, a name behind `&`, or `this`.
 fn capture(text: &TypeNames, at: usize, out: &mut Builder) -> Result<Option<usize>, AllocError>
-    requires here { at ≤ length text.now.symbols }
-    ensures { ParsedRule text.now capture at None out.old out.new result }
+    requires here { at ≤ length text.now.terminals }
+    ensures { ParsesLongest text.now capture at None out.old out.new result }
 {
     if text.is_name_at(at) {
         return Ok(Some(leaf(text, at, NodeKind::SimpleCapture, out)?));
     }
-    if text.is_at(at, Symbol::This) {
+    if text.is_at(at, Terminal::This) {
         return Ok(Some(leaf(text, at, NodeKind::ThisCapture, out)?));
     }
-    if !text.is_at(at, Symbol::Amp) {
-        out.refuse(at);
+    if !text.is_at(at, Terminal::Amp) {
+        out.expected_at(at);
         return Ok(None);
     }
     if !text.is_name_at(at + 1) {
-        out.refuse(at + 1);
+        out.expected_at(at + 1);
         return Ok(None);
     }
     out.leaf(
         NodeKind::ReferenceCapture,
-        text.place(at),
+        text.position(at),
         Some((at + 1) as u32),
     )?;
     Ok(Some(at + 2))
@@ -150,17 +151,17 @@ fn capture(text: &TypeNames, at: usize, out: &mut Builder) -> Result<Option<usiz
 fn optional_declarator(
     text: &TypeNames,
     at: usize,
-    room: u32,
+    depth_left: u32,
     out: &mut Builder,
 ) -> Result<usize, AllocError>
-    requires here { at ≤ length text.now.symbols }
-    ensures { AlwaysRule text.now (optional (form lambda_declarator)) at None out.old out.new result }
+    requires here { at ≤ length text.now.terminals }
+    ensures { ParsesAlways text.now (optional (form lambda_declarator)) at None out.old out.new result }
 {
     if text.is_safety_at(at) {
         return safety_alone(text, at, out);
     }
     let mark = out.checkpoint();
-    let Some(next) = lambda_declarator(text, at, room, out)? else {
+    let Some(next) = lambda_declarator(text, at, depth_left, out)? else {
         out.cut(mark);
         return Ok(at);
     };
@@ -169,9 +170,9 @@ fn optional_declarator(
 
 /// `transaction_safe` or `transaction_safe_dynamic` without parameters.
 fn safety_alone(text: &TypeNames, at: usize, out: &mut Builder) -> Result<usize, AllocError>
-    requires here { at ≤ length text.now.symbols }
-    requires begins { is_safety (symbol_at text.now at) ≡ true }
-    ensures { AlwaysRule text.now (node LambdaDeclarator tx_qualifier) at None out.old out.new result }
+    requires here { at ≤ length text.now.terminals }
+    requires begins { is_safety (terminal_at text.now at) ≡ true }
+    ensures { ParsesAlways text.now (node LambdaDeclarator tx_qualifier) at None out.old out.new result }
 {
     let start = out.checkpoint();
     let next = leaf(text, at, NodeKind::TxQualifier, out)?;
@@ -184,36 +185,36 @@ fn safety_alone(text: &TypeNames, at: usize, out: &mut Builder) -> Result<usize,
 fn lambda_declarator(
     text: &TypeNames,
     at: usize,
-    room: u32,
+    depth_left: u32,
     out: &mut Builder,
 ) -> Result<Option<usize>, AllocError>
-    requires here { at ≤ length text.now.symbols }
-    ensures { ParsedRule text.now lambda_parameters at None out.old out.new result }
+    requires here { at ≤ length text.now.terminals }
+    ensures { ParsesLongest text.now lambda_parameters at None out.old out.new result }
 {
-    if !text.is_at(at, Symbol::OpenParen) {
-        out.refuse(at);
+    if !text.is_at(at, Terminal::OpenParen) {
+        out.expected_at(at);
         return Ok(None);
     }
     let start = out.checkpoint();
-    let close = parameter_clause(text, at + 1, room, out)?;
-    if !text.is_at(close, Symbol::CloseParen) {
-        out.refuse(close);
+    let close = parameter_clause(text, at + 1, depth_left, out)?;
+    if !text.is_at(close, Terminal::CloseParen) {
+        out.expected_at(close);
         return Ok(None);
     }
     let changing = optional_mutable(text, close + 1, out)?;
     let safe = optional_safety(text, changing, out)?;
     let quiet = optional_noexcept(text, safe, out)?;
-    let next = optional_return_type(text, quiet, room, out)?;
+    let next = optional_return_type(text, quiet, depth_left, out)?;
     node(text, at, NodeKind::LambdaDeclarator, None, start, out)?;
     Ok(Some(next))
 }
 
 /// `mutable`, or nothing.
 fn optional_mutable(text: &TypeNames, at: usize, out: &mut Builder) -> Result<usize, AllocError>
-    requires here { at ≤ length text.now.symbols }
-    ensures { AlwaysRule text.now (optional (leaf Mutable mutable_word)) at None out.old out.new result }
+    requires here { at ≤ length text.now.terminals }
+    ensures { ParsesAlways text.now (optional (leaf Mutable mutable_word)) at None out.old out.new result }
 {
-    if !text.is_at(at, Symbol::Mutable) {
+    if !text.is_at(at, Terminal::Mutable) {
         return Ok(at);
     }
     leaf(text, at, NodeKind::Mutable, out)
@@ -224,14 +225,14 @@ fn optional_mutable(text: &TypeNames, at: usize, out: &mut Builder) -> Result<us
 fn optional_return_type(
     text: &TypeNames,
     at: usize,
-    room: u32,
+    depth_left: u32,
     out: &mut Builder,
 ) -> Result<usize, AllocError>
-    requires here { at ≤ length text.now.symbols }
-    ensures { AlwaysRule text.now (optional trailing_return_type) at None out.old out.new result }
+    requires here { at ≤ length text.now.terminals }
+    ensures { ParsesAlways text.now (optional trailing_return_type) at None out.old out.new result }
 {
     let mark = out.checkpoint();
-    let Some(next) = trailing_return_type(text, at, room, out)? else {
+    let Some(next) = trailing_return_type(text, at, depth_left, out)? else {
         out.cut(mark);
         return Ok(at);
     };
@@ -243,18 +244,18 @@ fn optional_return_type(
 fn trailing_return_type(
     text: &TypeNames,
     at: usize,
-    room: u32,
+    depth_left: u32,
     out: &mut Builder,
 ) -> Result<Option<usize>, AllocError>
-    requires here { at ≤ length text.now.symbols }
-    ensures { ParsedRule text.now trailing_return_type at None out.old out.new result }
+    requires here { at ≤ length text.now.terminals }
+    ensures { ParsesLongest text.now trailing_return_type at None out.old out.new result }
 {
-    if !text.is_at(at, Symbol::Arrow) {
-        out.refuse(at);
+    if !text.is_at(at, Terminal::Arrow) {
+        out.expected_at(at);
         return Ok(None);
     }
     let start = out.checkpoint();
-    let Some(next) = type_id(text, at + 1, less_room(room)?, out)? else {
+    let Some(next) = type_id(text, at + 1, descend(depth_left)?, out)? else {
         return Ok(None);
     };
     node(

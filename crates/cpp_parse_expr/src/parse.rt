@@ -1,9 +1,9 @@
 //! The one call of this crate.
 
 ghost use Rattle.std.specs.Prelude.{◌≡◌, ◌≤◌, ◌<◌, ◌-◌, ◌^◌, ℕ, IfOk, None, Some, length, map, take, slice_get, slice_index};
-ghost use Rattle.cpp_syntax.specs.Source.{place_at};
-ghost use Rattle.cpp_syntax.specs.Parsed.{Parsed};
-ghost use Rattle.cpp_syntax.specs.declared.places.OpenBody.{OpenBody as OpenBodyRecord};
+ghost use Rattle.cpp_syntax.specs.Source.{position_at};
+ghost use Rattle.cpp_syntax.specs.Parsed.{ParsesForm};
+ghost use Rattle.cpp_syntax.specs.declared.positions.OpenBody.{OpenBody as OpenBodyRecord};
 ghost use Rattle.cpp_parse_expr.specs.Parse.{form_of, open_bodies, Parses, ReadsText, Measures, IsRead};
 
 use crate::declarators::{
@@ -13,13 +13,11 @@ use crate::depth::{depths, first_deeper, heights};
 use crate::expressions::{assignment_expression, conditional_expression, expression};
 use crate::types::type_specifier_seq;
 use cpp_ast::{At, NodeId, Nodes};
+use cpp_syntax::limits::MAX_NESTED_CALLS;
 use cpp_syntax::{Builder, Naming, OpenBody, Parts, TypeNames};
 use std::alloc::{AllocError, Global};
 use std::mem;
 use thiserror::Error;
-
-/// How many calls may be nested. Each bracket, operator before an operand and operator between operands nests one.
-const ROOM: u32 = 500;
 
 /// A form of the grammar that is read alone.
 #[derive(Clone, Copy, Debug, PartialEq, Eq)]
@@ -51,9 +49,9 @@ pub struct BodyRange {
     pub lam: NodeId,
     /// The depth of the lambda.
     pub depth: u32,
-    /// The place of the first token between its braces.
+    /// The index of the first token between its braces.
     pub from: u32,
-    /// The place of its closing brace.
+    /// The index of its closing brace.
     pub to: u32,
 }
 
@@ -62,7 +60,7 @@ pub struct BodyRange {
 pub struct ExprOut {
     /// The root of its tree.
     pub root: NodeId,
-    /// The place behind its last token.
+    /// The index behind its last token.
     pub next: u32,
     /// The bodies of its lambdas, in the order in which the lambdas end.
     pub bodies: Vec<BodyRange>,
@@ -86,7 +84,7 @@ pub enum ParseFault {
 #[derive(Drop)]
 enum Reading {
     /// Its longest text.
-    Text {
+    Found {
         root: NodeId,
         next: u32,
         bodies: Vec<OpenBody>,
@@ -105,7 +103,7 @@ enum Outcome {
     TooDeep { token: u32 },
 }
 
-/// The longest text of a form that begins at a place, whose root has a depth.
+/// The longest text of a form that begins at an index, whose root has a depth.
 ///
 /// Its tree is that of the grammar ([`cpp_syntax`]), and its nodes are added behind those that are there. A lambda's body
 /// is any run of tokens between matching braces, and is handed back as such. After a fault the nodes are as before.
@@ -118,7 +116,7 @@ pub fn parse_expr(
     limit: u32,
     nodes: &mut Nodes,
 ) -> Result<ExprOut, ParseFault>
-    requires { from ≤ length types.now.symbols }
+    requires { from ≤ length types.now.terminals }
     ensures { Parses types.now (form_of form) from depth limit nodes.old nodes.new result }
 {
     let before = nodes.len();
@@ -149,13 +147,13 @@ fn parse_text(
     limit: u32,
     nodes: &mut Nodes,
 ) -> Result<Outcome, AllocError>
-    requires { from ≤ length types.now.symbols }
+    requires { from ≤ length types.now.terminals }
     ensures { Measures types.now (form_of form) from depth limit nodes.old nodes.new result }
 {
     let first = nodes.len();
     match read_text(alloc, form, from, types, nodes)? {
         Reading::Nothing { token } => Ok(Outcome::Refused { token }),
-        Reading::Text { root, next, bodies } => measure(
+        Reading::Found { root, next, bodies } => measure(
             alloc, form, from, types, depth, limit, nodes, first, root, next, bodies,
         ),
     }
@@ -169,13 +167,13 @@ fn read_text(
     types: &TypeNames,
     nodes: &mut Nodes,
 ) -> Result<Reading, AllocError>
-    requires { from ≤ length types.now.symbols }
+    requires { from ≤ length types.now.terminals }
     ensures { ReadsText types.now (form_of form) from nodes.old nodes.new result }
 {
     let len = types.len();
     let mut out = Builder::over(alloc, mem::replace(nodes, Nodes::new(alloc)));
     let read = read_form(form, types, from as usize, &mut out);
-    let token = out.reached().max(from as usize).min(len) as u32;
+    let token = out.furthest_failure().max(from as usize).min(len) as u32;
     let Parts {
         nodes: grown,
         roots,
@@ -183,7 +181,7 @@ fn read_text(
     } = out.into_parts();
     *nodes = grown;
     match read {
-        Ok(Some(next)) => Ok(Reading::Text {
+        Ok(Some(next)) => Ok(Reading::Found {
             root: roots[0],
             next: next as u32,
             bodies,
@@ -200,18 +198,18 @@ fn read_form(
     at: usize,
     out: &mut Builder,
 ) -> Result<Option<usize>, AllocError>
-    requires { at ≤ length types.now.symbols }
-    ensures { Parsed types.now (form_of form) at out.old out.new result }
+    requires { at ≤ length types.now.terminals }
+    ensures { ParsesForm types.now (form_of form) at out.old out.new result }
 {
     match form {
-        ExprForm::Expr => expression(types, at, ROOM, out),
-        ExprForm::Assign => assignment_expression(types, at, ROOM, out),
-        ExprForm::Cond => conditional_expression(types, at, ROOM, out),
-        ExprForm::TypeHead => type_specifier_seq(types, at, ROOM, out),
-        ExprForm::TypeId => type_id(types, at, ROOM, out),
-        ExprForm::Declarator => declarator(types, at, Naming::Named, ROOM, out),
-        ExprForm::Param => parameter_declaration(types, at, ROOM, out),
-        ExprForm::Params => Ok(Some(parameter_clause(types, at, ROOM, out)?)),
+        ExprForm::Expr => expression(types, at, MAX_NESTED_CALLS, out),
+        ExprForm::Assign => assignment_expression(types, at, MAX_NESTED_CALLS, out),
+        ExprForm::Cond => conditional_expression(types, at, MAX_NESTED_CALLS, out),
+        ExprForm::TypeHead => type_specifier_seq(types, at, MAX_NESTED_CALLS, out),
+        ExprForm::TypeId => type_id(types, at, MAX_NESTED_CALLS, out),
+        ExprForm::Declarator => declarator(types, at, Naming::Named, MAX_NESTED_CALLS, out),
+        ExprForm::Param => parameter_declaration(types, at, MAX_NESTED_CALLS, out),
+        ExprForm::Params => Ok(Some(parameter_clause(types, at, MAX_NESTED_CALLS, out)?)),
         ExprForm::Quals => Ok(Some(function_qualifiers(types, at, out)?)),
     }
 }
@@ -244,13 +242,13 @@ fn measure(
     Ok(Outcome::Parsed(ExprOut { root, next, bodies }))
 }
 
-/// The first token that has a place, or the number of tokens where none has.
-pub fn token_at(types: &TypeNames, place: At) -> u32
-    ensures inside { result ≤ length types.now.symbols }
-    ensures place { (k : ℕ) → k ≤ length types.now.symbols → place_at types.now k ≡ place → place_at types.now result ≡ place }
+/// The first token that has an index, or the number of tokens where none has.
+pub fn token_at(types: &TypeNames, position: At) -> u32
+    ensures inside { result ≤ length types.now.terminals }
+    ensures position { (k : ℕ) → k ≤ length types.now.terminals → position_at types.now k ≡ position → position_at types.now result ≡ position }
 {
     'tokens: for k in 0..types.len() {
-        if types.place(k) == place {
+        if types.position(k) == position {
             return k as u32;
         }
     }

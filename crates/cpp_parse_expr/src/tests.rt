@@ -1,4 +1,4 @@
-// Texts of each form with their trees, and texts that are refused.
+// Derivations of each form with their trees, and texts that are refused.
 
 use crate::{ExprForm, ParseFault, parse_expr};
 use cpp_ast::{Node, NodeId, Nodes};
@@ -497,7 +497,7 @@ fn nested(rt: &impl Abort, alloc: Global, parentheses: u32) -> Result<String, Fa
 fn depth_is_limited(rt: HostRuntime) -> Result<(), Fail> {
     assert_eq!(rt; nested(&rt, rt.alloc(), 195)?.as_str(), "false 391");
     assert_eq!(rt; nested(&rt, rt.alloc(), 196)?.as_str(), "true 196");
-    // Where the room of nested calls is used up, want of memory is answered.
+    // Where the depth left of nested calls is used up, want of memory is answered.
     assert_eq!(rt; nested(&rt, rt.alloc(), 100_000)?.as_str(), "false Memory");
     Ok(())
 }

@@ -1,40 +1,42 @@
 pub mod Tables
-pub mod Every
-pub mod Apart
-pub mod Firsts
-pub mod Longest
-pub mod Free
+pub mod TerminalTables
+pub mod DisjointFirstSets
+pub mod FirstTerminals
+pub mod LongestMatches
+pub mod IndependentDerivations
 pub mod Readers
-pub mod Alone
-pub mod Loops
-pub mod Lists
-pub mod Choices
-pub mod Levels
-pub mod Inside
+pub mod SingleTerminals
+pub mod ReaderLoops
+pub mod CommaLists
+pub mod Alternatives
+pub mod OperatorLevels
+pub mod WithinTokens
 pub mod DeclaratorForms
-pub mod Clauses
+pub mod ParameterClauses
 pub mod Balances
-pub mod Even
+pub mod BalancedDerivations
 pub mod WithBodies
 pub mod LambdaBodies
-pub mod Wholes
-mod Values
+pub mod UnitBodies
+mod NodeValues
+pub mod NodeKids
+pub mod NodeLambdas
 mod TreeLists
-pub mod Marks
-mod Gathering
-mod Views
-mod Cuts
-mod Lasts
-mod IntoParts
-pub mod Leaves
-mod Named
-mod Since
+pub mod BuilderMarks
+mod GatheredNodes
+mod BuilderViews
+mod BuilderCuts
+mod LastNumber
+mod BuilderParts
+pub mod LeafReaders
+mod DeclaredNames
+mod LastTrees
 mod TokenClasses
-mod Pairs
-pub mod Spans
+mod BracketPairs
+pub mod Recognisers
 pub mod Operands
 pub mod TypeWords
-pub mod Blind
+pub mod ShapeDerivations
 pub mod TypeShapes
 pub mod DeclaratorShapes
 pub mod DeclarationShapes

@@ -5,9 +5,9 @@ use Rattle.std.proofs.lemmas.List.{map-append, length-map}
 use Rattle.cpp_ast.specs.declared.arena.Node.{Node}
 use Rattle.cpp_ast.specs.declared.arena.NodeId.{NodeId}
 use Rattle.cpp_ast.specs.Trees.{Tree, node, Trees, none, more}
-use Rattle.cpp_syntax.specs.Texts.{join, one_tree}
+use Rattle.cpp_syntax.specs.Derivations.{join, one_tree}
 use Rattle.cpp_syntax.specs.View.{trees_of, count_trees, count_lambdas, count_lambdas_in, is_lambda, values_at, values_from, tree_made, lambdas_made, no_tree, trees_from, trees_at, lambdas_from, lambdas_at}
-use Rattle.cpp_syntax.proofs.Values.{at_map}
+use Rattle.cpp_syntax.proofs.NodeValues.{at_map}
 
 pub trees_of-append : (ts us : List Tree) → trees_of (ts ++ us) ≡ join (trees_of ts) (trees_of us)
 trees_of-append [] us = refl
@@ -46,13 +46,16 @@ abbrev count_made : ℕ → Node → List ℕ → ℕ
 count_made id n kids = sum kids + (if is_lambda n.kind then 1 else 0)
 
 module _ {A B : Type 0} where
-  pub fused : (h : A → B) (other : A) (make : ℕ → Node → List A → A) (make' : ℕ → Node → List B → B) → ((id : ℕ) (n : Node) (kids : List A) → h (make id n kids) ≡ make' id n (map h kids)) → (vs : List A) (ns : List Node) → map h (values_from other make vs ns) ≡ values_from (h other) make' (map h vs) ns
+  pub fused : (h : A → B) (other : A) (make : ℕ → Node → List A → A) (make' : ℕ → Node → List B → B)
+      → ((id : ℕ) (n : Node) (kids : List A) → h (make id n kids) ≡ make' id n (map h kids)) → (vs : List A) (ns : List Node)
+      → map h (values_from other make vs ns) ≡ values_from (h other) make' (map h vs) ns
   fused h other make make' same vs [] = refl
   fused h other make make' same vs (n ∷ ns) =
       let v : A = make (length vs) n (values_at other vs n.kids.items) in
       let kids : map h (values_at other vs n.kids.items) ≡ values_at (h other) (map h vs) n.kids.items = sym (at_map h other vs n.kids.items) in
       let value : h v ≡ make' (length (map h vs)) n (values_at (h other) (map h vs) n.kids.items) =
-      same (length vs) n (values_at other vs n.kids.items) ∙ ap (make' (length vs) n) kids ∙ ap (λ (k : ℕ). make' k n (values_at (h other) (map h vs) n.kids.items)) (sym (length-map vs h)) in
+      same (length vs) n (values_at other vs n.kids.items) ∙ ap (make' (length vs) n) kids ∙ ap
+      (λ (k : ℕ). make' k n (values_at (h other) (map h vs) n.kids.items)) (sym (length-map vs h)) in
       fused h other make make' same (vs ++ v ∷ []) ns
       ∙ ap (λ (ws : List B). values_from (h other) make' ws ns) (map-append h vs (v ∷ []) ∙ ap (λ (w : B). map h vs ++ w ∷ []) value)
 
@@ -68,14 +71,18 @@ abbrev tree_counts : List Node → List ℕ
 tree_counts nodes = values_from 0 count_made [] nodes
 
 from_trees : (nodes : List Node) → map count_lambdas (values_from no_tree tree_made [] nodes) ≡ tree_counts nodes
-from_trees nodes = fused count_lambdas no_tree tree_made count_made (λ id n kids. ap (λ (k : ℕ). k + (if is_lambda n.kind then 1 else 0)) (lambdas_count kids)) [] nodes
+from_trees nodes =
+    fused count_lambdas no_tree tree_made count_made (λ id n kids. ap (λ (k : ℕ). k + (if is_lambda n.kind then 1 else 0)) (lambdas_count kids)) []
+    nodes
 
 one_long : (own : Bool) (id : ℕ) → length (if own then id ∷ [] else []) ≡ (if own then 1 else 0)
 one_long true id = refl
 one_long false id = refl
 
 lambdas_long : (id : ℕ) (n : Node) (kids : List (List ℕ)) → length (lambdas_made id n kids) ≡ count_made id n (map (λ (xs : List ℕ). length xs) kids)
-lambdas_long id n kids = length-append (concat kids) (if is_lambda n.kind then id ∷ [] else []) ∙ ap (λ (k : ℕ). k + length (if is_lambda n.kind then id ∷ [] else [])) (concat_long kids) ∙ ap (λ (k : ℕ). sum (map (λ (xs : List ℕ). length xs) kids) + k) (one_long (is_lambda n.kind) id)
+lambdas_long id n kids =
+    length-append (concat kids) (if is_lambda n.kind then id ∷ [] else []) ∙ ap (λ (k : ℕ). k + length (if is_lambda n.kind then id ∷ [] else []))
+    (concat_long kids) ∙ ap (λ (k : ℕ). sum (map (λ (xs : List ℕ). length xs) kids) + k) (one_long (is_lambda n.kind) id)
 
 from_lambdas : (nodes : List Node) → map (λ (xs : List ℕ). length xs) (values_from [] lambdas_made [] nodes) ≡ tree_counts nodes
 from_lambdas nodes = fused (λ (xs : List ℕ). length xs) [] lambdas_made count_made lambdas_long [] nodes

@@ -35,7 +35,8 @@ restored (Some root ∷ rest) (kids ∷ []) = none
 restored (Some root ∷ rest) (kids ∷ ts ∷ before) = restored rest (more (tree_by root kids) ts ∷ before)
 
 mutual
-  pub tree_restored : (t : Tree) (ts : Trees) (rest : List (Option Root)) (before : List Trees) → restored (stored_before t rest) (ts ∷ before) ≡ restored rest (more t ts ∷ before)
+  pub tree_restored : (t : Tree) (ts : Trees) (rest : List (Option Root)) (before : List Trees)
+      → restored (stored_before t rest) (ts ∷ before) ≡ restored rest (more t ts ∷ before)
   tree_restored (node k at token kids) ts rest before = all_restored kids (Some (k, ((at.source, at.offset), token)) ∷ rest) (ts ∷ before)
 
   pub all_restored : (ts : Trees) (rest : List (Option Root)) (before : List Trees) → restored (stored ts rest) before ≡ restored rest (ts ∷ before)

@@ -5,9 +5,9 @@ use Rattle.cpp_ast.specs.declared.arena.Node.{Node}
 use Rattle.cpp_ast.specs.declared.arena.NodeId.{NodeId}
 use Rattle.cpp_ast.specs.declared.kinds.NodeKind.{NodeKind}
 use Rattle.cpp_ast.specs.Trees.{Tree, Trees, none, more, Shows, ShowsAll}
-use Rattle.cpp_syntax.specs.Texts.{at_of, is_of_declarator, declared, declared_in}
+use Rattle.cpp_syntax.specs.Derivations.{at_of, is_of_declarator, declared, declared_in}
 
--- One node stands behind the others, and the ids from a place on are its kids, in whose place it is.
+-- One node stands behind the others, and the ids from an index on are its kids, in whose stead it stands.
 pub record Gathered (old new : List Node) (was ids : List NodeId) (start : ℕ) (id : NodeId) (kind : NodeKind) (at : At) (token : Option ℕ) : Type 0 where
   pub added : Node
   pub nodes : new ≡ old ++ added ∷ []
@@ -15,10 +15,10 @@ pub record Gathered (old new : List Node) (was ids : List NodeId) (start : ℕ) 
   pub at_is : added.at ≡ at
   pub token_is : added.token ≡ token
   pub kids : added.kids.items ≡ drop start was
-  pub place : id.0 ≡ length old
+  pub index : id.0 ≡ length old
   pub pending : ids ≡ take start was ++ id ∷ []
 
--- the place of the first of some trees, or another
+-- the position of the first of some trees, or another
 abbrev pub first_at : At → Trees → At
 first_at other none = other
 first_at other (more t ts) = at_of t

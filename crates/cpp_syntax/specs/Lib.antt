@@ -1,11 +1,11 @@
 pub mod Source
 pub mod Rules
-pub mod Symbols
+pub mod Terminals
 pub mod Types
 pub mod Grammar
-pub mod Texts
-pub mod Looks
+pub mod Derivations
 pub mod Lookahead
+pub mod FirstSets
 pub mod Longest
 pub mod Codes
 pub mod View

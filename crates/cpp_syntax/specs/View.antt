@@ -9,19 +9,19 @@ use Rattle.cpp_ast.specs.declared.kinds.NodeKind.TheVariants as kind
 use Rattle.cpp_ast.specs.Trees.{Tree, node, Trees, none, more, Shows, ShowsAll}
 use Rattle.cpp_ast.specs.Units.{times_a_kid, times_in}
 use Rattle.cpp_ast.specs.Orders.{are_below}
-use Rattle.cpp_syntax.specs.declared.places.Checkpoint.{Checkpoint}
-use Rattle.cpp_syntax.specs.declared.places.OpenBody.{OpenBody}
-use Rattle.cpp_syntax.specs.declared.places.DeclaredName.{DeclaredName}
-use Rattle.cpp_syntax.specs.Texts.{Body, Read, and_then, no_read, Name}
+use Rattle.cpp_syntax.specs.declared.positions.Checkpoint.{Checkpoint}
+use Rattle.cpp_syntax.specs.declared.positions.OpenBody.{OpenBody}
+use Rattle.cpp_syntax.specs.declared.positions.DeclaredName.{DeclaredName}
+use Rattle.cpp_syntax.specs.Derivations.{Body, Read, and_then, no_read, Name}
 
 -- The nodes that were there before, and what was read since.
-pub record Building : Type 0 where
+pub record BuilderState : Type 0 where
   pub base : List Node
   pub read : Read
 
 -- what was read, and behind it what was read then
-abbrev pub gains : Building → Read → Building
-gains built got = record { base = built.base; read = and_then built.read got }
+abbrev pub appended : BuilderState → Read → BuilderState
+appended built got = record { base = built.base; read = and_then built.read got }
 
 abbrev pub count_trees : Trees → ℕ
 count_trees none = 0
@@ -41,14 +41,14 @@ abbrev mutual
   count_lambdas_in (more t ts) = count_lambdas t + count_lambdas_in ts
 
 -- A mark stands behind all that was read, in which each lambda has its body.
-pub record IsMark (mark : Checkpoint) (built : Building) : Type 0 where
+pub record IsMark (mark : Checkpoint) (built : BuilderState) : Type 0 where
   pub trees : count_trees built.read.trees ≡ mark.trees
   pub bodies : length built.read.bodies ≡ count_lambdas_in built.read.trees
 
 abbrev pub name_of : DeclaredName → Name
 name_of name = record { first = name.first; token = name.token }
 
--- A value for each node of a list, made of its place, the node and the values of its kids.
+-- A value for each node of a list, made of its index, the node and the values of its kids.
 abbrev pub values_at : {A : Type 0} → A → List A → List NodeId → List A
 values_at other values ids = map (λ (id : NodeId). get_or values id.0 other) ids
 
@@ -102,17 +102,17 @@ abbrev pub lams_of : List OpenBody → List ℕ
 lams_of bodies = map (λ (body : OpenBody). body.lam.0) bodies
 
 -- what nodes, some of which were there before, ids and bodies show
-abbrev pub building_of : ℕ → List Node → List NodeId → List OpenBody → Building
-building_of base nodes ids bodies = record { base = take base nodes; read = record { trees = trees_at nodes ids; bodies = map (body_of nodes) bodies } }
+abbrev pub builder_state : ℕ → List Node → List NodeId → List OpenBody → BuilderState
+builder_state base nodes ids bodies = record { base = take base nodes; read = record { trees = trees_at nodes ids; bodies = map (body_of nodes) bodies } }
 
--- Running totals: each number is the sum of the lengths of the lists up to its place.
+-- Running totals: each number is the sum of the lengths of the lists up to its index.
 abbrev pub running : ℕ → List (List ℕ) → List ℕ
 running sum [] = []
 running sum (xs ∷ xss) = (sum + length xs) ∷ running (sum + length xs) xss
 
 -- The nodes show trees at the ids. No node that was there before is held by an id or by a new node, and each new one is
 -- held once at most. The bodies are those of the lambdas in the trees, in the order in which the lambdas end.
-pub record Shown (base : ℕ) (nodes : List Node) (ids : List NodeId) (bodies : List OpenBody) : Type 0 where
+pub record BuiltTrees (base : ℕ) (nodes : List Node) (ids : List NodeId) (bodies : List OpenBody) : Type 0 where
   pub shows : ShowsAll nodes ids (trees_at nodes ids)
   pub apart : (id : ℕ) → times_a_kid id (drop base nodes) + times_in id ids ≤ (if nat_le base id && nat_lt id (length nodes) then 1 else 0)
   pub lambdas : lams_of bodies ≡ lambdas_at nodes ids
@@ -122,9 +122,9 @@ abbrev pub EachShows : List Node → List NodeId → Type 0
 EachShows nodes [] = Unit {0}
 EachShows nodes (id ∷ ids) = Shows nodes id.0 (get_or (values_from no_tree tree_made [] nodes) id.0 no_tree) × EachShows nodes ids
 
--- the lambdas of bodies stand below a place
+-- the lambdas of bodies stand below an index
 abbrev pub are_lams_below : ℕ → List OpenBody → Bool
-are_lams_below place bodies = list_all (λ lam. nat_lt lam place) (lams_of bodies)
+are_lams_below index bodies = list_all (λ lam. nat_lt lam index) (lams_of bodies)
 
 -- What a builder keeps, with the number of bodies up to each tree.
 pub record IsBuilt (base : ℕ) (nodes : List Node) (ids : List NodeId) (totals : List ℕ) (bodies : List OpenBody) : Type 0 where

@@ -3,17 +3,17 @@
 ghost use Rattle.std.specs.Prelude.{◌≡◌, ◌<◌, ℕ, List, true, OnErr, IfOk, IfSome, length, drop, slice_get, option_map};
 ghost use Rattle.cpp_ast.specs.Orders.{are_below};
 ghost use Rattle.cpp_ast.specs.Trees.{Tree, Trees, Shows, ShowsAll};
-ghost use Rattle.cpp_syntax.specs.Texts.{declared, declared_in, is_of_declarator, leads_to_name, name_by};
+ghost use Rattle.cpp_syntax.specs.Derivations.{declared, declared_in, is_of_declarator, leads_to_name, name_by};
 ghost use Rattle.cpp_syntax.specs.View.{name_of};
 ghost use Rattle.cpp_syntax.specs.Gathers.{Gathered, FirstLeads, last_or_none};
 
-use crate::places::DeclaredName;
+use crate::positions::DeclaredName;
 use cpp_ast::arena::MAX_NODES;
 use cpp_ast::{At, Node, NodeId, NodeKind, Nodes};
 use std::alloc::{AllocError, Global};
 
-/// The ids from a place on, of which there may be none.
-pub(crate) fn from_place(ids: &[NodeId], start: usize) -> &[NodeId]
+/// The ids from an index on, of which there may be none.
+pub(crate) fn from_index(ids: &[NodeId], start: usize) -> &[NodeId]
     ensures { result.now ≡ drop start ids.now }
 {
     if start <= ids.len() {
@@ -23,23 +23,23 @@ pub(crate) fn from_place(ids: &[NodeId], start: usize) -> &[NodeId]
     }
 }
 
-/// The id at a place, if there is one.
+/// The id at an index, if there is one.
 pub(crate) fn id_at(ids: &[NodeId], at: usize) -> Option<NodeId>
     ensures { result ≡ slice_get ids.now at }
 {
     ids.get(at).copied()
 }
 
-/// The ids from a place on as the kids of a node.
+/// The ids from an index on as the kids of a node.
 fn kids_from(alloc: Global, ids: &[NodeId], start: usize) -> Result<Vec<NodeId>, AllocError>
     ensures { IfOk result (λ kids. kids.items ≡ drop start ids.now) }
 {
     let mut kids = Vec::new(alloc);
-    kids.extend_from_slice(from_place(ids, start))?;
+    kids.extend_from_slice(from_index(ids, start))?;
     Ok(kids)
 }
 
-/// Makes one node of those at the ids from a place on.
+/// Makes one node of those at the ids from an index on.
 pub(crate) fn gather(
     alloc: Global,
     nodes: &mut Nodes,
@@ -127,7 +127,7 @@ fn is_of_declarator(nodes: &Nodes, id: NodeId) -> bool
 fn first_of_declarator(nodes: &Nodes, ids: &[NodeId]) -> Option<NodeId>
     requires { are_below (length nodes.now) ids.now ≡ true }
     ensures first { FirstLeads nodes.now ids.now result }
-    ensures below { (place : ℕ) → are_below place ids.now ≡ true → IfSome result (λ id. id.0 < place) }
+    ensures below { (index : ℕ) → are_below index ids.now ≡ true → IfSome result (λ id. id.0 < index) }
 {
     for id in ids {
         if is_of_declarator(nodes, *id) {

@@ -5,13 +5,13 @@ ghost use Rattle.cpp_ast.specs.declared.arena.Node.{Node};
 ghost use Rattle.cpp_ast.specs.declared.arena.NodeId.{NodeId};
 ghost use Rattle.cpp_ast.specs.Trees.{Extends};
 ghost use Rattle.cpp_ast.specs.Orders.{are_below};
-ghost use Rattle.cpp_syntax.specs.Texts.{Read, no_read, reads_node, with_body_apart, declared_in};
-ghost use Rattle.cpp_syntax.specs.View.{Building, gains, count_trees, is_lambda, IsMark, Shown, building_of, name_of};
+ghost use Rattle.cpp_syntax.specs.Derivations.{Read, no_read, reads_node, with_body_apart, declared_in};
+ghost use Rattle.cpp_syntax.specs.View.{BuilderState, appended, count_trees, is_lambda, IsMark, BuiltTrees, builder_state, name_of};
 ghost use Rattle.cpp_syntax.specs.Gathers.{first_at};
 ghost use Rattle.cpp_ast.specs.declared.kinds.NodeKind.TheVariants.{Lambda};
 
-use crate::arena::{from_place, gather, id_at, last_or_none, named_by};
-use crate::places::{Checkpoint, DeclaredName, OpenBody};
+use crate::arena::{from_index, gather, id_at, last_or_none, named_by};
+use crate::positions::{Checkpoint, DeclaredName, OpenBody};
 use cpp_ast::{At, NodeId, NodeKind, Nodes};
 use std::alloc::{AllocError, Global};
 use std::marker::Model;
@@ -28,22 +28,20 @@ pub struct Builder {
     /// How many bodies there are up to each tree.
     totals: Vec<usize>,
     bodies: Vec<OpenBody>,
-    /// The last place at which nothing went on.
-    reached: usize,
+    /// The furthest index at which something else was expected.
+    furthest_failure: usize,
 }
 
 impl Model for Builder {
-    ghost use Rattle.cpp_syntax.specs.View.{Building};
+    ghost use Rattle.cpp_syntax.specs.View.{BuilderState, builder_state, IsBuilt};
     ghost use Rattle.std.specs.Coded.{codes};
     ghost use Rattle.cpp_syntax.specs.Codes.{trees_code};
 
-    ghost Value = { Building };
+    ghost Value = { BuilderState };
 
     ghost coded = { Prim.hlevel (codes, trees_code) };
 
-    ghost use Rattle.cpp_syntax.specs.View.{building_of, IsBuilt};
-
-    ghost view = { λ b. building_of b.base b.nodes b.pending.items b.bodies.items };
+    ghost view = { λ b. builder_state b.base b.nodes b.pending.items b.bodies.items };
 
     ghost invariant = { λ b. IsBuilt b.base b.nodes b.pending.items b.totals.items b.bodies.items };
 }
@@ -72,15 +70,15 @@ impl Builder {
             pending: Vec::new(alloc),
             totals: Vec::new(alloc),
             bodies: Vec::new(alloc),
-            reached: 0,
+            furthest_failure: 0,
         }
     }
 
     /// The nodes, the roots of the trees and the bodies.
     pub fn into_parts(self) -> Parts
-        ensures built { self ≡ building_of (length self.base) result.nodes result.roots.items result.bodies.items }
+        ensures built { self ≡ builder_state (length self.base) result.nodes result.roots.items result.bodies.items }
         ensures grown { Extends self.base result.nodes }
-        ensures shown { Shown (length self.base) result.nodes result.roots.items result.bodies.items }
+        ensures shown { BuiltTrees (length self.base) result.nodes result.roots.items result.bodies.items }
     {
         Parts {
             nodes: self.nodes,
@@ -89,19 +87,19 @@ impl Builder {
         }
     }
 
-    /// Notes that nothing goes on at a place.
-    pub fn refuse(&mut self, at: usize)
+    /// Notes that nothing goes on at an index.
+    pub fn expected_at(&mut self, at: usize)
         ensures { self.new ≡ self.old }
     {
-        self.reached = self.reached.max(at);
+        self.furthest_failure = self.furthest_failure.max(at);
     }
 
-    /// The last place at which nothing went on.
-    pub fn reached(&self) -> usize {
-        self.reached
+    /// The furthest index at which something else was expected.
+    pub fn furthest_failure(&self) -> usize {
+        self.furthest_failure
     }
 
-    /// The place behind all that is read.
+    /// The index behind all that is read.
     pub fn checkpoint(&self) -> Checkpoint
         ensures { IsMark result self.now }
     {
@@ -113,7 +111,7 @@ impl Builder {
     /// Reads a node with no kids.
     pub fn leaf(&mut self, kind: NodeKind, at: At, token: Option<u32>) -> Result<(), AllocError>
         requires { is_lambda kind ≡ false }
-        ensures added { OnOk result (self.new ≡ gains self.old (reads_node kind at token no_read)) }
+        ensures added { OnOk result (self.new ≡ appended self.old (reads_node kind at token no_read)) }
         ensures memory { OnErr result (self.new ≡ self.old) }
     {
         let start = self.checkpoint().trees;
@@ -121,7 +119,7 @@ impl Builder {
         Ok(())
     }
 
-    /// Makes one node of the trees from a place on, which become its kids.
+    /// Makes one node of the trees from an index on, which become its kids.
     pub fn node(
         &mut self,
         start: usize,
@@ -130,7 +128,7 @@ impl Builder {
         token: Option<u32>,
     ) -> Result<(), AllocError>
         requires { is_lambda kind ≡ false }
-        ensures gathered { OnOk result ((before : Building) (got : Read) → self.old ≡ gains before got → count_trees before.read.trees ≡ start → self.new ≡ gains before (reads_node kind at token got)) }
+        ensures gathered { OnOk result ((before : BuilderState) (got : Read) → self.old ≡ appended before got → count_trees before.read.trees ≡ start → self.new ≡ appended before (reads_node kind at token got)) }
         ensures memory { OnErr result (self.new ≡ self.old) }
     {
         self.totals.reserve(1)?;
@@ -148,7 +146,7 @@ impl Builder {
         Ok(())
     }
 
-    /// Makes a lambda of the trees from a place on, with its body apart: the tokens from one place to another.
+    /// Makes a lambda of the trees from an index on, with its body apart: the tokens from one index to another.
     pub fn lambda(
         &mut self,
         start: usize,
@@ -157,7 +155,7 @@ impl Builder {
         from: u32,
         to: u32,
     ) -> Result<(), AllocError>
-        ensures gathered { OnOk result ((before : Building) (got : Read) → self.old ≡ gains before got → count_trees before.read.trees ≡ start → self.new ≡ gains before (with_body_apart Lambda at token from to got)) }
+        ensures gathered { OnOk result ((before : BuilderState) (got : Read) → self.old ≡ appended before got → count_trees before.read.trees ≡ start → self.new ≡ appended before (with_body_apart Lambda at token from to got)) }
         ensures memory { OnErr result (self.new ≡ self.old) }
     {
         self.totals.reserve(1)?;
@@ -179,23 +177,23 @@ impl Builder {
 
     /// Cuts off what was read behind a mark.
     pub fn cut(&mut self, mark: Checkpoint)
-        ensures { (before : Building) (got : Read) → IsMark mark before → self.old ≡ gains before got → self.new ≡ before }
+        ensures { (before : BuilderState) (got : Read) → IsMark mark before → self.old ≡ appended before got → self.new ≡ before }
     {
         self.pending.truncate(mark.trees);
         self.totals.truncate(mark.trees);
         self.bodies.truncate(last_or_none(&self.totals));
     }
 
-    /// The name that the first of the trees from a place on declares which is of a declarator.
+    /// The name that the first of the trees from an index on declares which is of a declarator.
     pub fn declared(&self, start: usize) -> Option<DeclaredName>
-        ensures { (before : Building) (got : Read) → self.now ≡ gains before got → count_trees before.read.trees ≡ start → option_map name_of result ≡ declared_in got.trees }
+        ensures { (before : BuilderState) (got : Read) → self.now ≡ appended before got → count_trees before.read.trees ≡ start → option_map name_of result ≡ declared_in got.trees }
     {
-        named_by(&self.nodes, from_place(&self.pending, start))
+        named_by(&self.nodes, from_index(&self.pending, start))
     }
 
-    /// The place of the first tree from a place on, or `other` where there is none.
-    pub fn first_place(&self, start: usize, other: At) -> At
-        ensures { (before : Building) (got : Read) → self.now ≡ gains before got → count_trees before.read.trees ≡ start → result ≡ first_at other got.trees }
+    /// The position of the first tree from an index on, or `other` where there is none.
+    pub fn first_position(&self, start: usize, other: At) -> At
+        ensures { (before : BuilderState) (got : Read) → self.now ≡ appended before got → count_trees before.read.trees ≡ start → result ≡ first_at other got.trees }
     {
         match id_at(&self.pending, start) {
             Some(id) => self.nodes.node(id).at,

@@ -1,17 +1,110 @@
-//! Groups of symbols, as the lines of the grammar name them.
+//! Groups of terminals, as the lines of the grammar name them.
 
 ghost use Rattle.std.specs.Prelude.{◌≡◌, true, false};
-ghost use Rattle.cpp_syntax.specs.Symbols.{is_name, is_integer, is_boolean, is_type_word, is_cv, is_safety, is_virt, is_class_key, is_access, is_specifier, is_atomic, is_prefix, is_step, is_assignment, is_capture_default, is_unbracketed, is_unseparated, begins_operand, is_literal, level_of};
+ghost use Rattle.cpp_syntax.specs.Terminals.{ReadsAs, stands_for, as_type_name, before_type_name, is_name, is_type_name, is_integer, is_boolean, is_type_word, is_cv, is_safety, is_virt, is_class_key, is_access, is_specifier, is_atomic, is_prefix, is_step, is_assignment, is_capture_default, is_unbracketed, is_unseparated, is_chosen, begins_operand, is_literal, level_of};
 
-use crate::symbol::Symbol;
+use crate::terminal::Terminal;
 
-impl Symbol {
-    /// Whether it is this symbol.
-    pub fn is(self, symbol: Symbol) -> bool
-        ensures yes { result ≡ true → self ≡ symbol }
-        ensures no { result ≡ false → self ≡ symbol → ⊥ }
+impl Terminal {
+    /// Whether a token of this sort is read as a terminal, where a line of the grammar asks for it.
+    pub fn is(self, terminal: Terminal) -> bool
+        ensures yes { result ≡ true → ReadsAs self terminal }
+        ensures no { result ≡ false → ReadsAs self terminal → ⊥ }
     {
-        self == symbol
+        if self == terminal {
+            return true;
+        }
+        self.stands_for(terminal)
+    }
+
+    /// Whether it may be read as another terminal: a word that is also the name of a type.
+    fn stands_for(self, terminal: Terminal) -> bool
+        ensures { result ≡ stands_for self terminal }
+    {
+        match self {
+            Terminal::AbortType => matches!(terminal, Terminal::TypeName | Terminal::Abort),
+            Terminal::AbortLater => matches!(terminal, Terminal::Abort),
+            Terminal::TxExceptionType => matches!(
+                terminal,
+                Terminal::TypeName | Terminal::TxException
+            ),
+            Terminal::TxExceptionLater => matches!(terminal, Terminal::TxException),
+            Terminal::OptimizeForSynchronizedType => matches!(
+                terminal,
+                Terminal::TypeName | Terminal::OptimizeForSynchronized
+            ),
+            Terminal::OptimizeForSynchronizedLater => matches!(
+                terminal,
+                Terminal::OptimizeForSynchronized
+            ),
+            Terminal::OverrideType => matches!(terminal, Terminal::TypeName | Terminal::Override),
+            Terminal::OverrideLater => matches!(terminal, Terminal::Override),
+            Terminal::FinalType => matches!(terminal, Terminal::TypeName | Terminal::Final),
+            Terminal::FinalLater => matches!(terminal, Terminal::Final),
+            Terminal::TransactionSafeType => matches!(
+                terminal,
+                Terminal::TypeName | Terminal::TransactionSafe
+            ),
+            Terminal::TransactionSafeLater => matches!(terminal, Terminal::TransactionSafe),
+            Terminal::TransactionSafeDynamicType => matches!(
+                terminal,
+                Terminal::TypeName | Terminal::TransactionSafeDynamic
+            ),
+            Terminal::TransactionSafeDynamicLater => matches!(
+                terminal,
+                Terminal::TransactionSafeDynamic
+            ),
+            _ => false,
+        }
+    }
+
+    /// What a name of this spelling is behind the index where it becomes the name of a type.
+    pub fn as_type_name(self) -> Terminal
+        ensures { result ≡ as_type_name self }
+    {
+        match self {
+            Terminal::Abort => Terminal::AbortType,
+            Terminal::TxException => Terminal::TxExceptionType,
+            Terminal::OptimizeForSynchronized => Terminal::OptimizeForSynchronizedType,
+            Terminal::Override => Terminal::OverrideType,
+            Terminal::Final => Terminal::FinalType,
+            Terminal::TransactionSafe => Terminal::TransactionSafeType,
+            Terminal::TransactionSafeDynamic => Terminal::TransactionSafeDynamicType,
+            _ => Terminal::TypeName,
+        }
+    }
+
+    /// What it is before that index.
+    pub fn before_type_name(self) -> Terminal
+        ensures { result ≡ before_type_name self }
+    {
+        match self {
+            Terminal::Abort => Terminal::AbortLater,
+            Terminal::TxException => Terminal::TxExceptionLater,
+            Terminal::OptimizeForSynchronized => Terminal::OptimizeForSynchronizedLater,
+            Terminal::Override => Terminal::OverrideLater,
+            Terminal::Final => Terminal::FinalLater,
+            Terminal::TransactionSafe => Terminal::TransactionSafeLater,
+            Terminal::TransactionSafeDynamic => Terminal::TransactionSafeDynamicLater,
+            _ => Terminal::Other,
+        }
+    }
+
+    /// Whether it is the name of a type that is declared before.
+    pub fn is_type_name(self) -> bool
+        ensures { result ≡ is_type_name self }
+    {
+        matches!(
+            self,
+            Terminal::TypeName
+                | Terminal::AbortType
+                | Terminal::TxExceptionType
+                | Terminal::OptimizeForSynchronizedType
+                | Terminal::OverrideType
+                | Terminal::FinalType
+                | Terminal::TransactionSafeType
+                | Terminal::TransactionSafeDynamicType
+        )
     }
 
     /// Whether it is a name that names anything but a type.
@@ -20,14 +113,14 @@ impl Symbol {
     {
         matches!(
             self,
-            Symbol::Name
-                | Symbol::Abort
-                | Symbol::TxException
-                | Symbol::OptimizeForSynchronized
-                | Symbol::Override
-                | Symbol::Final
-                | Symbol::TransactionSafe
-                | Symbol::TransactionSafeDynamic
+            Terminal::Name
+                | Terminal::Abort
+                | Terminal::TxException
+                | Terminal::OptimizeForSynchronized
+                | Terminal::Override
+                | Terminal::Final
+                | Terminal::TransactionSafe
+                | Terminal::TransactionSafeDynamic
         )
     }
 
@@ -35,14 +128,14 @@ impl Symbol {
     pub fn is_integer(self) -> bool
         ensures { result ≡ is_integer self }
     {
-        matches!(self, Symbol::Zero | Symbol::Integer)
+        matches!(self, Terminal::Zero | Terminal::Integer)
     }
 
     /// Whether it is `true` or `false`.
     pub fn is_boolean(self) -> bool
         ensures { result ≡ is_boolean self }
     {
-        matches!(self, Symbol::True | Symbol::False)
+        matches!(self, Terminal::True | Terminal::False)
     }
 
     /// Whether it is a word of an integer type, `void`, `bool` or `auto`.
@@ -51,15 +144,15 @@ impl Symbol {
     {
         matches!(
             self,
-            Symbol::Void
-                | Symbol::Bool
-                | Symbol::Auto
-                | Symbol::Char
-                | Symbol::Short
-                | Symbol::Int
-                | Symbol::Long
-                | Symbol::Signed
-                | Symbol::Unsigned
+            Terminal::Void
+                | Terminal::Bool
+                | Terminal::Auto
+                | Terminal::Char
+                | Terminal::Short
+                | Terminal::Int
+                | Terminal::Long
+                | Terminal::Signed
+                | Terminal::Unsigned
         )
     }
 
@@ -67,7 +160,7 @@ impl Symbol {
     pub fn is_cv(self) -> bool
         ensures { result ≡ is_cv self }
     {
-        matches!(self, Symbol::Const | Symbol::Volatile)
+        matches!(self, Terminal::Const | Terminal::Volatile)
     }
 
     /// Whether it is `transaction_safe` or `transaction_safe_dynamic`.
@@ -76,7 +169,12 @@ impl Symbol {
     {
         matches!(
             self,
-            Symbol::TransactionSafe | Symbol::TransactionSafeDynamic
+            Terminal::TransactionSafe
+                | Terminal::TransactionSafeType
+                | Terminal::TransactionSafeLater
+                | Terminal::TransactionSafeDynamic
+                | Terminal::TransactionSafeDynamicType
+                | Terminal::TransactionSafeDynamicLater
         )
     }
 
@@ -84,28 +182,39 @@ impl Symbol {
     pub fn is_virt(self) -> bool
         ensures { result ≡ is_virt self }
     {
-        matches!(self, Symbol::Override | Symbol::Final)
+        matches!(
+            self,
+            Terminal::Override
+                | Terminal::OverrideType
+                | Terminal::OverrideLater
+                | Terminal::Final
+                | Terminal::FinalType
+                | Terminal::FinalLater
+        )
     }
 
     /// Whether it is `class` or `struct`.
     pub fn is_class_key(self) -> bool
         ensures { result ≡ is_class_key self }
     {
-        matches!(self, Symbol::Class | Symbol::Struct)
+        matches!(self, Terminal::Class | Terminal::Struct)
     }
 
     /// Whether it is `public`, `protected` or `private`.
     pub fn is_access(self) -> bool
         ensures { result ≡ is_access self }
     {
-        matches!(self, Symbol::Public | Symbol::Protected | Symbol::Private)
+        matches!(
+            self,
+            Terminal::Public | Terminal::Protected | Terminal::Private
+        )
     }
 
     /// Whether it is `static`, `extern` or `inline`.
     pub fn is_specifier(self) -> bool
         ensures { result ≡ is_specifier self }
     {
-        matches!(self, Symbol::Static | Symbol::Extern | Symbol::Inline)
+        matches!(self, Terminal::Static | Terminal::Extern | Terminal::Inline)
     }
 
     /// Whether it begins an atomic block.
@@ -114,7 +223,7 @@ impl Symbol {
     {
         matches!(
             self,
-            Symbol::AtomicNoexcept | Symbol::AtomicCancel | Symbol::AtomicCommit
+            Terminal::AtomicNoexcept | Terminal::AtomicCancel | Terminal::AtomicCommit
         )
     }
 
@@ -124,14 +233,14 @@ impl Symbol {
     {
         matches!(
             self,
-            Symbol::PlusPlus
-                | Symbol::MinusMinus
-                | Symbol::Plus
-                | Symbol::Minus
-                | Symbol::Bang
-                | Symbol::Tilde
-                | Symbol::Star
-                | Symbol::Amp
+            Terminal::PlusPlus
+                | Terminal::MinusMinus
+                | Terminal::Plus
+                | Terminal::Minus
+                | Terminal::Bang
+                | Terminal::Tilde
+                | Terminal::Star
+                | Terminal::Amp
         )
     }
 
@@ -139,7 +248,7 @@ impl Symbol {
     pub fn is_step(self) -> bool
         ensures { result ≡ is_step self }
     {
-        matches!(self, Symbol::PlusPlus | Symbol::MinusMinus)
+        matches!(self, Terminal::PlusPlus | Terminal::MinusMinus)
     }
 
     /// Whether it is `=` or a compound assignment.
@@ -148,17 +257,17 @@ impl Symbol {
     {
         matches!(
             self,
-            Symbol::Equal
-                | Symbol::PlusEqual
-                | Symbol::MinusEqual
-                | Symbol::StarEqual
-                | Symbol::SlashEqual
-                | Symbol::PercentEqual
-                | Symbol::CaretEqual
-                | Symbol::AmpEqual
-                | Symbol::BarEqual
-                | Symbol::ShiftLeftEqual
-                | Symbol::ShiftRightEqual
+            Terminal::Equal
+                | Terminal::PlusEqual
+                | Terminal::MinusEqual
+                | Terminal::StarEqual
+                | Terminal::SlashEqual
+                | Terminal::PercentEqual
+                | Terminal::CaretEqual
+                | Terminal::AmpEqual
+                | Terminal::BarEqual
+                | Terminal::ShiftLeftEqual
+                | Terminal::ShiftRightEqual
         )
     }
 
@@ -166,7 +275,7 @@ impl Symbol {
     pub fn is_capture_default(self) -> bool
         ensures { result ≡ is_capture_default self }
     {
-        matches!(self, Symbol::Equal | Symbol::Amp)
+        matches!(self, Terminal::Equal | Terminal::Amp)
     }
 
     /// Whether it is a token and no bracket.
@@ -175,21 +284,34 @@ impl Symbol {
     {
         !matches!(
             self,
-            Symbol::OpenParen
-                | Symbol::CloseParen
-                | Symbol::OpenBracket
-                | Symbol::CloseBracket
-                | Symbol::OpenBrace
-                | Symbol::CloseBrace
-                | Symbol::End
+            Terminal::OpenParen
+                | Terminal::CloseParen
+                | Terminal::OpenBracket
+                | Terminal::CloseBracket
+                | Terminal::OpenBrace
+                | Terminal::CloseBrace
+                | Terminal::End
         )
     }
 
-    /// Whether it is a token and no bracket, comma or semicolon.
+    /// Whether it is a token and no bracket, comma, semicolon or `?`.
     pub fn is_unseparated(self) -> bool
         ensures { result ≡ is_unseparated self }
     {
-        !matches!(self, Symbol::Comma | Symbol::Semicolon) && self.is_unbracketed()
+        !matches!(
+            self,
+            Terminal::Comma | Terminal::Semicolon | Terminal::Question
+        ) && self.is_unbracketed()
+    }
+
+    /// Whether it is a token and no bracket, semicolon, `?` or `:`.
+    pub fn is_chosen(self) -> bool
+        ensures { result ≡ is_chosen self }
+    {
+        !matches!(
+            self,
+            Terminal::Semicolon | Terminal::Question | Terminal::Colon
+        ) && self.is_unbracketed()
     }
 
     /// Whether it begins the operand of a cast, whatever follows.
@@ -198,34 +320,40 @@ impl Symbol {
     {
         if matches!(
             self,
-            Symbol::Plus | Symbol::Minus | Symbol::Bang | Symbol::Tilde | Symbol::Star | Symbol::Amp
+            Terminal::Plus
+                | Terminal::Minus
+                | Terminal::Bang
+                | Terminal::Tilde
+                | Terminal::Star
+                | Terminal::Amp
         ) {
             return true;
         }
         if matches!(
             self,
-            Symbol::This
-                | Symbol::TypeName
-                | Symbol::Std
-                | Symbol::StaticCast
-                | Symbol::Sizeof
-                | Symbol::OpenBracket
+            Terminal::This
+                | Terminal::Std
+                | Terminal::StaticCast
+                | Terminal::Sizeof
+                | Terminal::OpenBracket
         ) {
             return true;
         }
         if matches!(
             self,
-            Symbol::Zero
-                | Symbol::Integer
-                | Symbol::Character
-                | Symbol::String
-                | Symbol::True
-                | Symbol::False
-                | Symbol::Nullptr
+            Terminal::Zero
+                | Terminal::Integer
+                | Terminal::Character
+                | Terminal::String
+                | Terminal::True
+                | Terminal::False
+                | Terminal::Nullptr
         ) {
             return true;
         }
-        self.is_name() || (!matches!(self, Symbol::Auto) && self.is_type_word())
+        self.is_name()
+            || self.is_type_name()
+            || (!matches!(self, Terminal::Auto) && self.is_type_word())
     }
 
     /// Whether it is a literal, or `this`.
@@ -234,14 +362,14 @@ impl Symbol {
     {
         matches!(
             self,
-            Symbol::Zero
-                | Symbol::Integer
-                | Symbol::Character
-                | Symbol::String
-                | Symbol::True
-                | Symbol::False
-                | Symbol::Nullptr
-                | Symbol::This
+            Terminal::Zero
+                | Terminal::Integer
+                | Terminal::Character
+                | Terminal::String
+                | Terminal::True
+                | Terminal::False
+                | Terminal::Nullptr
+                | Terminal::This
         )
     }
 
@@ -250,16 +378,16 @@ impl Symbol {
         ensures { result ≡ level_of self }
     {
         match self {
-            Symbol::Star | Symbol::Slash | Symbol::Percent => 1,
-            Symbol::Plus | Symbol::Minus => 2,
-            Symbol::ShiftLeft | Symbol::ShiftRight => 3,
-            Symbol::Less | Symbol::Greater | Symbol::LessEqual | Symbol::GreaterEqual => 4,
-            Symbol::EqualEqual | Symbol::NotEqual => 5,
-            Symbol::Amp => 6,
-            Symbol::Caret => 7,
-            Symbol::Bar => 8,
-            Symbol::AmpAmp => 9,
-            Symbol::BarBar => 10,
+            Terminal::Star | Terminal::Slash | Terminal::Percent => 1,
+            Terminal::Plus | Terminal::Minus => 2,
+            Terminal::ShiftLeft | Terminal::ShiftRight => 3,
+            Terminal::Less | Terminal::Greater | Terminal::LessEqual | Terminal::GreaterEqual => 4,
+            Terminal::EqualEqual | Terminal::NotEqual => 5,
+            Terminal::Amp => 6,
+            Terminal::Caret => 7,
+            Terminal::Bar => 8,
+            Terminal::AmpAmp => 9,
+            Terminal::BarBar => 10,
             _ => 0,
         }
     }

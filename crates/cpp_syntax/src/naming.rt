@@ -1,7 +1,7 @@
 //! What a declarator names.
 
 ghost use Rattle.std.specs.Prelude.{◌≡◌, Some, None, if◌then◌else◌};
-ghost use Rattle.cpp_syntax.specs.Lookahead.{need_not_name};
+ghost use Rattle.cpp_syntax.specs.FirstSets.{need_not_name};
 ghost use Rattle.cpp_syntax.specs.Names.{naming_of, may_name, is_in_block};
 
 /// Whether a declarator names what it declares.
@@ -48,7 +48,7 @@ impl Naming {
         }
     }
 
-    /// A place, where a declarator need not name what it declares.
+    /// An index, where a declarator need not name what it declares.
     pub fn if_need_not_name(self, at: usize) -> Option<usize>
         ensures { result ≡ (if need_not_name (naming_of self) then Some at else None) }
     {

@@ -2,14 +2,15 @@
 
 ghost use Rattle.std.specs.Prelude.{◌≡◌, true, false, ◌≤◌, ◌<◌, ◌↔◌, ℕ, length, map, IfOk, IsTrue};
 ghost use Rattle.cpp_lex.specs.Tokens.{Lexeme, lexeme_of, lexemes_of};
-ghost use Rattle.cpp_syntax.specs.Source.{Source, symbol_at, place_at};
+ghost use Rattle.cpp_syntax.specs.Source.{Source, terminal_at, position_at};
 ghost use Rattle.cpp_syntax.specs.Classes.{source_of, end_of};
-ghost use Rattle.cpp_syntax.specs.Symbols.{is_end};
+ghost use Rattle.cpp_syntax.specs.Terminals.{ReadsAs, is_end};
 ghost use Rattle.cpp_syntax.specs.Balance.{IsPartner};
+ghost use Rattle.cpp_syntax.specs.declared.limits.TheConstants.{MAX_TOKENS};
 
-use crate::classes::symbols;
+use crate::classes::terminals;
 use crate::partners::partners;
-use crate::symbol::Symbol;
+use crate::terminal::Terminal;
 use cpp_ast::At;
 use cpp_lex::{Token, Tokens};
 use std::alloc::{AllocError, Global};
@@ -20,10 +21,10 @@ use std::marker::Model;
 pub(crate) struct Outline {
     /// The number of the source.
     source: u32,
-    symbols: Vec<Symbol>,
+    terminals: Vec<Terminal>,
     begins: Vec<u32>,
     ends: u32,
-    /// For each bracket that one closes the place of that one, and for each other token its own place.
+    /// For each bracket that one closes the index of that one, and for each other token its own index.
     partners: Vec<u32>,
 }
 
@@ -34,70 +35,70 @@ impl Model for Outline {
 
     ghost use Rattle.cpp_syntax.specs.Balance.{IsTable};
 
-    ghost view = { λ n. record { number = n.source; symbols = n.symbols.items; begins = n.begins.items; ends = n.ends } };
+    ghost view = { λ n. record { number = n.source; terminals = n.terminals.items; begins = n.begins.items; ends = n.ends } };
 
-    ghost invariant = { λ n. IsTable n.symbols.items n.begins.items n.partners.items };
+    ghost invariant = { λ n. IsTable n.terminals.items n.begins.items n.partners.items };
 }
 
 impl Outline {
     /// What is kept of the tokens of a unit.
     pub fn of(alloc: Global, source: u32, tokens: &Tokens) -> Result<Outline, AllocError>
-        requires { length tokens.now.items.items ≤ 1048576 }
+        requires { length tokens.now.items.items ≤ MAX_TOKENS }
         ensures { IfOk result (λ names. names ≡ source_of source (lexemes_of tokens.now)) }
     {
         let items = tokens.items.as_slice();
-        let symbols = symbols(alloc, items)?;
-        let partners = partners(alloc, &symbols)?;
+        let terminals = terminals(alloc, items)?;
+        let partners = partners(alloc, &terminals)?;
         Ok(Outline {
             source,
             begins: begins(alloc, items)?,
             ends: end(items),
-            symbols,
+            terminals,
             partners,
         })
     }
 
     /// How many tokens there are.
     pub fn len(&self) -> usize
-        ensures len { result ≡ length self.now.symbols }
-        ensures few { result ≤ 1048576 }
+        ensures len { result ≡ length self.now.terminals }
+        ensures few { result ≤ MAX_TOKENS }
     {
-        self.symbols.len()
+        self.terminals.len()
     }
 
     /// Whether there are none.
     pub fn is_empty(&self) -> bool
-        ensures { IsTrue result ↔ (length self.now.symbols ≡ 0) }
+        ensures { IsTrue result ↔ (length self.now.terminals ≡ 0) }
     {
-        self.symbols.is_empty()
+        self.terminals.is_empty()
     }
 
-    /// The symbol at a place, or `End` behind the last.
-    pub fn symbol(&self, at: usize) -> Symbol
-        ensures symbol { result ≡ symbol_at self.now at }
-        ensures inside { is_end result ≡ false → at < length self.now.symbols }
-        ensures few { length self.now.symbols ≤ 1048576 }
+    /// The terminal at an index, or `End` behind the last.
+    pub fn terminal(&self, at: usize) -> Terminal
+        ensures terminal { result ≡ terminal_at self.now at }
+        ensures inside { is_end result ≡ false → at < length self.now.terminals }
+        ensures few { length self.now.terminals ≤ MAX_TOKENS }
     {
-        match self.symbols.get(at) {
-            Some(symbol) => *symbol,
-            None => Symbol::End,
+        match self.terminals.get(at) {
+            Some(terminal) => *terminal,
+            None => Terminal::End,
         }
     }
 
-    /// Whether this symbol stands at a place.
-    pub fn is_at(&self, at: usize, symbol: Symbol) -> bool
-        ensures yes { result ≡ true → symbol_at self.now at ≡ symbol }
-        ensures no { result ≡ false → symbol_at self.now at ≡ symbol → ⊥ }
-        ensures inside { result ≡ true → is_end symbol ≡ false → at < length self.now.symbols }
-        ensures few { length self.now.symbols ≤ 1048576 }
+    /// Whether a token that is read as this terminal stands at an index.
+    pub fn is_at(&self, at: usize, terminal: Terminal) -> bool
+        ensures yes { result ≡ true → ReadsAs (terminal_at self.now at) terminal }
+        ensures no { result ≡ false → ReadsAs (terminal_at self.now at) terminal → ⊥ }
+        ensures inside { result ≡ true → is_end terminal ≡ false → at < length self.now.terminals }
+        ensures few { length self.now.terminals ≤ MAX_TOKENS }
     {
-        self.symbol(at).is(symbol)
+        self.terminal(at).is(terminal)
     }
 
-    /// The place in the text of the token at a place, or of what is behind the last.
-    pub fn place(&self, at: usize) -> At
-        ensures place { result ≡ place_at self.now at }
-        ensures few { length self.now.symbols ≤ 1048576 }
+    /// The position in the text of the token at an index, or of what is behind the last.
+    pub fn position(&self, at: usize) -> At
+        ensures position { result ≡ position_at self.now at }
+        ensures few { length self.now.terminals ≤ MAX_TOKENS }
     {
         let offset = match self.begins.get(at) {
             Some(begin) => *begin,
@@ -109,10 +110,10 @@ impl Outline {
         }
     }
 
-    /// The place of the bracket that closes the one at a place, with balanced tokens between. There is none where no
+    /// The index of the bracket that closes the one at an index, with balanced tokens between. There is none where no
     /// opening bracket stands, or none that is closed so.
     pub fn partner(&self, at: usize) -> Option<usize>
-        ensures { IsPartner self.now.symbols at result }
+        ensures { IsPartner self.now.terminals at result }
     {
         match self.partners.get(at) {
             Some(partner) if *partner as usize > at => Some(*partner as usize),

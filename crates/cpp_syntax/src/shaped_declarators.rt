@@ -2,17 +2,17 @@
 
 ghost use Rattle.std.specs.Prelude.{◌≡◌, ◌+◌, true};
 ghost use Rattle.cpp_ast.specs.declared.kinds.NodeKind.TheVariants.{CvQualifier};
-ghost use Rattle.cpp_syntax.specs.Symbols.{const_word};
+ghost use Rattle.cpp_syntax.specs.Terminals.{const_word};
 ghost use Rattle.cpp_syntax.specs.Names.{naming_of};
 ghost use Rattle.cpp_syntax.specs.Rules.{Naming as GrammarNaming, by_shape, either, form, many, optional, declarator, direct_declarator, parameter_declaration, parameter_declaration_clause, function_qualifiers};
 ghost use Rattle.cpp_syntax.specs.Grammar.{leaf, tx_qualifier, noexcept_specification, parameter_list, parenthesized_declarator, suffix};
-ghost use Rattle.cpp_syntax.specs.Texts.{Read};
+ghost use Rattle.cpp_syntax.specs.Derivations.{Read};
 ghost use Rattle.cpp_syntax.specs.Shapes.{Spans, SpansBehind, Recognised, RecognisedBehind, AlwaysRecognised, ParametersPassed, ParametersFound, KnownFrom, HeadFound, IdFound, is_outside_blocks};
 
 use crate::naming::Naming;
 use crate::outline::Outline;
-use crate::shapes::less_room;
-use crate::symbol::Symbol;
+use crate::shapes::descend;
+use crate::terminal::Terminal;
 use std::alloc::AllocError;
 
 impl Outline {
@@ -23,20 +23,20 @@ impl Outline {
         parameters: &Vec<u32>,
         at: usize,
         naming: Naming,
-        room: u32,
+        depth_left: u32,
     ) -> Result<Option<usize>, AllocError>
         requires known { KnownFrom self.now parameters.now.items at }
         requires outside { is_outside_blocks (naming_of naming) ≡ true }
         ensures { Recognised self.now (form (declarator by_shape (naming_of naming))) at result }
     {
-        if self.is_at(at, Symbol::Star) {
+        if self.is_at(at, Terminal::Star) {
             let behind = self.behind_cv_qualifiers(at + 1);
-            return self.shaped_declarator(parameters, behind, naming, less_room(room)?);
+            return self.shaped_declarator(parameters, behind, naming, descend(depth_left)?);
         }
-        if self.is_at(at, Symbol::Amp) {
-            return self.shaped_declarator(parameters, at + 1, naming, less_room(room)?);
+        if self.is_at(at, Terminal::Amp) {
+            return self.shaped_declarator(parameters, at + 1, naming, descend(depth_left)?);
         }
-        self.shaped_direct_declarator(parameters, at, naming, room)
+        self.shaped_direct_declarator(parameters, at, naming, depth_left)
     }
 
     /// A declarator without `*` and `&` before it.
@@ -46,13 +46,13 @@ impl Outline {
         parameters: &Vec<u32>,
         at: usize,
         naming: Naming,
-        room: u32,
+        depth_left: u32,
     ) -> Result<Option<usize>, AllocError>
         requires known { KnownFrom self.now parameters.now.items at }
         requires outside { is_outside_blocks (naming_of naming) ≡ true }
         ensures { Recognised self.now (form (direct_declarator by_shape (naming_of naming))) at result }
     {
-        let Some(head) = self.shaped_declarator_head(parameters, at, naming, room)? else {
+        let Some(head) = self.shaped_declarator_head(parameters, at, naming, depth_left)? else {
             return Ok(None);
         };
         Ok(Some(self.behind_suffixes(parameters, head)))
@@ -65,7 +65,7 @@ impl Outline {
         parameters: &Vec<u32>,
         at: usize,
         naming: Naming,
-        room: u32,
+        depth_left: u32,
     ) -> Result<Option<usize>, AllocError>
         requires known { KnownFrom self.now parameters.now.items at }
         requires outside { is_outside_blocks (naming_of naming) ≡ true }
@@ -74,7 +74,7 @@ impl Outline {
         if let Some(behind) = self.behind_declarator_id(naming, at) {
             return Ok(Some(behind));
         }
-        let Some(behind) = self.shaped_group(parameters, at, naming, room)? else {
+        let Some(behind) = self.shaped_group(parameters, at, naming, depth_left)? else {
             return Ok(naming.if_need_not_name(at));
         };
         Ok(Some(behind))
@@ -103,23 +103,23 @@ impl Outline {
         parameters: &Vec<u32>,
         at: usize,
         naming: Naming,
-        room: u32,
+        depth_left: u32,
     ) -> Result<Option<usize>, AllocError>
         requires known { KnownFrom self.now parameters.now.items at }
         requires outside { is_outside_blocks (naming_of naming) ≡ true }
         ensures { Recognised self.now (parenthesized_declarator by_shape (naming_of naming)) at result }
     {
-        if !self.is_at(at, Symbol::OpenParen) {
+        if !self.is_at(at, Terminal::OpenParen) {
             return Ok(None);
         }
-        let Some(close) = self.shaped_declarator(parameters, at + 1, naming, less_room(room)?)?
+        let Some(close) = self.shaped_declarator(parameters, at + 1, naming, descend(depth_left)?)?
         else {
             return Ok(None);
         };
         if close == at + 1 {
             return Ok(None);
         }
-        if !self.is_at(close, Symbol::CloseParen) {
+        if !self.is_at(close, Terminal::CloseParen) {
             return Ok(None);
         }
         Ok(Some(close + 1))
@@ -144,7 +144,7 @@ impl Outline {
         requires known { KnownFrom self.now parameters.now.items at }
         ensures { (naming : GrammarNaming) → (read : Read) → RecognisedBehind self.now (suffix by_shape naming) read at result }
     {
-        if self.is_at(at, Symbol::OpenBracket) {
+        if self.is_at(at, Terminal::OpenBracket) {
             let Some(close) = self.partner(at) else {
                 return None;
             };
@@ -156,7 +156,7 @@ impl Outline {
         Some(self.behind_function_qualifiers(behind))
     }
 
-    /// The place behind the `)` of parameters in parentheses at a place, where they are known.
+    /// The index behind the `)` of parameters in parentheses at an index, where they are known.
     pub fn behind_parameters(&self, parameters: &Vec<u32>, at: usize) -> Option<usize>
         requires known { KnownFrom self.now parameters.now.items at }
         ensures { ParametersPassed self.now at result }
@@ -177,7 +177,7 @@ impl Outline {
     fn behind_const(&self, at: usize) -> usize
         ensures { Spans self.now (optional (leaf CvQualifier const_word)) at result }
     {
-        if self.is_at(at, Symbol::Const) {
+        if self.is_at(at, Terminal::Const) {
             at + 1
         } else {
             at
@@ -193,7 +193,7 @@ impl Outline {
     fn behind_noexcept(&self, at: usize) -> usize
         ensures { Spans self.now (optional noexcept_specification) at result }
     {
-        if self.is_at(at, Symbol::Noexcept) {
+        if self.is_at(at, Terminal::Noexcept) {
             at + 1
         } else {
             at
@@ -205,12 +205,12 @@ impl Outline {
         &self,
         parameters: &Vec<u32>,
         at: usize,
-        room: u32,
+        depth_left: u32,
     ) -> Result<usize, AllocError>
         requires known { KnownFrom self.now parameters.now.items at }
         ensures { AlwaysRecognised self.now (form (parameter_declaration_clause by_shape)) at result }
     {
-        match self.shaped_parameter_list(parameters, at, room)? {
+        match self.shaped_parameter_list(parameters, at, depth_left)? {
             Some(next) => Ok(next),
             None => Ok(at),
         }
@@ -221,17 +221,17 @@ impl Outline {
         &self,
         parameters: &Vec<u32>,
         at: usize,
-        room: u32,
+        depth_left: u32,
     ) -> Result<Option<usize>, AllocError>
         requires known { KnownFrom self.now parameters.now.items at }
         ensures { Recognised self.now (parameter_list by_shape) at result }
     {
-        let Some(first) = self.shaped_parameter(parameters, at, room)? else {
+        let Some(first) = self.shaped_parameter(parameters, at, depth_left)? else {
             return Ok(None);
         };
         let mut next = first;
-        'items: while self.is_at(next, Symbol::Comma) {
-            let Some(behind) = self.shaped_parameter(parameters, next + 1, room)? else {
+        'items: while self.is_at(next, Terminal::Comma) {
+            let Some(behind) = self.shaped_parameter(parameters, next + 1, depth_left)? else {
                 return Ok(Some(next));
             };
             next = behind;
@@ -244,32 +244,32 @@ impl Outline {
         &self,
         parameters: &Vec<u32>,
         at: usize,
-        room: u32,
+        depth_left: u32,
     ) -> Result<Option<usize>, AllocError>
         requires known { KnownFrom self.now parameters.now.items at }
         ensures { Recognised self.now (form (parameter_declaration by_shape)) at result }
     {
-        let Some(behind) = self.shaped_type_specifier_seq(parameters, at, room)? else {
+        let Some(behind) = self.shaped_type_specifier_seq(parameters, at, depth_left)? else {
             return Ok(None);
         };
-        self.shaped_declarator(parameters, behind, Naming::Either, room)
+        self.shaped_declarator(parameters, behind, Naming::Either, depth_left)
     }
 
-    /// The place of the `)` behind parameters in parentheses at a place, where those behind it are known.
+    /// The index of the `)` behind parameters in parentheses at an index, where those behind it are known.
     pub fn parameters_in_parentheses(
         &self,
         parameters: &Vec<u32>,
         at: usize,
-        room: u32,
+        depth_left: u32,
     ) -> Result<Option<usize>, AllocError>
         requires known { KnownFrom self.now parameters.now.items (at + 1) }
         ensures { ParametersFound self.now at result }
     {
-        if !self.is_at(at, Symbol::OpenParen) {
+        if !self.is_at(at, Terminal::OpenParen) {
             return Ok(None);
         }
-        let close = self.shaped_parameters(parameters, at + 1, room)?;
-        if !self.is_at(close, Symbol::CloseParen) {
+        let close = self.shaped_parameters(parameters, at + 1, depth_left)?;
+        if !self.is_at(close, Terminal::CloseParen) {
             return Ok(None);
         }
         Ok(Some(close))

@@ -1,11 +1,11 @@
 // What tokens are to the grammar, and trees that are built.
 
-use crate::{Builder, Symbol, TypeNames};
+use crate::{Builder, Terminal, TypeNames};
 use cpp_ast::{At, NodeId, NodeKind, Nodes};
 use cpp_lex::lex;
 use std::test::Fail;
 
-// A name stands for a type behind the place where it becomes that, and for nothing before.
+// A name stands for a type behind the index where it becomes that, and for nothing before.
 #[test]
 fn names_become_types(rt: HostRuntime) -> Result<(), Fail> {
     let alloc = rt.alloc();
@@ -15,46 +15,46 @@ fn names_become_types(rt: HostRuntime) -> Result<(), Fail> {
     )?;
     assert!(rt; tokens.items.len() <= 1_048_576);
     let types = TypeNames::of(alloc, 7, &tokens)?;
-    let symbols = [
-        Symbol::Other,
-        Symbol::Name,
-        Symbol::Semicolon,
-        Symbol::Struct,
-        Symbol::Name,
-        Symbol::OpenBrace,
-        Symbol::TypeName,
-        Symbol::Name,
-        Symbol::Semicolon,
-        Symbol::CloseBrace,
-        Symbol::Semicolon,
-        Symbol::Enum,
-        Symbol::Class,
-        Symbol::Name,
-        Symbol::OpenBrace,
-        Symbol::CloseBrace,
-        Symbol::Semicolon,
-        Symbol::TypeName,
-        Symbol::ColonColon,
-        Symbol::Abort,
-        Symbol::TypeName,
-        Symbol::Dot,
-        Symbol::Name,
-        Symbol::End,
-        Symbol::End,
+    let terminals = [
+        Terminal::Other,
+        Terminal::Name,
+        Terminal::Semicolon,
+        Terminal::Struct,
+        Terminal::Name,
+        Terminal::OpenBrace,
+        Terminal::TypeName,
+        Terminal::Name,
+        Terminal::Semicolon,
+        Terminal::CloseBrace,
+        Terminal::Semicolon,
+        Terminal::Enum,
+        Terminal::Class,
+        Terminal::Name,
+        Terminal::OpenBrace,
+        Terminal::CloseBrace,
+        Terminal::Semicolon,
+        Terminal::TypeName,
+        Terminal::ColonColon,
+        Terminal::Abort,
+        Terminal::TypeName,
+        Terminal::Dot,
+        Terminal::Name,
+        Terminal::End,
+        Terminal::End,
     ];
-    for at in 0..symbols.len() {
-        assert_eq!(rt; types.symbol(at), symbols[at]);
+    for at in 0..terminals.len() {
+        assert_eq!(rt; types.terminal(at), terminals[at]);
     }
     assert_eq!(rt; types.len(), 23);
     assert_eq!(rt;
-        types.place(1),
+        types.position(1),
         At {
             source: 7,
             offset: 2
         }
     );
     assert_eq!(rt;
-        types.place(23),
+        types.position(23),
         At {
             source: 7,
             offset: 60
@@ -63,9 +63,46 @@ fn names_become_types(rt: HostRuntime) -> Result<(), Fail> {
     Ok(())
 }
 
+// A word with a special meaning stays one where a type has its name, and is that name too.
+#[test]
+fn words_may_be_types(rt: HostRuntime) -> Result<(), Fail> {
+    let alloc = rt.alloc();
+    let tokens = lex(alloc, b"final struct final; final override")?;
+    assert!(rt; tokens.items.len() <= 1_048_576);
+    let types = TypeNames::of(alloc, 0, &tokens)?;
+    let terminals = [
+        Terminal::FinalLater,
+        Terminal::Struct,
+        Terminal::Final,
+        Terminal::Semicolon,
+        Terminal::FinalType,
+        Terminal::Override,
+    ];
+    for at in 0..terminals.len() {
+        assert_eq!(rt; types.terminal(at), terminals[at]);
+    }
+    assert!(rt; types.is_at(0, Terminal::Final));
+    assert!(rt; !types.is_at(0, Terminal::TypeName));
+    assert!(rt; types.is_at(4, Terminal::Final));
+    assert!(rt; types.is_at(4, Terminal::TypeName));
+    assert!(rt; !types.is_at(5, Terminal::TypeName));
+    Ok(())
+}
+
+// A comma between `?` and `:` separates no declarators.
+#[test]
+fn commas_are_hidden(rt: HostRuntime) -> Result<(), Fail> {
+    let alloc = rt.alloc();
+    let tokens = lex(alloc, b"class T; T(x) = 1 ? x, x : x;")?;
+    assert!(rt; tokens.items.len() <= 1_048_576);
+    let types = TypeNames::of(alloc, 0, &tokens)?;
+    assert!(rt; types.lookahead_declaration(3, 9)?);
+    Ok(())
+}
+
 // Each spelling that is not a name of the program.
 #[test]
-fn spellings_are_symbols(rt: HostRuntime) -> Result<(), Fail> {
+fn spellings_are_terminals(rt: HostRuntime) -> Result<(), Fail> {
     let alloc = rt.alloc();
     let tokens = lex(
         alloc,
@@ -73,22 +110,22 @@ fn spellings_are_symbols(rt: HostRuntime) -> Result<(), Fail> {
     )?;
     assert!(rt; tokens.items.len() <= 1_048_576);
     let types = TypeNames::of(alloc, 0, &tokens)?;
-    let symbols = [
-        Symbol::Zero,
-        Symbol::Integer,
-        Symbol::Character,
-        Symbol::String,
-        Symbol::Std,
-        Symbol::ColonColon,
-        Symbol::Name,
-        Symbol::Final,
-        Symbol::Other,
-        Symbol::Other,
-        Symbol::ShiftRightEqual,
-        Symbol::AtomicCancel,
+    let terminals = [
+        Terminal::Zero,
+        Terminal::Integer,
+        Terminal::Character,
+        Terminal::String,
+        Terminal::Std,
+        Terminal::ColonColon,
+        Terminal::Name,
+        Terminal::Final,
+        Terminal::Other,
+        Terminal::Other,
+        Terminal::ShiftRightEqual,
+        Terminal::AtomicCancel,
     ];
-    for at in 0..symbols.len() {
-        assert_eq!(rt; types.symbol(at), symbols[at]);
+    for at in 0..terminals.len() {
+        assert_eq!(rt; types.terminal(at), terminals[at]);
     }
     Ok(())
 }
@@ -135,7 +172,7 @@ fn trees_are_built(rt: HostRuntime) -> Result<(), Fail> {
     let start = out.checkpoint();
     out.leaf(NodeKind::UnqualifiedId, at(0), Some(0))?;
     out.leaf(NodeKind::IntegerLiteral, at(2), Some(2))?;
-    assert_eq!(rt; out.first_place(start.trees, at(9)), at(0));
+    assert_eq!(rt; out.first_position(start.trees, at(9)), at(0));
     out.node(start.trees, NodeKind::Subscript, at(0), Some(1))?;
     let mark = out.checkpoint();
     assert_eq!(rt; mark.trees, 1);
@@ -159,14 +196,16 @@ fn shapes_are_seen(rt: HostRuntime) -> Result<(), Fail> {
     )?;
     assert!(rt; tokens.items.len() <= 1_048_576);
     let types = TypeNames::of(alloc, 0, &tokens)?;
-    assert!(rt; types.sees_cast(3, 9)?);
-    assert!(rt; !types.sees_cast(8, 9)?);
-    assert!(rt; types.sees_type_in_parentheses(13, 9)?);
-    assert!(rt; !types.sees_cast(13, 9)?);
-    assert!(rt; types.sees_parameters(19));
-    assert!(rt; !types.sees_parameters(26));
-    assert!(rt; types.sees_declaration(29, 9)?);
-    assert!(rt; !types.sees_declaration(44, 9)?);
+    for (at, ahead) in [(3, true), (8, false), (13, false)] {
+        assert_eq!(rt; types.lookahead_cast(at, 9)?, ahead);
+    }
+    assert!(rt; types.lookahead_type_in_parentheses(13, 9)?);
+    for (at, ahead) in [(19, true), (26, false)] {
+        assert_eq!(rt; types.lookahead_parameters(at), ahead);
+    }
+    for (at, ahead) in [(29, true), (43, false)] {
+        assert_eq!(rt; types.lookahead_declaration(at, 9)?, ahead);
+    }
     assert!(rt; types.begins_name(18));
     assert_eq!(rt; types.behind_type_words(23), 24);
     assert_eq!(rt; types.thrown_type(0), None);

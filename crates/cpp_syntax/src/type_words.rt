@@ -6,7 +6,7 @@ ghost use Rattle.cpp_syntax.specs.Tallies.{is_tally, with_word, WordCame, Intege
 ghost use Rattle.cpp_syntax.specs.Types.{is_integer_word};
 
 use crate::outline::Outline;
-use crate::symbol::Symbol;
+use crate::terminal::Terminal;
 
 /// How many words of each sort an integer type has.
 #[derive(Clone, Copy)]
@@ -19,17 +19,17 @@ pub(crate) struct Words {
 }
 
 impl Outline {
-    /// The place behind the words that spell a type from a place on, as many as there are.
+    /// The index behind the words that spell a type from an index on, as many as there are.
     pub fn behind_type_words(&self, at: usize) -> usize
         ensures { BehindWords self.now at result }
     {
-        if self.is_at(at, Symbol::Void) {
+        if self.is_at(at, Terminal::Void) {
             return at + 1;
         }
-        if self.is_at(at, Symbol::Bool) {
+        if self.is_at(at, Terminal::Bool) {
             return at + 1;
         }
-        if self.is_at(at, Symbol::Auto) {
+        if self.is_at(at, Terminal::Auto) {
             return at + 1;
         }
         self.behind_integer_words(at)
@@ -48,7 +48,7 @@ impl Outline {
         };
         let mut next = at;
         'words: loop {
-            let Some(more) = words.with(self.symbol(next)) else {
+            let Some(more) = words.with(self.terminal(next)) else {
                 return next;
             };
             words = more;
@@ -59,44 +59,44 @@ impl Outline {
 
 impl Words {
     /// The words with one more, where that is still an integer type.
-    fn with(self, symbol: Symbol) -> Option<Words>
+    fn with(self, terminal: Terminal) -> Option<Words>
         requires { is_tally self ≡ true }
-        ensures { WordCame self symbol result }
+        ensures { WordCame self terminal result }
     {
-        if !is_integer_word(symbol) {
+        if !is_integer_word(terminal) {
             return None;
         }
-        let words = self.and(symbol);
+        let words = self.and(terminal);
         if words.is_type() { Some(words) } else { None }
     }
 
     /// The words with one more.
-    fn and(self, symbol: Symbol) -> Words
+    fn and(self, terminal: Terminal) -> Words
         requires { is_tally self ≡ true }
-        ensures { result ≡ with_word self symbol }
+        ensures { result ≡ with_word self terminal }
     {
-        match symbol {
-            Symbol::Signed => Words {
+        match terminal {
+            Terminal::Signed => Words {
                 signs: self.signs + 1,
                 ..self
             },
-            Symbol::Unsigned => Words {
+            Terminal::Unsigned => Words {
                 signs: self.signs + 1,
                 ..self
             },
-            Symbol::Char => Words {
+            Terminal::Char => Words {
                 chars: self.chars + 1,
                 ..self
             },
-            Symbol::Short => Words {
+            Terminal::Short => Words {
                 shorts: self.shorts + 1,
                 ..self
             },
-            Symbol::Int => Words {
+            Terminal::Int => Words {
                 ints: self.ints + 1,
                 ..self
             },
-            Symbol::Long => Words {
+            Terminal::Long => Words {
                 longs: self.longs + 1,
                 ..self
             },
@@ -121,16 +121,16 @@ impl Words {
 }
 
 /// Whether a word stands in integer types.
-fn is_integer_word(symbol: Symbol) -> bool
-    ensures { result ≡ is_integer_word symbol }
+fn is_integer_word(terminal: Terminal) -> bool
+    ensures { result ≡ is_integer_word terminal }
 {
     matches!(
-        symbol,
-        Symbol::Signed
-            | Symbol::Unsigned
-            | Symbol::Char
-            | Symbol::Short
-            | Symbol::Int
-            | Symbol::Long
+        terminal,
+        Terminal::Signed
+            | Terminal::Unsigned
+            | Terminal::Char
+            | Terminal::Short
+            | Terminal::Int
+            | Terminal::Long
     )
 }

@@ -4,7 +4,7 @@ use Rattle.std.specs.Option.{option_map}
 use Rattle.cpp_types.specs.Class.{Class, base_of}
 use Rattle.cpp_types.specs.Conversion.{chain, steps_to, first_and}
 
--- the place of a base where `passed` steps were taken and at most `most` are left
+-- the index of a base where `passed` steps were taken and at most `most` are left
 abbrev pub left : List Class → ℕ → ℕ → ℕ → ℕ → Option ℕ
 left classes base passed most n = option_map (λ k. passed + k) (steps_to base (chain most classes n))
 

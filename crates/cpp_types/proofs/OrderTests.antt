@@ -2,8 +2,8 @@
 use Rattle.std.proofs.Common.{◌≡◌, ◌∙◌, ◌↔◌, ℕ, zero, suc, Bool, true, false, ◌&&◌, IsTrue, length, List, [], ◌∷◌, Option, Some, None, slice_get, refl, sym, ap, lt-ltb}
 use Rattle.std.specs.List.{list_all}
 use Rattle.std.proofs.lemmas.Bool.{and_parts, ltb-true}
-use Rattle.cpp_types.specs.Class.{Class, Member, Function, InOrder, PlacesIn, HoldsEarlier, CompleteBelow, completion_of, held, typ_below, signature_below}
-use Rattle.cpp_types.specs.Order.{each_passes, one_passes, is_below, members_below, functions_below, class_below, is_complete_below, members_earlier, holds_earlier, is_placed, all_placed}
+use Rattle.cpp_types.specs.Class.{Class, Member, Function, InOrder, IndicesBelow, HoldsEarlier, CompleteBelow, completion_of, held, typ_below, signature_below}
+use Rattle.cpp_types.specs.Order.{each_passes, one_passes, is_below, members_below, functions_below, class_below, is_complete_below, members_earlier, holds_earlier, is_consistent, all_consistent}
 
 both : (a b : Bool) → a ≡ true → b ≡ true → (a && b) ≡ true
 both true true h g = refl
@@ -41,8 +41,8 @@ complete_at classes limit n h = complete_known classes limit n (completion_of cl
 complete_from : (classes : List Class) (limit n : ℕ) → CompleteBelow classes limit n → is_complete_below classes limit n ≡ true
 complete_from classes limit n c = ap (one_passes (is_below limit)) c.complete ∙ lt-ltb c.number limit c.below
 
-places_at : (limit : ℕ) (c : Class) → class_below limit c ≡ true → PlacesIn limit c
-places_at limit c h =
+indices_at : (limit : ℕ) (c : Class) → class_below limit c ≡ true → IndicesBelow limit c
+indices_at limit c h =
     let p = and_parts (each_passes (is_below limit) c.base) (members_below limit c.members && functions_below limit c.functions) h in
     let q = and_parts (members_below limit c.members) (functions_below limit c.functions) p.1 in
     record {
@@ -51,8 +51,8 @@ places_at limit c h =
       functions = λ i f e. all_at (λ (x : Function). signature_below limit x.signature) c.functions q.1 i f e;
     }
 
-places_from : (limit : ℕ) (c : Class) → PlacesIn limit c → class_below limit c ≡ true
-places_from limit c p = both (each_passes (is_below limit) c.base) (members_below limit c.members && functions_below limit c.functions)
+indices_from : (limit : ℕ) (c : Class) → IndicesBelow limit c → class_below limit c ≡ true
+indices_from limit c p = both (each_passes (is_below limit) c.base) (members_below limit c.members && functions_below limit c.functions)
     (each_from (is_below limit) c.base (λ b e. lt-ltb b limit (p.base b e)))
     (both (members_below limit c.members) (functions_below limit c.functions)
     (all_from (λ (x : Member). typ_below limit x.typ) c.members p.members)
@@ -71,16 +71,16 @@ holds_from classes c limit p = both (each_passes (is_complete_below classes limi
     (each_from (is_complete_below classes limit) c.base (λ b e. complete_from classes limit b (p.base b e)))
     (all_from (λ (x : Member). each_passes (is_complete_below classes limit) (held x.typ)) c.members (λ i m e. each_from (is_complete_below classes limit) (held m.typ) (λ n f. complete_from classes limit n (p.members i m e n f))))
 
-order_at : (classes : List Class) → all_placed classes ≡ true → InOrder classes
+order_at : (classes : List Class) → all_consistent classes ≡ true → InOrder classes
 order_at classes h = record {
-  places = λ i c e. places_at (length classes) c (and_parts (class_below (length classes) c) (each_passes (holds_earlier classes c) c.complete) (all_at (is_placed classes) classes h i c e)).0;
-  earlier = λ i c n e f. holds_at classes c n (each_at (holds_earlier classes c) c.complete (and_parts (class_below (length classes) c) (each_passes (holds_earlier classes c) c.complete) (all_at (is_placed classes) classes h i c e)).1 n f);
+  indices = λ i c e. indices_at (length classes) c (and_parts (class_below (length classes) c) (each_passes (holds_earlier classes c) c.complete) (all_at (is_consistent classes) classes h i c e)).0;
+  earlier = λ i c n e f. holds_at classes c n (each_at (holds_earlier classes c) c.complete (and_parts (class_below (length classes) c) (each_passes (holds_earlier classes c) c.complete) (all_at (is_consistent classes) classes h i c e)).1 n f);
 }
 
-order_from : (classes : List Class) → InOrder classes → all_placed classes ≡ true
-order_from classes o = all_from (is_placed classes) classes (λ i c e. both (class_below (length classes) c) (each_passes (holds_earlier classes c) c.complete)
-    (places_from (length classes) c (o.places i c e))
+order_from : (classes : List Class) → InOrder classes → all_consistent classes ≡ true
+order_from classes o = all_from (is_consistent classes) classes (λ i c e. both (class_below (length classes) c) (each_passes (holds_earlier classes c) c.complete)
+    (indices_from (length classes) c (o.indices i c e))
     (each_from (holds_earlier classes c) c.complete (λ n f. holds_from classes c n (o.earlier i c n e f))))
 
-pub order_is : (b : Bool) (classes : List Class) → b ≡ all_placed classes → IsTrue b ↔ InOrder classes
+pub order_is : (b : Bool) (classes : List Class) → b ≡ all_consistent classes → IsTrue b ↔ InOrder classes
 order_is b classes e = (λ h. order_at classes (sym e ∙ h), λ o. e ∙ order_from classes o)

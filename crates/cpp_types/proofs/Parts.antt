@@ -89,5 +89,5 @@ member_within xs ys i m e f = let h : i < length (map member_of ys) = slice_get_
 pub same_held : (classes : List Class) (o : Option ℕ) (p e : ℕ) → o ≡ Some p → o ≡ Some e → IsTrivialClass classes p → IsTrivialClass classes e
 same_held classes o p e f g t = let h : p ≡ e = cc in subst (λ (z : ℕ). IsTrivialClass classes z) h t
 
-pub same_place : (xs : List MemberRec) (i j : ℕ) (m k : Member) → slice_get (map member_of xs) i ≡ Some m → slice_get (map member_of xs) j ≡ Some k → j ≡ i → m ≡ k
-same_place xs i j m k e f h = let g : slice_get (map member_of xs) i ≡ Some k = ap (slice_get (map member_of xs)) (sym h) ∙ f in cc
+pub same_index : (xs : List MemberRec) (i j : ℕ) (m k : Member) → slice_get (map member_of xs) i ≡ Some m → slice_get (map member_of xs) j ≡ Some k → j ≡ i → m ≡ k
+same_index xs i j m k e f h = let g : slice_get (map member_of xs) i ≡ Some k = ap (slice_get (map member_of xs)) (sym h) ∙ f in cc

@@ -19,7 +19,7 @@ roll_same ps t b f e g h =
     let k : signature_of (roll-FnTy (record { params = ps; ret = t; safe = b })) ≡ signature (typs_of ps.items) (typ_of t) b = signature_view (roll-FnTy (record { params = ps; ret = t; safe = b })) ∙ ap (λ z. signature (typs_of z.params.items) (typ_of z.ret) z.safe) (out-roll-FnTy (record { params = ps; ret = t; safe = b })) in
     let l : signature_of f ≡ signature (typs_of (out-FnTy f).params.items) (typ_of (out-FnTy f).ret) (out-FnTy f).safe = signature_view f in cc
 
--- lists, place by place
+-- lists, element by element
 pub typs_snoc : (xs ys : List Ty) (x y : Ty) → typs_of xs ≡ typs_of ys → typ_of x ≡ typ_of y → typs_of (xs ++ (x ∷ [])) ≡ typs_of (ys ++ (y ∷ []))
 typs_snoc [] [] x y e f = ap (λ (z : Typ). more z none) f
 typs_snoc [] (v ∷ vs) x y e f = absurd cc

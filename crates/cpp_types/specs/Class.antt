@@ -93,8 +93,8 @@ pub record CompleteBelow (classes : List Class) (limit : ℕ) (n : ℕ) : Type 0
   pub complete : completion_of classes n ≡ Some number
   pub below : number < limit
 
--- each class number in the class is a place of a list of `limit` classes
-pub record PlacesIn (limit : ℕ) (c : Class) : Type 0 where
+-- each class number in the class is an index into a list of `limit` classes
+pub record IndicesBelow (limit : ℕ) (c : Class) : Type 0 where
   pub base : (b : ℕ) → c.base ≡ Some b → b < limit
   pub members : (i : ℕ) (m : Member) → slice_get c.members i ≡ Some m → IsTrue (typ_below limit m.typ)
   pub functions : (i : ℕ) (f : Function) → slice_get c.functions i ≡ Some f → IsTrue (signature_below limit f.signature)
@@ -106,5 +106,5 @@ pub record HoldsEarlier (classes : List Class) (limit : ℕ) (c : Class) : Type 
 
 -- a list of classes in order
 pub record InOrder (classes : List Class) : Type 0 where
-  pub places : (i : ℕ) (c : Class) → slice_get classes i ≡ Some c → PlacesIn (length classes) c
+  pub indices : (i : ℕ) (c : Class) → slice_get classes i ≡ Some c → IndicesBelow (length classes) c
   pub earlier : (i : ℕ) (c : Class) (n : ℕ) → slice_get classes i ≡ Some c → c.complete ≡ Some n → HoldsEarlier classes n c

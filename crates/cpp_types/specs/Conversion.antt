@@ -90,7 +90,7 @@ chain (suc most) classes n = first_and (base_of classes n) (chain most classes)
 abbrev pub bases : List Class → ℕ → List ℕ
 bases classes n = chain (unwrap_or (completion_of classes n) 0) classes n
 
--- the place of `b` in a list, counted from 1
+-- the index of `b` in a list, counted from 1
 abbrev pub steps_to : ℕ → List ℕ → Option ℕ
 steps_to b [] = None
 steps_to b (x ∷ xs) = cond (x == b) (Some 1) (option_map suc (steps_to b xs))
@@ -229,11 +229,11 @@ step_rank (ToBase n) = Converted
 abbrev pub rank_of : Conversion → Rank
 rank_of c = step_rank c.step
 
-abbrev pub rank_place : Rank → ℕ
-rank_place Exact = 0
-rank_place Adjusted = 1
-rank_place Promotion = 2
-rank_place Converted = 3
+abbrev pub rank_ordinal : Rank → ℕ
+rank_ordinal Exact = 0
+rank_ordinal Adjusted = 1
+rank_ordinal Promotion = 2
+rank_ordinal Converted = 3
 
 -- Which conversion is better (C++14 13.3.3.2)
 
@@ -273,4 +273,4 @@ less_added a s b t = wider_reference s t || (not (is_null_step a) && not (is_nul
 
 -- whether the conversion `a` to `s` is better than the conversion `b` of the same expression to `t`
 abbrev pub better_conversion : Conversion → Typ → Conversion → Typ → Bool
-better_conversion a s b t = cond (rank_place (rank_of a) == rank_place (rank_of b)) (better_step a.step b.step || less_added a.step s b.step t) (nat_lt (rank_place (rank_of a)) (rank_place (rank_of b)))
+better_conversion a s b t = cond (rank_ordinal (rank_of a) == rank_ordinal (rank_of b)) (better_step a.step b.step || less_added a.step s b.step t) (nat_lt (rank_ordinal (rank_of a)) (rank_ordinal (rank_of b)))

@@ -34,8 +34,8 @@ members_earlier classes limit ms = list_all (λ (m : Member). each_passes (is_co
 abbrev pub holds_earlier : List Class → Class → ℕ → Bool
 holds_earlier classes c limit = each_passes (is_complete_below classes limit) c.base && members_earlier classes limit c.members
 
-abbrev pub is_placed : List Class → Class → Bool
-is_placed classes c = class_below (length classes) c && each_passes (holds_earlier classes c) c.complete
+abbrev pub is_consistent : List Class → Class → Bool
+is_consistent classes c = class_below (length classes) c && each_passes (holds_earlier classes c) c.complete
 
-abbrev pub all_placed : List Class → Bool
-all_placed classes = list_all (is_placed classes) classes
+abbrev pub all_consistent : List Class → Bool
+all_consistent classes = list_all (is_consistent classes) classes

@@ -31,17 +31,17 @@ before c v = where_set c (codes "const ") ++ where_set v (codes "volatile ")
 abbrev pub behind : Bool → Bool → List ℕ
 behind c v = where_set c (codes " const") ++ where_set v (codes " volatile")
 
--- the name of a class by its place in the list
+-- the name of a class by its index in the list
 abbrev pub name_of : Option Class → List ℕ
 name_of (Some c) = c.name
 name_of None = []
 
--- a lambda's class is named by the place of its call
-abbrev pub place_spelling : At → List ℕ
-place_spelling at = codes "lambda:" ++ decimal at.source ++ codes ":" ++ decimal at.offset
+-- a lambda's class is named by the position of its call
+abbrev pub position_spelling : At → List ℕ
+position_spelling at = codes "lambda:" ++ decimal at.source ++ codes ":" ++ decimal at.offset
 
 abbrev pub call_name : Option Function → List ℕ
-call_name (Some f) = place_spelling f.at
+call_name (Some f) = position_spelling f.at
 call_name None = []
 
 abbrev pub closure_name : Option Class → List ℕ

@@ -5,7 +5,7 @@ ghost use Rattle.cpp_types.specs.Class.{classes_of, class_of};
 
 use crate::types::{FnTy, Ty};
 
-/// A place in a source: the number of the source and a byte offset in it.
+/// A position in a source: the number of the source and a byte offset in it.
 #[derive(Clone, Copy, Debug, PartialEq, Eq)]
 pub struct At {
     pub source: u32,
@@ -27,7 +27,7 @@ pub enum Safety {
 pub struct ClassRec {
     /// Empty for a lambda's class.
     pub name: Vec<u8>,
-    /// The base, by its place in the list of classes.
+    /// The base, by its index in the list of classes.
     pub base: Option<u32>,
     /// The members that hold values, in order of declaration.
     pub members: Vec<MemberRec>,
@@ -64,7 +64,7 @@ pub struct FuncRec {
     pub at: At,
 }
 
-/// The record of a class by its place in the list.
+/// The record of a class by its index in the list.
 pub fn record_at(classes: &[ClassRec], class: u32) -> Option<&ClassRec>
     ensures { MatchOption result (slice_get (classes_of classes.now) class ≡ None) (λ found. slice_get (classes_of classes.now) class ≡ Some (class_of found.now)) }
 {

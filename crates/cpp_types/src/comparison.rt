@@ -2,15 +2,15 @@
 
 ghost use Rattle.std.specs.Prelude.{◌≡◌, ◌≤◌};
 ghost use Rattle.cpp_types.specs.Typ.{typ_of};
-ghost use Rattle.cpp_types.specs.Conversion.{rank_place, better_step, is_null_step, wider_reference, wider_pointer, referred, less_added, better_conversion};
+ghost use Rattle.cpp_types.specs.Conversion.{rank_ordinal, better_step, is_null_step, wider_reference, wider_pointer, referred, less_added, better_conversion};
 
 use crate::qualifiers::{added, is_const, is_volatile, is_widened, same_bare, widening_between};
 use crate::ranks::{Conversion, Rank, Step};
 use crate::types::{Shape, Ty};
 
-// The place of a rank among all, the best first.
-fn place(of: Rank) -> u8
-    ensures value { result ≡ rank_place of }
+// The number of a rank among all, the best first.
+fn ordinal(of: Rank) -> u8
+    ensures value { result ≡ rank_ordinal of }
     ensures small { result ≤ 3 }
 {
     match of {
@@ -88,8 +88,8 @@ fn has_fewer(a: Step, to: &Ty, b: Step, other: &Ty) -> bool
 pub fn better(a: Conversion, to: &Ty, b: Conversion, other: &Ty) -> bool
     ensures { result ≡ better_conversion a (typ_of to.now) b (typ_of other.now) }
 {
-    let first = place(a.rank());
-    let second = place(b.rank());
+    let first = ordinal(a.rank());
+    let second = ordinal(b.rank());
     if first != second {
         return first < second;
     }

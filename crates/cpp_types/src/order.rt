@@ -4,37 +4,37 @@ ghost use Rattle.std.specs.Prelude.{◌≡◌, ◌↔◌, IsTrue, length, map};
 ghost use Rattle.std.specs.List.{list_all};
 ghost use Rattle.cpp_types.specs.Typ.{typ_of, typs_of, shape_form, signature_of};
 ghost use Rattle.cpp_types.specs.Class.{InOrder, Member, classes_of, class_of, member_of, function_of, typ_below, form_below, signature_below, typs_below};
-ghost use Rattle.cpp_types.specs.Order.{each_passes, is_below, members_below, functions_below, class_below, is_complete_below, members_earlier, holds_earlier, is_placed, all_placed};
+ghost use Rattle.cpp_types.specs.Order.{each_passes, is_below, members_below, functions_below, class_below, is_complete_below, members_earlier, holds_earlier, is_consistent, all_consistent};
 
 use crate::classes::{ClassRec, FuncRec, MemberRec};
 use crate::conversions::completion;
 use crate::copyability::held_class;
 use crate::types::{FnTy, Shape, Ty};
 
-/// Whether a list of classes is in order: each class number in it is a place of the list, and the
+/// Whether a list of classes is in order: each class number in it is an index into the list, and the
 /// base of each complete class and the classes that its members hold by value are complete, and
 /// were so before it.
 pub fn is_in_order(classes: &[ClassRec]) -> bool
     ensures { IsTrue result ↔ InOrder (classes_of classes.now) }
 {
-    are_placed(classes, classes)
+    are_consistent(classes, classes)
 }
 
 // Whether each class of a part of the list stands in order.
-fn are_placed(part: &[ClassRec], classes: &[ClassRec]) -> bool
-    ensures { result ≡ list_all (is_placed (classes_of classes.now)) (map class_of part.now) }
+fn are_consistent(part: &[ClassRec], classes: &[ClassRec]) -> bool
+    ensures { result ≡ list_all (is_consistent (classes_of classes.now)) (map class_of part.now) }
 {
     for class_record in part {
-        if !is_placed_class(class_record, classes) {
+        if !is_consistent_class(class_record, classes) {
             return false;
         }
     }
     true
 }
 
-// Whether a class names places of the list, and holds only what was complete before it.
-fn is_placed_class(class_record: &ClassRec, classes: &[ClassRec]) -> bool
-    ensures { result ≡ is_placed (classes_of classes.now) (class_of class_record.now) }
+// Whether a class names indices of the list, and holds only what was complete before it.
+fn is_consistent_class(class_record: &ClassRec, classes: &[ClassRec]) -> bool
+    ensures { result ≡ is_consistent (classes_of classes.now) (class_of class_record.now) }
 {
     is_class_below(class_record, classes.len())
         && match class_record.complete {

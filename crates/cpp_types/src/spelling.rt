@@ -3,7 +3,7 @@
 ghost use Rattle.std.specs.Prelude.{◌≡◌, ◌++◌, false, IfOk, OnOk, codes, decimal, slice_get};
 ghost use Rattle.cpp_types.specs.Typ.{typ_of, typs_of, shape_form, signature_of};
 ghost use Rattle.cpp_types.specs.Class.{classes_of};
-ghost use Rattle.cpp_types.specs.Spelling.{kind_spelling, where_set, before, behind, name_of, place_spelling, closure_name, spelling, form_spelling, pointer_spelling, function_spelling, listed};
+ghost use Rattle.cpp_types.specs.Spelling.{kind_spelling, where_set, before, behind, name_of, position_spelling, closure_name, spelling, form_spelling, pointer_spelling, function_spelling, listed};
 
 use crate::classes::{At, ClassRec};
 use crate::types::{FnTy, Shape, Ty};
@@ -14,7 +14,7 @@ use tx_ints::IntKind;
 /// The spelling of a type.
 ///
 /// A type has its `const` and `volatile` before it, a pointer behind its star; a lambda's class
-/// is named by the place of its call.
+/// is named by the position of its call.
 pub fn spell(alloc: Global, ty: &Ty, classes: &[ClassRec]) -> Result<Vec<u8>, AllocError>
     ensures { IfOk result (λ text. text.items ≡ spelling (classes_of classes.now) (typ_of ty.now)) }
 {
@@ -87,9 +87,9 @@ fn write_class(out: &mut Vec<u8>, class: u32, classes: &[ClassRec]) -> Result<()
     }
 }
 
-// A lambda by its place.
-fn write_place(out: &mut Vec<u8>, at: At) -> Result<(), AllocError>
-    ensures { OnOk result (out.new.items ≡ out.old.items ++ place_spelling at) }
+// A lambda by its index.
+fn write_position(out: &mut Vec<u8>, at: At) -> Result<(), AllocError>
+    ensures { OnOk result (out.new.items ≡ out.old.items ++ position_spelling at) }
 {
     out.extend_from_slice(b"lambda:")?;
     write_number(out, at.source)?;
@@ -97,13 +97,13 @@ fn write_place(out: &mut Vec<u8>, at: At) -> Result<(), AllocError>
     write_number(out, at.offset)
 }
 
-// A lambda's class by the place of its call.
+// A lambda's class by the position of its call.
 fn write_closure(out: &mut Vec<u8>, class: u32, classes: &[ClassRec]) -> Result<(), AllocError>
     ensures { OnOk result (out.new.items ≡ out.old.items ++ closure_name (slice_get (classes_of classes.now) class)) }
 {
     match classes.get(class as usize) {
         Some(record) => match record.functions.get(0) {
-            Some(call) => write_place(out, call.at),
+            Some(call) => write_position(out, call.at),
             None => Ok(()),
         },
         None => Ok(()),

@@ -29,9 +29,9 @@ pub enum Shape {
     /// An array, with the number of its elements.
     Array(Box<Ty>, u32),
     Func(Box<FnTy>),
-    /// A class, by its place in the list of classes.
+    /// A class, by its index in the list of classes.
     Class(u32),
-    /// A lambda's class, by its place in the list of classes.
+    /// A lambda's class, by its index in the list of classes.
     Closure(u32),
     /// `std::tx_exception` of a type.
     TxEx(Box<Ty>),

@@ -1,5 +1,5 @@
-pub mod Sets
-pub mod Heaps
-pub mod Lists
-pub mod Tables
-pub mod Counts
+pub mod ThreadSets
+pub mod LeastWord
+pub mod RecordLists
+pub mod TableLemmas
+pub mod HoldCounts

@@ -1,10 +1,12 @@
 -- The two halves of a table: stripes of records, and the words that each thread holds.
-use Rattle.std.specs.Prelude.{ℕ, ◌≡◌, ◌==◌, ◌<◌, ◌≤◌, true, if◌then◌else◌, Option, Some, None, is_some, List, [], length, slice_get, vec_len, vec_capacity}
+use Rattle.std.specs.Prelude.{ℕ, ◌≡◌, ◌==◌, ◌<◌, ◌≤◌, ◌+◌, true, if◌then◌else◌, Option, Some, None, is_some, List, [], length, slice_get, vec_len, vec_capacity}
 use Rattle.std.specs.BinaryHeap.{heap_items, heap_len, heap_capacity}
 use Rattle.std.specs.List.{list_all}
 use Rattle.std.specs.declared.cmp.Reverse.{Reverse}
 use Rattle.own_table.specs.Records.{record_of, mode_in, stripe_of}
 use Rattle.own_table.specs.Words.{times_in}
+use Rattle.tx_events.specs.declared.TheConstants.{THREAD_LIMIT}
+use Rattle.own_table.specs.declared.TheConstants.{STRIPES}
 use Rattle.own_table.specs.declared.hold.HoldRec.{HoldRec}
 use Rattle.own_table.specs.declared.hold.Mode.{Mode}
 use Rattle.own_table.specs.declared.stripe.Stripe.{Stripe}
@@ -34,18 +36,19 @@ words_at held t = words_in (slice_get held t)
 abbrev pub IsPlaced : List Stripe → Type 0
 IsPlaced stripes = (s : ℕ) → list_all (λ r. stripe_of r.word == s) (records_at stripes s) ≡ true
 
--- there are 256 stripes, each record is in the stripe of its word, and each thread's heap has once each word that the
--- records say it holds
-pub record IsTable (stripes : List Stripe) (held : List HeldWords) : Type 0 where
-  pub stripes_len : length stripes ≡ 256
-  pub threads : length held ≤ 64
+-- each thread's heap can take so many words more
+abbrev pub HasSpare : List HeldWords → ℕ → Type 0
+HasSpare held count = (t : ℕ) (h : HeldWords) → slice_get held t ≡ Some h → heap_len h.words + count ≤ heap_capacity h.words
+
+-- there are 256 stripes, each record is in the stripe of its word, each thread's heap has once each word that the records
+-- say it holds, and it can take so many words more
+pub record IsTable (stripes : List Stripe) (held : List HeldWords) (count : ℕ) : Type 0 where
+  pub stripes_len : length stripes ≡ STRIPES
+  pub threads : length held ≤ THREAD_LIMIT
   pub placed : IsPlaced stripes
   pub kept : (t w : ℕ) → t < length held → times_in (words_at held t) w ≡ (if is_some (hold_at stripes t w) then 1 else 0)
+  pub spare : HasSpare held count
 
-abbrev pub HasStripeRoom : Option Stripe → Type 0
-HasStripeRoom None = Unit {0}
-HasStripeRoom (Some s) = vec_len s.records < vec_capacity s.records
-
-abbrev pub HasWordRoom : Option HeldWords → Type 0
-HasWordRoom None = Unit {0}
-HasWordRoom (Some h) = heap_len h.words < heap_capacity h.words
+abbrev pub HasStripeCapacity : Option Stripe → Type 0
+HasStripeCapacity None = Unit {0}
+HasStripeCapacity (Some s) = vec_len s.records < vec_capacity s.records

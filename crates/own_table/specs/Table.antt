@@ -1,7 +1,7 @@
 -- What a caller sees of a table of holders: a relation of thread, word and mode.
-use Rattle.std.specs.Prelude.{ℕ, Option, slice_get, vec_len}
+use Rattle.std.specs.Prelude.{ℕ, ◌<◌, Option, slice_get, vec_len}
 use Rattle.own_table.specs.Records.{stripe_of}
-use Rattle.own_table.specs.Stripes.{hold_at, HasStripeRoom, HasWordRoom}
+use Rattle.own_table.specs.Stripes.{hold_at, HasStripeCapacity}
 use Rattle.own_table.specs.declared.hold.Mode.{Mode}
 use Rattle.own_table.specs.declared.table.Holders.{Holders}
 
@@ -14,6 +14,6 @@ abbrev pub thread_limit : Holders → ℕ
 thread_limit holders = vec_len holders.held
 
 -- there is room for the next taking of the word
-pub record HasRoom (holders : Holders) (word : ℕ) : Type 0 where
-  pub stripe : HasStripeRoom (slice_get holders.stripes.items (stripe_of word))
-  pub words : (t : ℕ) → HasWordRoom (slice_get holders.held.items t)
+pub record HasCapacity (holders : Holders) (word : ℕ) : Type 0 where
+  pub stripe : HasStripeCapacity (slice_get holders.stripes.items (stripe_of word))
+  pub words : 0 < holders.spare

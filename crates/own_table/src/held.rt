@@ -13,6 +13,7 @@ use std::collections::BinaryHeap;
 pub(crate) struct HeldWords {
     pub(crate) words: BinaryHeap<Reverse<u64>>,
     ghost ordered: { IsHeap by_least (heap_items words) } by { Prim.hlevel props },
+    ghost fits: { heap_len words ≤ heap_capacity words },
 }
 
 impl HeldWords {
@@ -31,18 +32,20 @@ impl HeldWords {
         self.words.len()
     }
 
-    /// Makes room for one word more.
-    pub(crate) fn reserve(&mut self) -> Result<(), AllocError>
+    /// Makes room for so many words more.
+    pub(crate) fn reserve(&mut self, count: usize) -> Result<(), AllocError>
         ensures same { heap_items self.new.words ≡ heap_items self.old.words }
-        ensures room { OnOk result (heap_len self.new.words < heap_capacity self.new.words) }
+        ensures capacity { OnOk result (heap_len self.new.words + count ≤ heap_capacity self.new.words) }
     {
-        self.words.reserve(1)
+        self.words.reserve(count)
     }
 
     pub(crate) fn add(&mut self, word: u64)
-        requires room { heap_len self.old.words < heap_capacity self.old.words }
-        ensures { (w : ℕ) → times_in (heap_items self.new.words) w
+        requires capacity { heap_len self.old.words < heap_capacity self.old.words }
+        ensures added { (w : ℕ) → times_in (heap_items self.new.words) w
             ≡ times_in (heap_items self.old.words) w + (if word == w then 1 else 0) }
+        ensures len { heap_len self.new.words ≡ heap_len self.old.words + 1 }
+        ensures kept { heap_capacity self.old.words ≤ heap_capacity self.new.words }
     {
         let _ = self.words.push(Reverse(word));
     }
@@ -54,6 +57,8 @@ impl HeldWords {
         ensures one { IfSome result (λ word. (w : ℕ) → times_in (heap_items self.old.words) w
             ≡ times_in (heap_items self.new.words) w + (if word == w then 1 else 0)) }
         ensures least { IfSome result (λ word. (w : ℕ) → w < word → times_in (heap_items self.old.words) w ≡ 0) }
+        ensures len { heap_len self.new.words ≤ heap_len self.old.words }
+        ensures kept { heap_capacity self.new.words ≡ heap_capacity self.old.words }
     {
         let Some(Reverse(word)) = self.words.pop() else {
             return None;

@@ -1,4 +1,5 @@
 //! How a thread holds a word, and the record of all holds of one word.
+ghost use Rattle.tx_events.specs.declared.TheConstants.{THREAD_LIMIT};
 ghost use Rattle.std.specs.Prelude.{◌≡◌, ◌==◌, ◌<◌, ◌≢◌, ◌&&◌, not, true, false, ℕ, if◌then◌else◌, None};
 ghost use Rattle.own_table.specs.Records.{mode_of, writer_reads, is_write, blocks, raised, is_free, is_writer};
 ghost use Rattle.own_table.specs.Bits.{has_bit};
@@ -76,7 +77,7 @@ impl HoldRec {
 
     /// How the thread holds the word.
     pub(crate) fn mode_of(&self, t: u8) -> Option<Mode>
-        requires { t < 64 }
+        requires { t < THREAD_LIMIT }
         ensures { result ≡ mode_of self.now t }
     {
         if self.writes(t) {
@@ -90,7 +91,7 @@ impl HoldRec {
 
     /// The record with one hold more. No other thread may hold the word in a mode that this one shuts out.
     pub(crate) fn with_hold(self, t: u8, mode: Mode) -> HoldRec
-        requires thread { t < 64 }
+        requires thread { t < THREAD_LIMIT }
         requires reads { writer_reads self ≡ true }
         requires unblocked { (u : ℕ) → u ≢ t → blocks (mode_of self u) (is_write mode) ≡ false }
         ensures word { result.word ≡ self.word }
@@ -112,7 +113,7 @@ impl HoldRec {
 
     /// The record without the thread's hold.
     pub(crate) fn without_hold(self, t: u8) -> HoldRec
-        requires thread { t < 64 }
+        requires thread { t < THREAD_LIMIT }
         requires reads { writer_reads self ≡ true }
         ensures word { result.word ≡ self.word }
         ensures reads { writer_reads result ≡ true }

@@ -4,7 +4,7 @@
 //! caller sees of a table is a relation of thread, word and mode: `hold_of` of `specs/Table.antt`.
 #![tactic(auto)]
 
-mod bits;
+pub mod bits;
 mod held;
 pub mod hold;
 mod stripe;
@@ -13,6 +13,9 @@ mod table;
 #[cfg(test)]
 mod tests;
 mod words;
+
+/// The number of stripes of a table.
+pub const STRIPES: u64 = 256;
 
 pub use hold::{HoldRec, Mode};
 pub use table::Holders;

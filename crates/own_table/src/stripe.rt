@@ -33,8 +33,8 @@ impl Stripe {
         self.records.iter().copied().find(|r| r.word == word)
     }
 
-    /// The place of the record of the word.
-    fn place(&self, word: u64) -> Option<usize>
+    /// The index of the record of the word.
+    fn index_of(&self, word: u64) -> Option<usize>
         ensures { result ≡ position (λ r. r.word == word) self.now.records.items }
     {
         self.records.iter().position(|r| r.word == word)
@@ -55,23 +55,23 @@ impl Stripe {
     /// Makes room for one record more.
     pub(crate) fn reserve(&mut self) -> Result<(), AllocError>
         ensures same { self.new.records.items ≡ self.old.records.items }
-        ensures room { OnOk result (vec_len self.new.records < vec_capacity self.new.records) }
+        ensures capacity { OnOk result (vec_len self.new.records < vec_capacity self.new.records) }
     {
         self.records.reserve(1)
     }
 
-    /// Puts the record into the place of the one of its word, or beside the others where there is none.
+    /// Puts the record where that of its word is, or beside the others where there is none.
     pub(crate) fn put(&mut self, holds: HoldRec)
         requires sound { is_sound holds ≡ true }
-        requires room { IsNone (record_of self.old.records.items holds.word)
+        requires capacity { IsNone (record_of self.old.records.items holds.word)
             → vec_len self.old.records < vec_capacity self.old.records }
         ensures found { (w : ℕ) → record_of self.new.records.items w
             ≡ (if holds.word == w then Some holds else record_of self.old.records.items w) }
         ensures kept { (p : HoldRec → Bool) → list_all p self.old.records.items ≡ true → p holds ≡ true
             → list_all p self.new.records.items ≡ true }
     {
-        match self.place(holds.word) {
-            Some(place) => self.records[place] = holds,
+        match self.index_of(holds.word) {
+            Some(index) => self.records[index] = holds,
             None => {
                 let _ = self.records.push(holds);
             }

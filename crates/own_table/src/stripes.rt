@@ -1,27 +1,27 @@
 //! The records of all words, in stripes by the word's address.
 ghost use Rattle.std.specs.Prelude.{◌≡◌, ◌==◌, ◌≢◌, ◌<◌, ◌&&◌, ℕ, true, false, [], length, if◌then◌else◌, None, is_none, IfOk, OnOk, slice_get, is_some};
 ghost use Rattle.std.specs.List.{list_all};
+ghost use Rattle.tx_events.specs.declared.TheConstants.{THREAD_LIMIT};
+ghost use Rattle.own_table.specs.declared.TheConstants.{STRIPES};
 ghost use Rattle.own_table.specs.Records.{stripe_of, blocks, is_write, raised};
-ghost use Rattle.own_table.specs.Stripes.{records_at, hold_at, HasStripeRoom, IsPlaced};
+ghost use Rattle.own_table.specs.Stripes.{records_at, hold_at, HasStripeCapacity, IsPlaced};
 
+use crate::STRIPES;
 use crate::hold::Mode;
 use crate::stripe::Stripe;
 use std::alloc::{AllocError, Global};
 
-/// The number of stripes.
-const STRIPES: u64 = 256;
-
 /// The stripe of the word.
 pub(crate) fn stripe_index(word: u64) -> usize
     ensures value { result ≡ stripe_of word }
-    ensures within { result < 256 }
+    ensures within { result < STRIPES }
 {
     (word / 8 % STRIPES) as usize
 }
 
 /// Stripes without records.
 pub(crate) fn free_stripes(alloc: Global) -> Result<Vec<Stripe>, AllocError>
-    ensures len { IfOk result (λ v. length v.items ≡ 256) }
+    ensures len { IfOk result (λ v. length v.items ≡ STRIPES) }
     ensures free { IfOk result (λ v. (s : ℕ) → records_at v.items s ≡ []) }
 {
     let mut stripes = Vec::new(alloc);
@@ -33,10 +33,10 @@ pub(crate) fn free_stripes(alloc: Global) -> Result<Vec<Stripe>, AllocError>
 
 /// Makes room for a record of the word.
 pub(crate) fn reserve_record(stripes: &mut Vec<Stripe>, word: u64) -> Result<(), AllocError>
-    requires { length stripes.old.items ≡ 256 }
-    ensures len { length stripes.new.items ≡ 256 }
+    requires { length stripes.old.items ≡ STRIPES }
+    ensures len { length stripes.new.items ≡ STRIPES }
     ensures same { (s : ℕ) → records_at stripes.new.items s ≡ records_at stripes.old.items s }
-    ensures room { OnOk result (HasStripeRoom (slice_get stripes.new.items (stripe_of word))) }
+    ensures capacity { OnOk result (HasStripeCapacity (slice_get stripes.new.items (stripe_of word))) }
 {
     let stripe = &mut stripes[stripe_index(word)];
     stripe.reserve()
@@ -44,12 +44,12 @@ pub(crate) fn reserve_record(stripes: &mut Vec<Stripe>, word: u64) -> Result<(),
 
 /// Adds the thread's hold to the word's record, and answers whether it held nothing of the word before.
 pub(crate) fn take_record(stripes: &mut Vec<Stripe>, word: u64, t: u8, mode: Mode) -> bool
-    requires len { length stripes.old.items ≡ 256 }
+    requires len { length stripes.old.items ≡ STRIPES }
     requires placed { IsPlaced stripes.old.items }
-    requires thread { t < 64 }
-    requires room { HasStripeRoom (slice_get stripes.old.items (stripe_of word)) }
+    requires thread { t < THREAD_LIMIT }
+    requires capacity { HasStripeCapacity (slice_get stripes.old.items (stripe_of word)) }
     requires unblocked { (u : ℕ) → u ≢ t → blocks (hold_at stripes.old.items u word) (is_write mode) ≡ false }
-    ensures len { length stripes.new.items ≡ 256 }
+    ensures len { length stripes.new.items ≡ STRIPES }
     ensures placed { IsPlaced stripes.new.items }
     ensures taken { (u w : ℕ) → hold_at stripes.new.items u w
         ≡ (if u == t && word == w then raised (hold_at stripes.old.items t word) mode else hold_at stripes.old.items u w) }
@@ -63,10 +63,10 @@ pub(crate) fn take_record(stripes: &mut Vec<Stripe>, word: u64, t: u8, mode: Mod
 
 /// Takes the thread's hold from the word's record, and the record out where no hold is left.
 pub(crate) fn release_record(stripes: &mut Vec<Stripe>, word: u64, t: u8)
-    requires len { length stripes.old.items ≡ 256 }
+    requires len { length stripes.old.items ≡ STRIPES }
     requires placed { IsPlaced stripes.old.items }
-    requires thread { t < 64 }
-    ensures len { length stripes.new.items ≡ 256 }
+    requires thread { t < THREAD_LIMIT }
+    ensures len { length stripes.new.items ≡ STRIPES }
     ensures placed { IsPlaced stripes.new.items }
     ensures released { (u w : ℕ) → hold_at stripes.new.items u w
         ≡ (if u == t && word == w then None else hold_at stripes.old.items u w) }

@@ -1,6 +1,7 @@
 //! The table of all holds.
 ghost use Rattle.own_table.specs.Stripes.{IsTable};
 ghost use Rattle.std.proofs.Props.{props};
+ghost use Rattle.tx_events.specs.declared.TheConstants.{THREAD_LIMIT};
 
 use crate::bits::without;
 use crate::held::HeldWords;
@@ -10,12 +11,17 @@ use crate::stripes::{free_stripes, release_record, reserve_record, stripe_index,
 use crate::words::{no_words, reserve_words};
 use std::alloc::{AllocError, Global};
 
+/// The words that each thread's list is given room for at once.
+const SPARE_WORDS: usize = 64;
+
 /// Which thread holds which word, for reading or for writing.
 #[derive(Drop)]
 pub struct Holders {
     stripes: Vec<Stripe>,
     held: Vec<HeldWords>,
-    ghost table: { IsTable stripes.items held.items } by { Prim.hlevel props },
+    /// How many words more each thread's list has room for.
+    spare: usize,
+    ghost table: { IsTable stripes.items held.items spare } by { Prim.hlevel props },
 }
 
 impl Holders {
@@ -23,18 +29,22 @@ impl Holders {
     ghost use Rattle.own_table.specs.Bits.{has_bit};
     ghost use Rattle.own_table.specs.Records.{blocks, is_write, is_sound, raised, record_of, records_of, stripe_of};
     ghost use Rattle.own_table.specs.Stripes.{records_at};
-    ghost use Rattle.own_table.specs.Table.{hold_of, thread_limit, HasRoom};
+    ghost use Rattle.own_table.specs.Table.{hold_of, thread_limit, HasCapacity};
 
     /// A table for threads with numbers below `threads`, of which none holds a word.
     pub fn new(alloc: Global, threads: u8) -> Result<Holders, AllocError>
         requires some { 0 < threads }
-        requires limit { threads ≤ 64 }
+        requires limit { threads ≤ THREAD_LIMIT }
         ensures free { IfOk result (λ h. (t w : ℕ) → hold_of h t w ≡ None) }
         ensures limit { IfOk result (λ h. thread_limit h ≡ threads) }
     {
         let stripes = free_stripes(alloc)?;
         let held = no_words(alloc, threads)?;
-        Ok(Holders { stripes, held })
+        Ok(Holders {
+            stripes,
+            held,
+            spare: 0,
+        })
     }
 
     /// The threads that block an access of thread `t` to the word, a store or a load: bit `u` is set exactly where
@@ -79,17 +89,22 @@ impl Holders {
     pub fn reserve(&mut self, word: u64) -> Result<(), AllocError>
         ensures same { (t w : ℕ) → hold_of self.new t w ≡ hold_of self.old t w }
         ensures limit { thread_limit self.new ≡ thread_limit self.old }
-        ensures room { OnOk result (HasRoom self.new word) }
+        ensures capacity { OnOk result (HasCapacity self.new word) }
     {
         reserve_record(&mut self.stripes, word)?;
-        reserve_words(&mut self.held)
+        if self.spare > 0 {
+            return Ok(());
+        }
+        reserve_words(&mut self.held, SPARE_WORDS)?;
+        self.spare = SPARE_WORDS;
+        Ok(())
     }
 
     /// Adds a hold. Where the thread holds the word for reading, that hold is raised in place; holding for writing is
     /// holding for reading too.
     pub fn take(&mut self, word: u64, t: u8, mode: Mode)
         requires thread { t < thread_limit self.old }
-        requires room { HasRoom self.old word }
+        requires capacity { HasCapacity self.old word }
         requires unblocked { (u : ℕ) → u ≢ t → blocks (hold_of self.old u word) (is_write mode) ≡ false }
         ensures taken { (u w : ℕ) → hold_of self.new u w
             ≡ (if u == t && word == w then raised (hold_of self.old t word) mode else hold_of self.old u w) }
@@ -97,6 +112,7 @@ impl Holders {
     {
         let is_new = take_record(&mut self.stripes, word, t, mode);
         if is_new {
+            self.spare -= 1;
             let words = &mut self.held[t as usize];
             words.add(word);
         }

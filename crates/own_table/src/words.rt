@@ -1,6 +1,6 @@
 //! The words of all threads.
 ghost use Rattle.std.specs.Prelude.{◌≡◌, ◌<◌, ℕ, [], length, IfOk, OnOk, slice_get};
-ghost use Rattle.own_table.specs.Stripes.{words_at, HasWordRoom};
+ghost use Rattle.own_table.specs.Stripes.{words_at, HasSpare};
 ghost use Rattle.own_table.specs.Words.{times_in};
 
 use crate::held::HeldWords;
@@ -18,15 +18,15 @@ pub(crate) fn no_words(alloc: Global, threads: u8) -> Result<Vec<HeldWords>, All
     Ok(all)
 }
 
-/// Makes room for one word more in each list.
-pub(crate) fn reserve_words(held: &mut Vec<HeldWords>) -> Result<(), AllocError>
+/// Makes room for so many words more in each list.
+pub(crate) fn reserve_words(held: &mut Vec<HeldWords>, count: usize) -> Result<(), AllocError>
     ensures len { length held.new.items ≡ length held.old.items }
     ensures same { (t : ℕ) → words_at held.new.items t ≡ words_at held.old.items t }
-    ensures room { OnOk result ((t : ℕ) → HasWordRoom (slice_get held.new.items t)) }
+    ensures capacity { OnOk result (HasSpare held.new.items count) }
 {
     for t in 0..held.len() {
         let words = &mut held[t];
-        words.reserve()?;
+        words.reserve(count)?;
     }
     Ok(())
 }

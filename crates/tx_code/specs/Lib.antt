@@ -2,3 +2,13 @@ pub mod Objects
 pub mod WellFormed
 pub mod Images
 pub mod Views
+pub mod Signatures
+pub mod Renaming
+pub mod Meaning
+pub mod Program
+pub mod Shapes
+pub mod Sound
+pub mod InShape
+pub mod Lines
+pub mod Linked
+pub mod Examples

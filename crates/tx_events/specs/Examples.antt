@@ -7,14 +7,14 @@ use Rattle.tx_events.specs.declared.Event.{Event}
 use Rattle.tx_events.specs.declared.Event.TheVariants.{Silent, Load, Store, Out, Inp, Spawn, Join, BeginAtomic, EndAtomic, Raise, BeginSync, EndSync, Done, Stop}
 use Rattle.tx_events.specs.declared.Reply.{Reply}
 use Rattle.tx_events.specs.declared.GlobalCell.{GlobalCell}
-use Rattle.tx_events.specs.Memory.{Place, byte_at, no_bytes}
+use Rattle.tx_events.specs.Memory.{MemoryLayout, byte_at, no_bytes}
 use Rattle.tx_events.specs.World.{Alive, World, Step, Replays, first_world}
 use Rattle.tx_events.specs.Thread.{Thread}
 use Rattle.tx_events.specs.Script.{Cursor, script}
 
 -- 16 bytes of globals and two threads
-abbrev pub place : Place
-place = record { globals = 16; limit = 2 }
+abbrev pub layout : MemoryLayout
+layout = record { globals = 16; limit = 2 }
 
 abbrev pub start : List Event → List ℕ → World Cursor
 start events input = first_world no_bytes input (record { events = events; at = 0 })
@@ -26,7 +26,7 @@ first_bytes memory = byte_at memory 65536 ∷ byte_at memory 65537 ∷ byte_at m
 -- this order leads to a world with these first bytes, output, input left and end
 pub record LeadsTo (events : List Event) (input order bytes out left : List ℕ) (end : Option End) : Type 0 where
   pub world : World Cursor
-  pub replays : Replays script place (start events input) order world
+  pub replays : Replays script layout (start events input) order world
   pub bytes_are : first_bytes world.memory ≡ bytes
   pub out_is : world.out ≡ out
   pub left_is : world.input ≡ left
@@ -34,7 +34,7 @@ pub record LeadsTo (events : List Event) (input order bytes out left : List ℕ)
 
 -- after this order no step of thread t is enabled
 abbrev pub Waits : List Event → List ℕ → ℕ → Type 0
-Waits events order t = (w v : World Cursor) → Replays script place (start events []) order w → Step script place t w v → ⊥
+Waits events order t = (w v : World Cursor) → Replays script layout (start events []) order w → Step script layout t w v → ⊥
 
 abbrev pub no_change : List ℕ
 no_change = 0 ∷ 0 ∷ 0 ∷ 0 ∷ 0 ∷ 0 ∷ 0 ∷ 0 ∷ []
@@ -87,7 +87,7 @@ heard_by (Some u) = u.state.heard
 -- this order leads to a world in which thread 0 has got these replies
 pub record Hears (events : List Event) (input order : List ℕ) (replies : List Reply) : Type 0 where
   pub world : World Listener
-  pub replays : Replays listening place (first_world no_bytes input (record { cursor = record { events = events; at = 0 }; heard = [] })) order world
+  pub replays : Replays listening layout (first_world no_bytes input (record { cursor = record { events = events; at = 0 }; heard = [] })) order world
   pub heard_is : heard_by (world.threads 0) ≡ replies
 
 abbrev pub asking : List Event

@@ -1,8 +1,8 @@
 -- What the laws say of runs.
 use Rattle.std.specs.Prelude.{ℕ, ◌≡◌, Bool, true, false}
 use Rattle.tx_events.specs.Thread.{Thread}
-use Rattle.tx_events.specs.Memory.{Place}
-use Rattle.tx_events.specs.Alone.{Took, Goes, Leaves, Halts, Never, Alone, outcome}
+use Rattle.tx_events.specs.Memory.{MemoryLayout}
+use Rattle.tx_events.specs.Alone.{BlockStep, Goes, Leaves, Halts, Never, Alone, outcome}
 
 -- n is m at these words
 abbrev pub AgreesOn : (ℕ → Bool) → (ℕ → ℕ) → (ℕ → ℕ) → Type 0
@@ -13,7 +13,7 @@ abbrev pub AgreesOff : (ℕ → Bool) → (ℕ → ℕ) → (ℕ → ℕ) → Ty
 AgreesOff words m n = (x : ℕ) → words x ≡ false → n x ≡ m x
 
 -- two blocks end alike, the second one on the memory n: in the same state, with the same bytes in these words and the rest of n untouched, or at the same end of the program
-abbrev pub EndsAlike : {S : Type 0} → (ℕ → Bool) → (ℕ → ℕ) → Took S → Took S → Type 0
+abbrev pub EndsAlike : {S : Type 0} → (ℕ → Bool) → (ℕ → ℕ) → BlockStep S → BlockStep S → Type 0
 EndsAlike words n (Leaves s m') (Leaves r n') = (r ≡ s) × AgreesOn words m' n' × AgreesOff words n n'
 EndsAlike words n (Leaves s m') (Halts f) = ⊥
 EndsAlike words n (Leaves s m') (Goes j) = ⊥
@@ -26,14 +26,14 @@ EndsAlike words n (Goes i) y = ⊥
 EndsAlike words n Never y = ⊥
 
 -- the block runs alike on the memory n, and accesses the same words
-pub record RunsAlike {S : Type 0} {a : Thread S} {p : Place} {s : S} {m : ℕ → ℕ} (alone : Alone a p s m) (n : ℕ → ℕ) : Type 0 where
+pub record RunsAlike {S : Type 0} {a : Thread S} {p : MemoryLayout} {s : S} {m : ℕ → ℕ} (alone : Alone a p s m) (n : ℕ → ℕ) : Type 0 where
   pub there : Alone a p s n
   pub accessed : there.last.accessed ≡ alone.last.accessed
   pub stored : there.last.stored ≡ alone.last.stored
   pub ends : EndsAlike alone.last.accessed n (outcome alone) (outcome there)
 
 -- where the block is left, memory is m but for the words stored to, and these were accessed
-abbrev pub StoresOnly : {S : Type 0} → (ℕ → Bool) → (ℕ → ℕ) → Took S → Type 0
+abbrev pub StoresOnly : {S : Type 0} → (ℕ → Bool) → (ℕ → ℕ) → BlockStep S → Type 0
 StoresOnly stored m (Leaves s m') = AgreesOff stored m m'
 StoresOnly stored m (Goes i) = Unit {0}
 StoresOnly stored m (Halts e) = Unit {0}

@@ -7,7 +7,7 @@ abbrev pub update : {A : Type 0} → (ℕ → A) → ℕ → A → ℕ → A
 update f k v x = cond (x == k) v (f x)
 
 -- what never changes in a run: the size of the globals in bytes, and how many threads may be started, the first one counted
-pub record Place : Type 0 where
+pub record MemoryLayout : Type 0 where
   pub globals : ℕ
   pub limit : ℕ
 
@@ -16,7 +16,7 @@ abbrev pub globals_start : ℕ
 globals_start = 65536
 
 -- the end of the last global, rounded up to a multiple of 8
-abbrev pub globals_end : Place → ℕ
+abbrev pub globals_end : MemoryLayout → ℕ
 globals_end p = globals_start + (p.globals + 7) / 8 * 8
 
 -- where the stack of thread 0 begins, from the start of one stack to the next, and the size of one, in bytes
@@ -29,25 +29,25 @@ stack_stride = 131072
 abbrev pub stack_size : ℕ
 stack_size = 65536
 
-abbrev pub in_globals : Place → ℕ → Bool
+abbrev pub in_globals : MemoryLayout → ℕ → Bool
 in_globals p addr = nat_le globals_start addr && nat_lt addr (globals_end p)
 
 -- in the stack of a thread number below the limit
-abbrev pub in_stacks : Place → ℕ → Bool
+abbrev pub in_stacks : MemoryLayout → ℕ → Bool
 in_stacks p addr = nat_le stacks_start addr && nat_lt ((addr - stacks_start) / stack_stride) p.limit && nat_lt ((addr - stacks_start) % stack_stride) stack_size
 
-unfoldable pub is_mapped : Place → ℕ → Bool
+unfoldable pub is_mapped : MemoryLayout → ℕ → Bool
 is_mapped p addr = in_globals p addr || in_stacks p addr
 
 unfoldable pub is_aligned : ℕ → ℕ → Bool
 is_aligned addr size = addr % size == 0
 
 -- an access that does not trap: mapped and aligned
-unfoldable pub can_access : Place → ℕ → ℕ → Bool
+unfoldable pub can_access : MemoryLayout → ℕ → ℕ → Bool
 can_access p addr size = is_aligned addr size && is_mapped p addr
 
 -- above each word that is mapped
-unfoldable pub word_bound : Place → ℕ
+unfoldable pub word_bound : MemoryLayout → ℕ
 word_bound p = globals_end p + stacks_start + stack_stride * p.limit
 
 -- A word is an aligned group of 8 bytes, named by its lowest address. A memory gives each word a number below 2^64, whose least significant byte is the lowest.

@@ -4,7 +4,7 @@ use Rattle.tx_events.specs.declared.Event.{Event}
 use Rattle.tx_events.specs.declared.Event.TheVariants.{Silent, Load, Store, Out, Inp, Spawn, Join, BeginAtomic, EndAtomic, Raise, BeginSync, EndSync, Done, Stop}
 use Rattle.tx_events.specs.Thread.{Thread, Open, blocks_after, may_come, is_empty}
 
--- the events of all functions, one function after another, and the place of the next one; a function's number is the place of its first event
+-- the events of all functions, one function after another, and the index of the next one; a function's number is the index of its first event
 pub record Cursor : Type 0 where
   pub events : List Event
   pub at : ℕ
@@ -17,7 +17,7 @@ first (e ∷ es) = e
 abbrev pub event_at : List Event → ℕ → Event
 event_at events n = first (drop n events)
 
--- the open blocks at that place
+-- the open blocks at that index
 abbrev pub open_at : List Event → ℕ → List Open → List Open
 open_at events zero bs = bs
 open_at [] (suc n) bs = bs

@@ -2,6 +2,8 @@
 use Rattle.std.specs.Prelude.{ℕ, ℤ, pos, negsuc, suc, ◌≡◌, ◌<◌, ◌^◌, ◌*◌, Bool, true, false, not, nat_lt, ◌==◌, ◌&&◌, ◌||◌, List, [], ◌∷◌}
 use Rattle.tx_events.specs.declared.BlockKind.{BlockKind}
 use Rattle.tx_events.specs.declared.BlockKind.TheVariants.{NoExcept, Commit, Cancel}
+use Rattle.tx_events.specs.declared.End.{End}
+use Rattle.tx_events.specs.declared.End.TheVariants.{Exit, Abort, Terminate, Trapped, StepsOut}
 use Rattle.tx_events.specs.declared.Event.{Event}
 use Rattle.tx_events.specs.declared.Event.TheVariants.{Silent, Load, Store, Out, Inp, Spawn, Join, BeginAtomic, EndAtomic, Raise, BeginSync, EndSync, Done, Stop}
 use Rattle.tx_events.specs.declared.Reply.{Reply}
@@ -50,7 +52,7 @@ Answers EndSync reply = reply ≡ Nothing
 Answers Done reply = reply ≡ Nothing
 Answers (Stop end) reply = reply ≡ Nothing
 
--- an event that someone else may see
+-- an event that no one else sees
 abbrev pub is_silent : Event → Bool
 is_silent Silent = true
 is_silent (Load addr size volatile) = false
@@ -137,6 +139,14 @@ is_empty (b ∷ bs) = false
 abbrev pub is_size : ℕ → Bool
 is_size size = (size == 1) || (size == 2) || (size == 4) || (size == 8)
 
+-- an end that the program itself comes to: StepsOut is no thread's
+abbrev pub is_own_end : End → Bool
+is_own_end (Exit code) = true
+is_own_end Abort = true
+is_own_end Terminate = true
+is_own_end (Trapped trap) = true
+is_own_end StepsOut = false
+
 -- the events that may come where these blocks are open
 abbrev pub may_come : Event → List Open → Bool
 may_come EndAtomic bs = in_atomic bs
@@ -152,7 +162,7 @@ may_come (Store addr size value volatile) bs = is_size size && nat_lt value (2 ^
 may_come (BeginAtomic kind) bs = true
 may_come BeginSync bs = true
 may_come Silent bs = true
-may_come (Stop end) bs = true
+may_come (Stop end) bs = is_own_end end
 
 -- the laws, of the states in Reached: which events come, what they do to the open blocks, and that a thread starts with none
 pub record Lawful (S : Type 0) (Reached : S → Type 0) (a : Thread S) : Type 0 where

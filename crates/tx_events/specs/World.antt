@@ -7,8 +7,8 @@ use Rattle.tx_events.specs.declared.Event.{Event}
 use Rattle.tx_events.specs.declared.Event.TheVariants.{Silent, Load, Store, Out, Inp, Spawn, Join, BeginAtomic, EndAtomic, Raise, BeginSync, EndSync, Done, Stop}
 use Rattle.tx_events.specs.declared.Reply.TheVariants.{Nothing, Loaded, Byte, Id}
 use Rattle.tx_events.specs.Thread.{Thread}
-use Rattle.tx_events.specs.Memory.{update, Place, can_access, load, store}
-use Rattle.tx_events.specs.Alone.{Took, Goes, Leaves, Halts, Never, Alone, outcome}
+use Rattle.tx_events.specs.Memory.{update, MemoryLayout, can_access, load, store}
+use Rattle.tx_events.specs.Alone.{BlockStep, Goes, Leaves, Halts, Never, Alone, outcome}
 
 -- the lock of all synchronized blocks: the thread that holds it, and how many of its synchronized blocks are open
 pub record Lock : Type 0 where
@@ -47,9 +47,9 @@ pub record World (S : Type 0) : Type 0 where
   pub end : Option End
 
 -- some silent steps lead from s to r
-pub data Silents {S : Type 0} (a : Thread S) (s : S) : S → Type 0 where
-  none : Silents a s s
-  one_more : {r : S} → Silents a s r → a.next r ≡ Silent → Silents a s (a.after r Nothing)
+pub data SilentSteps {S : Type 0} (a : Thread S) (s : S) : S → Type 0 where
+  none : SilentSteps a s s
+  one_more : {r : S} → SilentSteps a s r → a.next r ≡ Silent → SilentSteps a s (a.after r Nothing)
 
 abbrev pub alive : {S : Type 0} → S → Option (Alive S)
 alive s = Some (record { state = s; ended = false })
@@ -68,11 +68,11 @@ abbrev pub ends : {S : Type 0} → World S → End → World S
 ends w end = record w { end = Some end }
 
 -- the world after a whole block of thread t
-abbrev pub Lands : {S : Type 0} → ℕ → World S → Took S → World S → Type 0
-Lands t w (Goes i) v = ⊥
-Lands t w Never v = ⊥
-Lands t w (Leaves s memory) v = v ≡ record w { memory = memory; threads = update w.threads t (alive s) }
-Lands t w (Halts end) v = v ≡ ends w end
+abbrev pub BlockEffect : {S : Type 0} → ℕ → World S → BlockStep S → World S → Type 0
+BlockEffect t w (Goes i) v = ⊥
+BlockEffect t w Never v = ⊥
+BlockEffect t w (Leaves s memory) v = v ≡ record w { memory = memory; threads = update w.threads t (alive s) }
+BlockEffect t w (Halts end) v = v ≡ ends w end
 
 -- a join of that thread: it has ended, or there is none that may be joined
 abbrev pub Joins : {S : Type 0} → ℕ → World S → S → Option (Alive S) → World S → Type 0
@@ -89,39 +89,39 @@ input_after [] = []
 input_after (b ∷ bs) = bs
 
 -- what the event of thread t, in the state s, does to the world w; where it is not enabled, no v is there
-abbrev pub Does : {S : Type 0} → Thread S → Place → ℕ → World S → S → Event → World S → Type 0
-Does a p t w s Silent v = ⊥
-Does a p t w s EndAtomic v = ⊥
-Does a p t w s (Raise kind cancels) v = ⊥
-Does a p t w s (Load addr size volatile) v = v ≡ cond (can_access p addr size)
+abbrev pub EventStep : {S : Type 0} → Thread S → MemoryLayout → ℕ → World S → S → Event → World S → Type 0
+EventStep a p t w s Silent v = ⊥
+EventStep a p t w s EndAtomic v = ⊥
+EventStep a p t w s (Raise kind cancels) v = ⊥
+EventStep a p t w s (Load addr size volatile) v = v ≡ cond (can_access p addr size)
     (goes t w (a.after s (Loaded (load w.memory addr size))))
     (ends w (Trapped BadAddress))
-Does a p t w s (Store addr size value volatile) v = v ≡ cond (can_access p addr size)
+EventStep a p t w s (Store addr size value volatile) v = v ≡ cond (can_access p addr size)
     (record w { memory = store w.memory addr size value; threads = update w.threads t (alive (a.after s Nothing)) })
     (ends w (Trapped BadAddress))
-Does a p t w s (Out byte) v = v ≡ record w { out = w.out ++ byte ∷ []; threads = update w.threads t (alive (a.after s Nothing)) }
-Does a p t w s Inp v = v ≡ record w { input = input_after w.input; threads = update w.threads t (alive (a.after s (Byte (byte_of w.input)))) }
-Does a p t w s (Spawn func arg) v = v ≡ cond (nat_lt w.started p.limit)
+EventStep a p t w s (Out byte) v = v ≡ record w { out = w.out ++ byte ∷ []; threads = update w.threads t (alive (a.after s Nothing)) }
+EventStep a p t w s Inp v = v ≡ record w { input = input_after w.input; threads = update w.threads t (alive (a.after s (Byte (byte_of w.input)))) }
+EventStep a p t w s (Spawn func arg) v = v ≡ cond (nat_lt w.started p.limit)
     (record w { started = w.started + 1; threads = update (update w.threads w.started (alive (a.child s w.started func arg))) t (alive (a.after s (Id (pos w.started)))) })
     (ends w (Trapped TooManyThreads))
-Does a p t w s (Join id) v = Joins t w (a.after s Nothing) (target t id w.threads) v
-Does a p t w s BeginSync v = (lock_free t w.lock ≡ true) × (v ≡ record w { lock = lock_in t w.lock; threads = update w.threads t (alive (a.after s Nothing)) })
-Does a p t w s EndSync v = v ≡ record w { lock = lock_out w.lock; threads = update w.threads t (alive (a.after s Nothing)) }
-Does a p t w s Done v = v ≡ record w { threads = update w.threads t (Some (record { state = a.after s Nothing; ended = true })) }
-Does a p t w s (Stop end) v = v ≡ ends w end
-Does {S} a p t w s (BeginAtomic kind) v = (lock_free t w.lock ≡ true) × (alone : Alone a p (a.after s Nothing) w.memory) × Lands t w (outcome alone) v
+EventStep a p t w s (Join id) v = Joins t w (a.after s Nothing) (target t id w.threads) v
+EventStep a p t w s BeginSync v = (lock_free t w.lock ≡ true) × (v ≡ record w { lock = lock_in t w.lock; threads = update w.threads t (alive (a.after s Nothing)) })
+EventStep a p t w s EndSync v = v ≡ record w { lock = lock_out w.lock; threads = update w.threads t (alive (a.after s Nothing)) }
+EventStep a p t w s Done v = v ≡ record w { threads = update w.threads t (Some (record { state = a.after s Nothing; ended = true })) }
+EventStep a p t w s (Stop end) v = v ≡ ends w end
+EventStep {S} a p t w s (BeginAtomic kind) v = (lock_free t w.lock ≡ true) × (alone : Alone a p (a.after s Nothing) w.memory) × BlockEffect t w (outcome alone) v
 
 -- a step of thread t, which was started and has not ended: some silent steps, and one event or one whole block
-pub record Step {S : Type 0} (a : Thread S) (p : Place) (t : ℕ) (w v : World S) : Type 0 where
+pub record Step {S : Type 0} (a : Thread S) (p : MemoryLayout) (t : ℕ) (w v : World S) : Type 0 where
   pub going : w.end ≡ None
   pub from : S
   pub before : S
   pub is : w.threads t ≡ alive from
-  pub silents : Silents a from before
-  pub does : Does a p t w before (a.next before) v
+  pub silents : SilentSteps a from before
+  pub does : EventStep a p t w before (a.next before) v
 
 -- Replay: the steps of these threads, in this order, lead from w to v
-abbrev pub Replays : {S : Type 0} → Thread S → Place → World S → List ℕ → World S → Type 0
+abbrev pub Replays : {S : Type 0} → Thread S → MemoryLayout → World S → List ℕ → World S → Type 0
 Replays a p w [] v = v ≡ w
 Replays {S} a p w (t ∷ ts) v = (mid : World S) × Step a p t w mid × Replays a p mid ts v
 

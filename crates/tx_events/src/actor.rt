@@ -18,8 +18,8 @@ pub trait Actor: Drop {
 
     ghost saved_state: { Self.Saved → State };
 
-    // There is room for one `take`.
-    ghost has_room: { Self → Type 0 };
+    // There is capacity for one `take`.
+    ghost has_capacity: { Self → Type 0 };
 
     // The states of which the laws hold.
     ghost is_reached: { State → Type 0 };
@@ -32,14 +32,14 @@ pub trait Actor: Drop {
         ensures event { result ≡ thread.next (state self.now) }
         ensures reached { is_reached (state self.now) };
 
-    /// Makes room for one `take`. On `AllocError` there is no room, and on both the state is as before.
+    /// Makes the capacity for one `take`. On `AllocError` there is none, and on both the state is as before.
     fn ready(&mut self) -> Result<(), AllocError>
         ensures same { state self.new ≡ state self.old }
-        ensures room { OnOk result (has_room self.new) };
+        ensures capacity { OnOk result (has_capacity self.new) };
 
     /// Goes on after the next event, which was answered so.
     fn take(&mut self, reply: Reply)
-        requires room { has_room self.old }
+        requires capacity { has_capacity self.old }
         requires answers { Answers (thread.next (state self.old)) reply }
         ensures { state self.new ≡ thread.after (state self.old) reply };
 

@@ -1,8 +1,11 @@
 //! Laws of memory, and laws of runs, these for every actor. A function here does nothing: its clause is the law.
 ghost use Rattle.std.specs.Prelude.{◌≡◌, ◌⊎◌, ℕ, ◌<◌, ◌≤◌, ◌+◌, ◌*◌, ◌/◌, ◌%◌, ◌^◌, true, false, List, Option, Some};
+ghost use Rattle.tx_events.specs.declared.TheConstants.{THREAD_LIMIT};
 ghost use Rattle.tx_events.specs.declared.End.{End};
+ghost use Rattle.tx_events.specs.declared.End.TheVariants.{StepsOut};
+ghost use Rattle.tx_events.specs.declared.Event.TheVariants.{Stop};
 ghost use Rattle.tx_events.specs.Thread.{is_size};
-ghost use Rattle.tx_events.specs.Memory.{Place, load, store, byte_at, number_at, is_aligned, is_mapped, can_access, word_of, word_bound};
+ghost use Rattle.tx_events.specs.Memory.{MemoryLayout, load, store, byte_at, number_at, is_aligned, is_mapped, can_access, word_of, word_bound};
 ghost use Rattle.tx_events.specs.Alone.{Alone, outcome};
 ghost use Rattle.tx_events.specs.World.{Alive, World, Step, Replays, first_world};
 ghost use Rattle.tx_events.specs.Same.{SameEvents, StepsWithin, SameChildren, SameThread, with_threads};
@@ -33,53 +36,74 @@ pub fn a_store_writes_bytes()
 
 /// An access that does not trap lies in one word, which is mapped as a whole and lies below the bound of all words.
 pub fn an_access_lies_in_a_word()
-    ensures one_word { (p : Place) (addr size k : ℕ) → is_size size ≡ true → can_access p addr size ≡ true → k < size →
+    ensures one_word { (p : MemoryLayout) (addr size k : ℕ) → is_size size ≡ true → can_access p addr size ≡ true → k < size →
         word_of (addr + k) ≡ word_of addr }
-    ensures mapped { (p : Place) (addr size k : ℕ) → is_size size ≡ true → can_access p addr size ≡ true → k < size →
+    ensures mapped { (p : MemoryLayout) (addr size k : ℕ) → is_size size ≡ true → can_access p addr size ≡ true → k < size →
         is_mapped p (addr + k) ≡ true }
-    ensures below { (p : Place) (addr size : ℕ) → can_access p addr size ≡ true → word_of addr < word_bound p }
+    ensures below { (p : MemoryLayout) (addr size : ℕ) → can_access p addr size ≡ true → word_of addr < word_bound p }
 {}
 
 /// Two replays of one order agree, in the whole world that they lead to.
 pub fn one_replay<A: Actor>()
-    ensures { (p : Place) (w v u : World A.State) (order : List ℕ) →
+    ensures { (p : MemoryLayout) (w v u : World A.State) (order : List ℕ) →
         Replays A.thread p w order v → Replays A.thread p w order u → v ≡ u }
 {}
 
 /// Nothing is enabled after an end.
 pub fn no_step_after_end<A: Actor>()
-    ensures { (p : Place) (t : ℕ) (w v : World A.State) (end : End) →
+    ensures { (p : MemoryLayout) (t : ℕ) (w v : World A.State) (end : End) →
         w.end ≡ Some end → Step A.thread p t w v → ⊥ }
 {}
 
 /// Locality: a block depends on the words that it accessed and on no others, and leaves the others as they are, with
 /// nested and cancelled blocks in it. It ends alike on each memory that agrees on these words.
 pub fn locality<A: Actor>()
-    ensures { (p : Place) (s : A.State) (m n : ℕ → ℕ) (alone : Alone A.thread p s m) →
+    ensures { (p : MemoryLayout) (s : A.State) (m n : ℕ → ℕ) (alone : Alone A.thread p s m) →
         AgreesOn alone.last.accessed m n → RunsAlike alone n }
 {}
 
 /// A block changes no word but those that it stored to, and it accessed these.
 pub fn stores_only<A: Actor>()
-    ensures rest { (p : Place) (s : A.State) (m : ℕ → ℕ) (alone : Alone A.thread p s m) →
+    ensures rest { (p : MemoryLayout) (s : A.State) (m : ℕ → ℕ) (alone : Alone A.thread p s m) →
         StoresOnly alone.last.stored m (outcome alone) }
-    ensures accessed { (p : Place) (s : A.State) (m : ℕ → ℕ) (alone : Alone A.thread p s m) →
+    ensures accessed { (p : MemoryLayout) (s : A.State) (m : ℕ → ℕ) (alone : Alone A.thread p s m) →
         (x : ℕ) → alone.last.stored x ≡ true → alone.last.accessed x ≡ true }
 {}
 
-/// A block has one run.
+/// A block has one run: two runs of it come to the same end, and they access and store to the same words.
 pub fn one_run<A: Actor>()
-    ensures { (p : Place) (s : A.State) (m : ℕ → ℕ) (run other : Alone A.thread p s m) →
+    ensures outcome { (p : MemoryLayout) (s : A.State) (m : ℕ → ℕ) (run other : Alone A.thread p s m) →
         outcome run ≡ outcome other }
+    ensures accessed { (p : MemoryLayout) (s : A.State) (m : ℕ → ℕ) (run other : Alone A.thread p s m) →
+        run.last.accessed ≡ other.last.accessed }
+    ensures stored { (p : MemoryLayout) (s : A.State) (m : ℕ → ℕ) (run other : Alone A.thread p s m) →
+        run.last.stored ≡ other.last.stored }
+{}
+
+/// No thread ends the program with `StepsOut`: that is the end of a run that is cut off.
+pub fn a_thread_never_stops_with_steps_out<A: Actor>()
+    ensures { (s : A.State) (end : End) → A.is_reached s → A.thread.next s ≡ Stop end → end ≡ StepsOut → ⊥ }
+{}
+
+/// Lifting of one step: where the threads of two worlds have the same events, and so do the threads that they start, a
+/// step of the one is a step of the other, a whole block included, to the same world but for the states of its threads.
+pub fn a_step_lifts<A: Actor, B: Actor>()
+    ensures { (p : MemoryLayout) (main : A.State) (main' : B.State) (t : ℕ) (w v : World A.State) (threads : ℕ → Option (Alive B.State)) →
+        SameChildren A.thread B.thread main main' → p.limit ≤ THREAD_LIMIT →
+        ((u : ℕ) → SameThread A.thread B.thread main main' (w.threads u) (threads u)) →
+        Step A.thread p t w v →
+        (after : ℕ → Option (Alive B.State)) ×
+        Step B.thread p t (with_threads w threads) (with_threads v after) ×
+        ((u : ℕ) → SameThread A.thread B.thread main main' (v.threads u) (after u)) }
 {}
 
 /// Lifting: where the first threads of two programs have the same events, and so do the threads that they start, a
 /// replay of the one is a replay of the other, whole blocks included: in the same order, to the same world but for
 /// the states of its threads.
 pub fn lifting<A: Actor, B: Actor>()
-    ensures { (p : Place) (memory : ℕ → ℕ) (input : List ℕ) (main : A.State) (main' : B.State) (order : List ℕ) (v : World A.State) →
+    ensures { (p : MemoryLayout) (memory : ℕ → ℕ) (input : List ℕ) (main : A.State) (main' : B.State) (order : List ℕ) (v : World A.State) →
         SameEvents A.thread B.thread main main' → SameChildren A.thread B.thread main main' →
-        p.limit ≤ 64 → Replays A.thread p (first_world memory input main) order v →
+        p.limit ≤ THREAD_LIMIT → Replays A.thread p (first_world memory input main) order v →
         (threads : ℕ → Option (Alive B.State)) ×
         Replays B.thread p (first_world memory input main') order (with_threads v threads) ×
         ((t : ℕ) → SameThread A.thread B.thread main main' (v.threads t) (threads t)) }

@@ -15,6 +15,9 @@ mod tests;
 
 pub use actor::Actor;
 
+/// The most threads that a program may start, the first one counted.
+pub const THREAD_LIMIT: u8 = 64;
+
 /// The three kinds of atomic block (the TS, [stmt.tx]): they differ in what an exception does that leaves one.
 #[derive(Clone, Copy, PartialEq, Eq, Debug)]
 pub enum BlockKind {

@@ -7,10 +7,10 @@ ghost use Rattle.tx_events.specs.declared.Reply.TheVariants.{Nothing};
 use crate::{Actor, Event, Reply};
 use std::alloc::AllocError;
 
-/// The events of all functions, one function after another, and the place of the thread's next event in them. A
-/// function's number is the place of its first event. Past the list every event is `Silent`.
+/// The events of all functions, one function after another, and the index of the thread's next event in them. A
+/// function's number is the index of its first event. Past the list every event is `Silent`.
 ///
-/// The events keep the laws of threads: those of blocks from place 0 on, and at each function that is spawned no
+/// The events keep the laws of threads: those of blocks from index 0 on, and at each function that is spawned no
 /// block is open.
 #[derive(Drop)]
 pub struct Script {
@@ -28,7 +28,7 @@ impl Actor for Script {
 
     ghost saved_state = { λ s. record { events = s.events.items; at = s.at } };
 
-    ghost has_room = { λ _. Unit {0} };
+    ghost has_capacity = { λ _. Unit {0} };
 
     ghost is_reached = { IsLawful };
 

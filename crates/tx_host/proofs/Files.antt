@@ -46,7 +46,7 @@ module _ {Y Z : Type 0} where
   abbrev has_name : List ℕ → String Y × Vec ℕ Z → Bool
   has_name name file = bytes_eq (string_bytes file.0) name
 
-  -- the files after a write at the first place that has the name
+  -- the files after a write at the first index that has the name
   pub files_of-set : (files : List (String Y × Vec ℕ Z)) (at : ℕ) (name : List ℕ) (y d : String Y × Vec ℕ Z)
       → position (λ file. bytes_eq (string_bytes file.0) name) files ≡ Some at → y.0 ≡ (get_or files at d).0 → files_of (set files at y) ≡ set_file (files_of files) name y.1.items
   files_of-set files at name y d found same =
@@ -59,7 +59,7 @@ module _ {Y Z : Type 0} where
       (subst (λ text. bytes_eq text other ≡ false) (sym ((bytes_eq-Decides (string_bytes (get_or files at d).0) name).0 first.1)) (apart other name miss))
       (subst (λ text. bytes_eq text other ≡ false) (sym ((bytes_eq-Decides (string_bytes y.0) name).0 passes)) (apart other name miss))))
 
-  -- the files after a push of a name that has no place
+  -- the files after a push of a name that has no index
   pub files_of-push : (files : List (String Y × Vec ℕ Z)) (name : List ℕ) (y : String Y × Vec ℕ Z)
       → position (λ file. bytes_eq (string_bytes file.0) name) files ≡ None → string_bytes y.0 ≡ name → files_of (files ++ y ∷ []) ≡ set_file (files_of files) name y.1.items
   files_of-push files name y missing same =

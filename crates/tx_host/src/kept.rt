@@ -69,8 +69,8 @@ pub fn file_at<'a>(files: &'a [(String, Vec<u8>)], name: &str) -> Option<&'a [u8
         .map(|file| file.1.as_slice())
 }
 
-// The place of the first file of that name.
-fn place_of(files: &[(String, Vec<u8>)], name: &str) -> Option<usize>
+// The index of the first file of that name.
+fn index_of(files: &[(String, Vec<u8>)], name: &str) -> Option<usize>
     ensures { result ≡ position (λ file. bytes_eq (string_bytes file.0) name.now) files.now }
 {
     files.iter().position(|file| file.0.as_str() == name)
@@ -87,7 +87,7 @@ pub fn write_at(
     ensures memory { OnErr result (files.new.items ≡ files.old.items) }
 {
     let bytes = bytes.to_vec(alloc)?;
-    match place_of(files.as_slice(), name) {
+    match index_of(files.as_slice(), name) {
         Some(at) => files[at].1 = bytes,
         None => files.push((String::from_str(alloc, name)?, bytes))?,
     }

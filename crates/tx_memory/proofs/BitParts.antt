@@ -59,3 +59,16 @@ some_size size h = elim (cases_eq size 0) [
   | inl e ↦ absurd (true≢false (sym h ∙ ap is_size e))
   | inr d ↦ omega (arith, d)
 ]
+
+-- the least size is left
+pub one_left : (size : ℕ) → is_size size ≡ true → (size ≡ 8 → ⊥) → (size ≡ 4 → ⊥) → (size ≡ 2 → ⊥) → size ≡ 1
+one_left size h not8 not4 not2 = elim (or_cases ((size == 1) || (size == 2) || (size == 4)) (size == 8) h) [
+  | inr e ↦ absurd (not8 (eqb-true size 8 e))
+  | inl a ↦ elim (or_cases ((size == 1) || (size == 2)) (size == 4) a) [
+    | inr e ↦ absurd (not4 (eqb-true size 4 e))
+    | inl b ↦ elim (or_cases (size == 1) (size == 2) b) [
+      | inr e ↦ absurd (not2 (eqb-true size 2 e))
+      | inl e ↦ eqb-true size 1 e
+    ]
+  ]
+]

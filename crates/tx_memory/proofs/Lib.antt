@@ -1,3 +1,3 @@
 pub mod BitParts
-pub mod Slots
-pub mod Memories
+pub mod WordSlots
+pub mod MemoryLemmas

@@ -8,4 +8,4 @@ mod parts;
 #[cfg(test)]
 mod tests;
 
-pub use memory::Memory;
+pub use memory::{GLOBALS_LIMIT, Memory};

@@ -1,5 +1,9 @@
 //! The mapped words.
-ghost use Rattle.std.specs.Prelude.{◌≡◌, ◌+◌, ◌*◌, ◌/◌, ◌%◌, ◌<◌, ◌≤◌, length};
+ghost use Rattle.std.specs.Prelude.{◌≡◌, true, ◌+◌, ◌*◌, ◌/◌, ◌%◌, ◌<◌, ◌≤◌, length};
+ghost use Rattle.tx_events.specs.Memory.{is_aligned};
+ghost use Rattle.tx_events.specs.Thread.{is_size};
+ghost use Rattle.tx_events.specs.declared.TheConstants.{THREAD_LIMIT};
+ghost use Rattle.tx_memory.specs.declared.memory.TheConstants.{GLOBALS_LIMIT};
 
 use crate::parts::{part, with_part};
 use std::alloc::{AllocError, Global};
@@ -13,6 +17,10 @@ const STACKS_START: u64 = 16_777_216;
 const STACK_STRIDE: u64 = 131_072;
 /// The bytes of one stack.
 const STACK_SIZE: u64 = 65_536;
+/// The most bytes of globals.
+pub const GLOBALS_LIMIT: u32 = 1_048_576;
+/// The words of one stack.
+const STACK_WORDS: usize = 8192;
 /// The bytes of one word.
 const WORD_SIZE: u64 = 8;
 
@@ -23,18 +31,17 @@ pub struct Memory {
     globals: u32,
     threads: u8,
     ghost whole: { globals % 8 ≡ 0 },
-    ghost globals_limit: { globals ≤ 1048576 },
-    ghost threads_limit: { threads ≤ 64 },
+    ghost globals_limit: { globals ≤ GLOBALS_LIMIT },
+    ghost threads_limit: { threads ≤ THREAD_LIMIT },
     ghost covers: { length words.items ≡ globals / 8 + threads * 8192 },
 }
 
 impl Memory {
-    ghost use Rattle.std.specs.Prelude.{◌==◌, ◌&&◌, ◌^◌, ℕ, true, nat_le, nat_lt, if◌then◌else◌, Some, None, IfOk};
+    ghost use Rattle.std.specs.Prelude.{◌==◌, ◌&&◌, ◌^◌, ℕ, nat_le, nat_lt, if◌then◌else◌, Some, None, IfOk};
     ghost use Rattle.std.specs.List.{list_all};
     ghost use Rattle.tx_events.specs.Memory.{can_access, load, store, update, no_bytes, with_cells};
-    ghost use Rattle.tx_events.specs.Thread.{is_size};
     ghost use Rattle.tx_memory.specs.Words.{slot_of};
-    ghost use Rattle.tx_memory.specs.View.{place_of, words_of};
+    ghost use Rattle.tx_memory.specs.View.{layout_of, words_of};
     ghost use Rattle.tx_memory.specs.Cells.{lies_within};
 
     /// A memory with `size` bytes of globals and `threads` stacks, in which all bytes outside of the cells are zero.
@@ -45,14 +52,14 @@ impl Memory {
         threads: u8,
     ) -> Result<Memory, AllocError>
         requires whole { size % 8 ≡ 0 }
-        requires size { size ≤ 1048576 }
+        requires size { size ≤ GLOBALS_LIMIT }
         requires cells { list_all (lies_within size) globals.now ≡ true }
         requires some { 0 < threads }
-        requires threads { threads ≤ 64 }
-        ensures place { IfOk result (λ m. place_of m ≡ record { globals = size; limit = threads }) }
+        requires threads { threads ≤ THREAD_LIMIT }
+        ensures layout { IfOk result (λ m. layout_of m ≡ record { globals = size; limit = threads }) }
         ensures words { IfOk result (λ m. words_of m ≡ with_cells no_bytes globals.now) }
     {
-        let words = vec![in alloc; 0u64; size as usize / 8 + threads as usize * 8192]?;
+        let words = vec![in alloc; 0u64; size as usize / 8 + threads as usize * STACK_WORDS]?;
         let mut memory = Memory {
             words,
             globals: size,
@@ -72,9 +79,9 @@ impl Memory {
     /// misaligned.
     pub fn load(&self, addr: u64, size: u8) -> Option<u64>
         requires { is_size size ≡ true }
-        ensures value { result ≡ (if can_access (place_of self.now) addr size
+        ensures value { result ≡ (if can_access (layout_of self.now) addr size
             then Some (load (words_of self.now) addr size) else None) }
-        ensures word { size ≡ 8 → can_access (place_of self.now) addr size ≡ true
+        ensures word { size ≡ 8 → can_access (layout_of self.now) addr size ≡ true
             → result ≡ Some (words_of self.now addr) }
     {
         let slot = self.slot(addr, size)?;
@@ -86,11 +93,11 @@ impl Memory {
     pub fn store(&mut self, addr: u64, size: u8, value: u64) -> bool
         requires size { is_size size ≡ true }
         requires value { value < 2 ^ (8 * size) }
-        ensures done { result ≡ can_access (place_of self.old) addr size }
-        ensures place { place_of self.new ≡ place_of self.old }
-        ensures words { words_of self.new ≡ (if can_access (place_of self.old) addr size
+        ensures done { result ≡ can_access (layout_of self.old) addr size }
+        ensures layout { layout_of self.new ≡ layout_of self.old }
+        ensures words { words_of self.new ≡ (if can_access (layout_of self.old) addr size
             then store (words_of self.old) addr size value else words_of self.old) }
-        ensures word { size ≡ 8 → can_access (place_of self.old) addr size ≡ true
+        ensures word { size ≡ 8 → can_access (layout_of self.old) addr size ≡ true
             → words_of self.new ≡ update (words_of self.old) addr value }
     {
         let Some(slot) = self.slot(addr, size) else {
@@ -103,7 +110,7 @@ impl Memory {
 
     /// An equal memory.
     pub fn copy(&self, alloc: Global) -> Result<Memory, AllocError>
-        ensures place { IfOk result (λ m. place_of m ≡ place_of self.now) }
+        ensures layout { IfOk result (λ m. layout_of m ≡ layout_of self.now) }
         ensures words { IfOk result (λ m. words_of m ≡ words_of self.now) }
     {
         let words = Vec::from_slice(alloc, self.words.as_slice())?;
@@ -117,10 +124,10 @@ impl Memory {
     /// Where the word of an access lies.
     fn slot(&self, addr: u64, size: u8) -> Option<usize>
         requires { is_size size ≡ true }
-        ensures { result ≡ (if can_access (place_of self.now) addr size
-            then slot_of (place_of self.now) addr else None) }
+        ensures { result ≡ (if can_access (layout_of self.now) addr size
+            then slot_of (layout_of self.now) addr else None) }
     {
-        if addr % u64::from(size) == 0 {
+        if is_aligned(addr, size) {
             self.mapped_slot(addr)
         } else {
             None
@@ -129,7 +136,7 @@ impl Memory {
 
     /// Where the word that holds a byte lies.
     fn mapped_slot(&self, addr: u64) -> Option<usize>
-        ensures { result ≡ slot_of (place_of self.now) addr }
+        ensures { result ≡ slot_of (layout_of self.now) addr }
     {
         let globals = u64::from(self.globals);
         if GLOBALS_START <= addr && addr < GLOBALS_START + globals {
@@ -146,6 +153,22 @@ impl Memory {
         } else {
             None
         }
+    }
+}
+
+/// Whether the address is a multiple of the size. The sizes are told apart, so that no division is left.
+fn is_aligned(addr: u64, size: u8) -> bool
+    requires { is_size size ≡ true }
+    ensures { result ≡ is_aligned addr size }
+{
+    if size == 8 {
+        addr % 8 == 0
+    } else if size == 4 {
+        addr % 4 == 0
+    } else if size == 2 {
+        addr % 2 == 0
+    } else {
+        true
     }
 }
 

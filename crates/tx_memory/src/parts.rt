@@ -36,7 +36,7 @@ pub(crate) fn part(word: u64, shift: u32, count: u32) -> u64
     }
 }
 
-/// The word with other bits at that place.
+/// The word with other bits there.
 pub(crate) fn with_part(word: u64, shift: u32, count: u32, value: u64) -> u64
     requires within { shift + count ≤ 64 }
     requires some { 0 < count }

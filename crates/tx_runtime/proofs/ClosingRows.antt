@@ -1,7 +1,7 @@
 -- The rows of a thread whose transaction gives up or is closing.
 use Rattle.std.proofs.Common.{ℕ, ◌≡◌, ◌<◌, true, false, Option, Some, None, List, refl, ap, sym, ◌∙◌, arith}
 use Rattle.tx_events.specs.declared.TurnKind.TheVariants.{Idle, Undone, Released, Rolled}
-use Rattle.tx_events.specs.Memory.{Place, update, word_bound}
+use Rattle.tx_events.specs.Memory.{MemoryLayout, update, word_bound}
 use Rattle.tx_serial.specs.Machine.{Machine, Local, Save, Tx, NoTx, GivingUp, Closing, least, kept_or, oldest}
 use Rattle.tx_serial.specs.Turn.{Turned, stays, steps, closes, again, gives_up, clashes, without, lets_go, given_back, gives_back}
 use Rattle.std.specs.Prelude.{nat_lt}
@@ -15,7 +15,7 @@ closes_some b o x e = ap (closes b) (sym e)
 pub closes_none : {S : Type 0} (b : ℕ) (o : Option ℕ) → o ≡ None → NoTx ≡ closes {S = S} b o
 closes_none b o e = ap (closes b) (sym e)
 
-module _ {S : Type 0} (p : Place) (t : ℕ) (m : Machine S) (l : Local S) where
+module _ {S : Type 0} (p : MemoryLayout) (t : ℕ) (m : Machine S) (l : Local S) where
   pub lets_none : (b : ℕ) → least l.held (word_bound p) ≡ None → stays Idle m ≡ lets_go p t m l b (least l.held (word_bound p))
   lets_none b e = ap (lets_go p t m l b) (sym e)
 

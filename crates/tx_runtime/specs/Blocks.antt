@@ -1,6 +1,6 @@
 -- The transactions that keep an access off.
 use Rattle.std.specs.Prelude.{ℕ, ◌≡◌, Bool, Option, Some, None}
-use Rattle.tx_serial.specs.Machine.{Machine, eldest, greatest, count, birth_of, keeps_off}
+use Rattle.tx_serial.specs.Machine.{Machine, eldest, greatest, count, birth_of, conflicts_with}
 use Rattle.tx_runtime.specs.declared.access.Blockers.{Blockers}
 
 -- of the numbers below n for which p holds: the one whose f is least, its f, the greatest f, and how many there are
@@ -21,4 +21,4 @@ Sums p f n (Some b) = SumsOf p f n b
 
 -- those that keep off this access of thread t to the word x
 abbrev pub BlocksBy : {S : Type 0} → ℕ → Bool → ℕ → Machine S → Option Blockers → Type 0
-BlocksBy t store x m o = Sums (keeps_off t store x m.threads) (λ u. birth_of (m.threads u)) m.started o
+BlocksBy t store x m o = Sums (conflicts_with t store x m.threads) (λ u. birth_of (m.threads u)) m.started o

@@ -4,7 +4,7 @@ use Rattle.choosers.specs.declared.Clash.{Clash}
 use Rattle.choosers.specs.declared.Choice.{Choice}
 use Rattle.tx_events.specs.declared.Event.{Event}
 use Rattle.tx_events.specs.declared.TurnKind.{TurnKind}
-use Rattle.tx_events.specs.Memory.{Place}
+use Rattle.tx_events.specs.Memory.{MemoryLayout}
 use Rattle.tx_events.specs.Thread.{Thread}
 use Rattle.tx_serial.specs.Machine.{Machine, Local, Save, NoTx, OpenTx, GivingUp, Closing}
 use Rattle.tx_serial.specs.Kinds.{Asked}
@@ -12,10 +12,10 @@ use Rattle.tx_events.specs.declared.Event.TheVariants.{Silent, Load, Store, Out,
 use Rattle.tx_events.specs.declared.Reply.TheVariants.{Nothing}
 use Rattle.tx_events.specs.World.{target}
 use Rattle.tx_serial.specs.Turn.{turn, commits}
-use Rattle.undo_log.specs.View.{HasRoom}
+use Rattle.undo_log.specs.View.{HasCapacity}
 use Rattle.tx_runtime.specs.declared.engine.Engine.{Engine}
 use Rattle.tx_runtime.specs.declared.thread.ThreadSlot.{ThreadSlot}
-use Rattle.tx_runtime.specs.View.{machine_in, place_in}
+use Rattle.tx_runtime.specs.View.{machine_in, layout_in}
 
 -- it goes on without a transaction, and this is its next event
 pub record IsOutside {S : Type 0} (R : S → Type 0) (a : Thread S) (l : Local S) (e : Event) : Type 0 where
@@ -46,15 +46,15 @@ pub record GoesInside {S : Type 0} (R : S → Type 0) (a : Thread S) (t : ℕ) (
 
 -- there is room for a step of thread t
 abbrev pub IsReady : {A K : Type 0} → (A → Type 0) → ℕ → List (ThreadSlot A K) → Type 0
-IsReady {A} {K} room t threads = (s : ThreadSlot A K) → slice_get threads t ≡ Some s → room s.actor
+IsReady {A} {K} capacity t threads = (s : ThreadSlot A K) → slice_get threads t ≡ Some s → capacity s.actor
 
 -- and for one note or one savepoint more
 abbrev pub IsReadyToNote : {A K : Type 0} → (A → Type 0) → ℕ → List (ThreadSlot A K) → Type 0
-IsReadyToNote {A} {K} room t threads = (s : ThreadSlot A K) → slice_get threads t ≡ Some s → room s.actor × HasRoom s.log
+IsReadyToNote {A} {K} capacity t threads = (s : ThreadSlot A K) → slice_get threads t ≡ Some s → capacity s.actor × HasCapacity s.log
 
 -- The turn of thread t led from old to new and was of this kind, whatever the policy would have answered.
 abbrev pub Turns : {A K S : Type 0} → (A → S) → (K → S) → Thread S → ℕ → Engine A K → TurnKind → Engine A K → Type 0
-Turns state saved a t old kind new = (answer : Clash → Choice) → record { machine = machine_in state saved new; kind = kind } ≡ turn a (place_in old) answer t (machine_in state saved old)
+Turns state saved a t old kind new = (answer : Clash → Choice) → record { machine = machine_in state saved new; kind = kind } ≡ turn a (layout_in old) answer t (machine_in state saved old)
 
 -- the thread of that number may be joined by thread t, and was started
 pub record IsJoined {S : Type 0} (t : ℕ) (id : ℤ) (m : Machine S) (n : ℕ) : Type 0 where
@@ -124,11 +124,11 @@ IsStill {S} t m = (l : Local S) → m.threads t ≡ Some l → l.ended ≡ true
 -- The innermost block of thread t was left, and what it did stays.
 abbrev pub Commits : {A K S : Type 0} → (A → S) → (K → S) → Thread S → ℕ → Engine A K → TurnKind → Engine A K → Type 0
 Commits {A} {K} {S} state saved a t old kind new = (l : Local S) (b : ℕ) (k : S) (ss : List Save) → (machine_in state saved old).threads t ≡ Some l → l.tx ≡ OpenTx b k ss
-    → record { machine = machine_in state saved new; kind = kind } ≡ commits (place_in old) t (machine_in state saved old) l (a.after l.state Nothing) b k ss
+    → record { machine = machine_in state saved new; kind = kind } ≡ commits (layout_in old) t (machine_in state saved old) l (a.after l.state Nothing) b k ss
 
 -- The turn of thread t led from the machine old to the machine new and was of this kind; where the policy was asked, its
 -- answer was this choice, which the rule allows.
-pub record Chosen {S : Type 0} (a : Thread S) (p : Place) (answers : Clash → Choice → Type 0) (allows : Clash → Choice → Bool) (t : ℕ) (old : Machine S) (kind : TurnKind) (new : Machine S) : Type 0 where
+pub record Chosen {S : Type 0} (a : Thread S) (p : MemoryLayout) (answers : Clash → Choice → Type 0) (allows : Clash → Choice → Bool) (t : ℕ) (old : Machine S) (kind : TurnKind) (new : Machine S) : Type 0 where
   pub choice : Choice
   pub asked : (c : Clash) → Asked a p t old c → answers c choice × (allows c choice ≡ true)
   pub turned : record { machine = new; kind = kind } ≡ turn a p (λ _. choice) t old

@@ -3,6 +3,6 @@ pub mod Threads
 pub mod View
 pub mod Blocks
 pub mod Here
-pub mod Room
+pub mod Allocation
 pub mod Standing
 pub mod Runtime

@@ -2,26 +2,26 @@
 use Rattle.std.specs.Prelude.{ℕ, ◌≡◌, ◌==◌, Bool, false, cond, is_some, List, [], Option, Some, None, slice_get}
 use Rattle.tx_events.specs.declared.actor.Actor.{Ghosts}
 use Rattle.tx_events.specs.declared.TurnKind.{TurnKind}
-use Rattle.tx_events.specs.Memory.{Place}
+use Rattle.tx_events.specs.Memory.{MemoryLayout}
 use Rattle.tx_events.specs.Thread.{Thread}
 use Rattle.tx_events.specs.World.{first_world}
 use Rattle.own_table.specs.declared.table.Holders.{Holders}
 use Rattle.own_table.specs.Table.{hold_of, thread_limit}
 use Rattle.tx_serial.specs.Machine.{Machine, Local, Save, held_by, wrote_by}
 use Rattle.tx_serial.specs.Run.{inside}
-use Rattle.tx_serial.specs.Shows.{saves_of, Shown}
+use Rattle.tx_serial.specs.Shows.{saves_of, ShownByReplay}
 use Rattle.tx_serial.specs.Turn.{Slot, turns, first_machine}
 use Rattle.tx_runtime.specs.declared.runtime.Runtime.{Runtime}
 use Rattle.tx_runtime.specs.Threads.{is_write}
-use Rattle.tx_runtime.specs.View.{machine_in, place_in}
+use Rattle.tx_runtime.specs.View.{machine_in, layout_in}
 
 -- the machine that it shows
 abbrev pub machine_of : {A K S : Type 0} {g : Ghosts A K} → (A → S) → (K → S) → Runtime A K g → Machine S
 machine_of state saved r = machine_in state saved r.engine
 
 -- what is mapped, and how many threads may be started
-abbrev pub place_at : {A K : Type 0} {g : Ghosts A K} → Runtime A K g → Place
-place_at r = place_in r.engine
+abbrev pub layout_at : {A K : Type 0} {g : Ghosts A K} → Runtime A K g → MemoryLayout
+layout_at r = layout_in r.engine
 
 -- thread numbers are below this
 abbrev pub limit_of : {A K : Type 0} {g : Ghosts A K} → Runtime A K g → ℕ
@@ -58,11 +58,11 @@ pub record HoldsOf {S : Type 0} (m : Machine S) (limit : ℕ) (holders : Holders
   pub numbers : thread_limit holders ≡ limit
 
 -- turns led from the machine `first` to this one
-abbrev pub ReachedBy : {S : Type 0} → Thread S → Place → Machine S → Machine S → Type 0
+abbrev pub ReachedBy : {S : Type 0} → Thread S → MemoryLayout → Machine S → Machine S → Type 0
 ReachedBy a p first m = (slots : List Slot) × (m ≡ turns a p slots first)
 
 -- What held of the turns so far holds after this one: it is reached from where the old machine was, and its order replays
 -- in the indivisible world.
-pub record Carries {S : Type 0} (R : S → Type 0) (a : Thread S) (p : Place) (old new : Machine S) : Type 0 where
+pub record KeepsOrder {S : Type 0} (R : S → Type 0) (a : Thread S) (p : MemoryLayout) (old new : Machine S) : Type 0 where
   pub reached : (first : Machine S) → ReachedBy a p first old → ReachedBy a p first new
-  pub shown : (memory : ℕ → ℕ) (input : List ℕ) (main : S) → R main → a.blocks main ≡ [] → ReachedBy a p (first_machine memory input main) old → Shown a p (first_world memory input main) new
+  pub shown : (memory : ℕ → ℕ) (input : List ℕ) (main : S) → R main → a.blocks main ≡ [] → ReachedBy a p (first_machine memory input main) old → ShownByReplay a p (first_world memory input main) new

@@ -1,5 +1,5 @@
 -- The savepoints of a log, as maps from words to what they held.
-use Rattle.std.specs.Prelude.{ℕ, ◌≡◌, ◌<◌, ◌-◌, Bool, true, false, ◌==◌, List, [], ◌∷◌, length, take, drop, reverse, slice_index}
+use Rattle.std.specs.Prelude.{ℕ, ◌≡◌, ◌<◌, ◌-◌, Bool, true, false, not, ◌==◌, List, [], ◌∷◌, length, take, drop, reverse, slice_index}
 use Rattle.undo_log.specs.declared.notes.Note.{Note}
 use Rattle.undo_log.specs.declared.undo.Log.{Log}
 use Rattle.undo_log.specs.Notes.{first_note}
@@ -38,6 +38,11 @@ is_nil (x ∷ xs) = false
 abbrev pub begins_at : List Note → List ℕ → Bool
 begins_at notes [] = is_nil notes
 begins_at notes (m ∷ ms) = m == 0
+
+-- a transaction that can be put back has a mark, and nothing else has one
+abbrev pub marks_fit : Bool → List ℕ → Bool
+marks_fit true marks = not (is_nil marks)
+marks_fit false marks = is_nil marks
 
 -- one savepoint, which notes nothing
 pub record IsFresh (log : Log) : Type 0 where

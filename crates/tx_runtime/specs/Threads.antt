@@ -1,7 +1,8 @@
 -- What a started thread of the runtime shows of itself.
-use Rattle.std.specs.Prelude.{ℕ, ◌≡◌, ◌<◌, ◌≤◌, length, Bool, true, false, ◌&&◌, ◌||◌, is_some, List, Option, Some, None, slice_get}
+use Rattle.std.specs.Prelude.{ℕ, ◌≡◌, ◌<◌, ◌≤◌, length, Bool, true, false, ◌&&◌, is_some, List, Option, Some, None, slice_get}
 use Rattle.std.specs.List.{list_all}
-use Rattle.tx_events.specs.Memory.{Place, can_access}
+use Rattle.tx_events.specs.declared.TheConstants.{THREAD_LIMIT}
+use Rattle.tx_events.specs.Memory.{MemoryLayout, can_access}
 use Rattle.own_table.specs.declared.hold.Mode.{Mode}
 use Rattle.own_table.specs.declared.hold.Mode.TheVariants.{Read, Write}
 use Rattle.own_table.specs.declared.table.Holders.{Holders}
@@ -14,7 +15,7 @@ use Rattle.tx_runtime.specs.declared.thread.Transaction.{Transaction}
 use Rattle.tx_runtime.specs.declared.thread.Stage.{Stage}
 use Rattle.tx_runtime.specs.declared.thread.Stage.TheVariants.{Open, Undoing, Releasing}
 use Rattle.tx_runtime.specs.declared.thread.WaitCount.{WaitCount}
-use Rattle.tx_runtime.specs.Saves.{saves_of, is_nil, begins_at}
+use Rattle.tx_runtime.specs.Saves.{saves_of, marks_fit, begins_at}
 
 abbrev pub is_write : Option Mode → Bool
 is_write None = false
@@ -73,9 +74,9 @@ abbrev pub has_saves : {K : Type 0} → Option (Transaction K) → Bool
 has_saves None = false
 has_saves (Some x) = undoes x.stage
 
--- each note is of a word of the memory, all notes are of a savepoint, and none is left where no transaction can be put back
-abbrev pub is_sound : {A K : Type 0} → Place → ThreadSlot A K → Bool
-is_sound p s = can_put_back p (notes_of s.log) && begins_at (notes_of s.log) (marks_of s.log) && (has_saves s.tx || is_nil (marks_of s.log))
+-- each note is of a word of the memory, all notes are of a savepoint, and there is one exactly where a transaction can be put back
+abbrev pub is_sound : {A K : Type 0} → MemoryLayout → ThreadSlot A K → Bool
+is_sound p s = can_put_back p (notes_of s.log) && begins_at (notes_of s.log) (marks_of s.log) && marks_fit (has_saves s.tx) (marks_of s.log)
 
 abbrev pub local_in : {A K S : Type 0} → (A → S) → (K → S) → Holders → ℕ → Option (ThreadSlot A K) → Option (Local S)
 local_in state saved holders t None = None
@@ -95,9 +96,9 @@ waits_by threads t = waits_in (slice_get threads t)
 
 -- The parts of a runtime fit together: as many threads as the table has numbers for may be started; a number without a
 -- thread holds nothing; each held word is a word of the memory; and each thread is sound.
-pub record IsWhole {A K : Type 0} (p : Place) (limit : ℕ) (holders : Holders) (threads : List (ThreadSlot A K)) : Type 0 where
+pub record IsWhole {A K : Type 0} (p : MemoryLayout) (limit : ℕ) (holders : Holders) (threads : List (ThreadSlot A K)) : Type 0 where
   pub fits : limit ≡ p.limit
-  pub few : limit ≤ 64
+  pub few : limit ≤ THREAD_LIMIT
   pub numbers : thread_limit holders ≡ limit
   pub started : length threads ≤ limit
   pub some : 0 < length threads

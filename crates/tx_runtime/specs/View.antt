@@ -1,8 +1,8 @@
 -- The machine that a runtime shows.
 use Rattle.std.specs.Prelude.{ℕ, List, length, drop}
-use Rattle.tx_events.specs.Memory.{Place}
+use Rattle.tx_events.specs.Memory.{MemoryLayout}
 use Rattle.tx_events.specs.World.{Lock}
-use Rattle.tx_memory.specs.View.{place_of, words_of}
+use Rattle.tx_memory.specs.View.{layout_of, words_of}
 use Rattle.tx_serial.specs.Machine.{Machine}
 use Rattle.tx_runtime.specs.declared.engine.Engine.{Engine}
 use Rattle.tx_runtime.specs.declared.lock.SyncLock.{SyncLock}
@@ -30,5 +30,5 @@ machine_in state saved e = record {
 }
 
 -- what is mapped, and how many threads may be started
-abbrev pub place_in : {A K : Type 0} → Engine A K → Place
-place_in e = place_of e.memory
+abbrev pub layout_in : {A K : Type 0} → Engine A K → MemoryLayout
+layout_in e = layout_of e.memory

@@ -1,14 +1,16 @@
 //! Accesses to words that other threads hold.
 ghost use Rattle.std.specs.Prelude.{◌≡◌, ℕ, ◌<◌, ◌≤◌, ◌+◌, ◌^◌, Bool, true, Some, None, length};
 ghost use Rattle.own_table.specs.Bits.{has_bit};
+ghost use Rattle.tx_events.specs.declared.TheConstants.{THREAD_LIMIT};
 ghost use Rattle.tx_events.specs.Memory.{word_of};
 ghost use Rattle.tx_runtime.specs.Blocks.{Sums, BlocksBy};
-ghost use Rattle.tx_runtime.specs.View.{machine_in, place_in};
+ghost use Rattle.tx_runtime.specs.View.{machine_in, layout_in};
 ghost use Rattle.tx_runtime.specs.declared.access.Blockers.{Blockers};
 ghost use Rattle.tx_serial.specs.Machine.{birth_of};
 ghost use Rattle.tx_serial.specs.Turn.{waited};
 
 use crate::engine::Engine;
+use own_table::bits::is_in;
 use tx_events::{Actor, TurnKind};
 
 /// The word of an address.
@@ -16,21 +18,6 @@ pub(crate) fn word_of(addr: u64) -> u64
     ensures { result ≡ word_of addr }
 {
     addr - addr % 8
-}
-
-/// Whether bit `u` of the number is set.
-fn is_in(bits: u64, u: u8) -> bool
-    requires { u < 64 }
-    ensures { result ≡ has_bit bits u }
-{
-    bits & bit_of(u) != 0
-}
-
-fn bit_of(u: u8) -> u64
-    requires { u < 64 }
-    ensures { result ≡ 2 ^ u }
-{
-    1 << u
 }
 
 /// The transactions that keep an access off: the thread of the eldest one, the least and the greatest birth, and how many
@@ -59,7 +46,7 @@ impl Blockers {
     /// One more of them, whose number is above those of the others.
     fn and(self, u: u8, birth: u64) -> Blockers
         requires few { self.count ≤ u }
-        requires number { u < 64 }
+        requires number { u < THREAD_LIMIT }
         ensures { (p : ℕ → Bool) (f : ℕ → ℕ) → f u ≡ birth → p u ≡ true → Sums p f u (Some self) → Sums p f (u + 1) (Some result) }
     {
         let is_elder = birth < self.least;
@@ -117,7 +104,7 @@ impl<A: Actor> Engine<A, A::Saved> {
         requires least { blockers.least ≡ birth_of ((machine_in A.state A.saved_state self.old).threads blockers.eldest) }
         ensures done { record { machine = machine_in A.state A.saved_state self.new; kind = result }
             ≡ waited t (machine_in A.state A.saved_state self.old) word blockers.eldest }
-        ensures place { place_in self.new ≡ place_in self.old }
+        ensures layout { layout_in self.new ≡ layout_in self.old }
     {
         let thread = &mut self.threads[t as usize];
         thread.wait(word, blockers.least);

@@ -5,7 +5,7 @@ ghost use Rattle.choosers.specs.Answers.{KeepsRule};
 ghost use Rattle.tx_events.specs.declared.Event.{Event};
 ghost use Rattle.tx_runtime.specs.Blocks.{BlocksBy};
 ghost use Rattle.tx_runtime.specs.Here.{GoesInside, Chosen};
-ghost use Rattle.tx_runtime.specs.View.{machine_in, place_in};
+ghost use Rattle.tx_runtime.specs.View.{machine_in, layout_in};
 ghost use Rattle.tx_serial.specs.Kinds.{Accesses};
 
 use crate::access::Blockers;
@@ -25,13 +25,13 @@ impl<A: Actor> Engine<A, A::Saved> {
         blockers: Blockers,
         policy: &Policy<R, F>,
     ) -> Result<TurnKind, AllocError>
-        requires here { (e : Event) × (store : Bool) × GoesInside A.is_reached A.thread t (machine_in A.state A.saved_state self.old) e × Accesses (place_in self.old) e store word
+        requires here { (e : Event) × (store : Bool) × GoesInside A.is_reached A.thread t (machine_in A.state A.saved_state self.old) e × Accesses (layout_in self.old) e store word
             × BlocksBy t store word (machine_in A.state A.saved_state self.old) (Some blockers) }
         requires keeps { KeepsRule (F.IsAlwaysCallable policy.now.answer) (FnReturnsAt F.Fn policy.now.answer) R.allows }
-        ensures chosen { IfOk result (λ kind. Chosen A.thread (place_in self.old) (FnReturnsAt F.Fn policy.now.answer) R.allows t
+        ensures chosen { IfOk result (λ kind. Chosen A.thread (layout_in self.old) (FnReturnsAt F.Fn policy.now.answer) R.allows t
             (machine_in A.state A.saved_state self.old) kind (machine_in A.state A.saved_state self.new)) }
         ensures same { OnErr result (machine_in A.state A.saved_state self.new ≡ machine_in A.state A.saved_state self.old) }
-        ensures place { place_in self.new ≡ place_in self.old }
+        ensures layout { layout_in self.new ≡ layout_in self.old }
     {
         let thread = &self.threads[t as usize];
         let clash = Clash {

@@ -1,7 +1,7 @@
 //! All that the threads share, and the steps that rows have in common.
 ghost use Rattle.std.specs.Prelude.{◌≡◌};
 ghost use Rattle.std.proofs.Props.{props};
-ghost use Rattle.tx_memory.specs.View.{place_of};
+ghost use Rattle.tx_memory.specs.View.{layout_of};
 ghost use Rattle.tx_runtime.specs.Threads.{IsWhole};
 
 use crate::input::Input;
@@ -28,23 +28,23 @@ pub(crate) struct Engine<A, K> {
     pub(crate) out: Vec<u8>,
     pub(crate) order: Vec<u8>,
     pub(crate) end: Option<End>,
-    ghost whole: { IsWhole (place_of memory) limit holders threads.items } by { Prim.hlevel props },
+    ghost whole: { IsWhole (layout_of memory) limit holders threads.items } by { Prim.hlevel props },
 }
 
 impl<A: Actor> Engine<A, A::Saved> {
     ghost use Rattle.std.specs.Prelude.{ℕ, ◌<◌, OnOk, OnErr, IfOk, length, Some};
     ghost use Rattle.tx_events.specs.Thread.{Answers};
-    ghost use Rattle.tx_runtime.specs.View.{machine_in, place_in};
+    ghost use Rattle.tx_runtime.specs.View.{machine_in, layout_in};
     ghost use Rattle.tx_runtime.specs.Here.{IsReady, IsReadyToNote};
     ghost use Rattle.tx_serial.specs.Machine.{Local};
-    ghost use Rattle.tx_serial.specs.Turn.{halts, steps, told, ran};
+    ghost use Rattle.tx_serial.specs.Turn.{halts, steps, order_gains, ran};
 
     /// Makes room for a step of the thread.
     pub(crate) fn ready(&mut self, t: u8) -> Result<(), AllocError>
         requires { t < length self.old.threads.items }
-        ensures room { OnOk result (IsReady A.has_room t self.new.threads.items) }
+        ensures capacity { OnOk result (IsReady A.has_capacity t self.new.threads.items) }
         ensures same { machine_in A.state A.saved_state self.new ≡ machine_in A.state A.saved_state self.old }
-        ensures place { place_in self.new ≡ place_in self.old }
+        ensures layout { layout_in self.new ≡ layout_in self.old }
     {
         let thread = &mut self.threads[t as usize];
         thread.ready()
@@ -53,9 +53,9 @@ impl<A: Actor> Engine<A, A::Saved> {
     /// Makes room for a step of the thread, and for a note of the word or a savepoint.
     pub(crate) fn ready_to_note(&mut self, t: u8, word: u64) -> Result<(), AllocError>
         requires { t < length self.old.threads.items }
-        ensures room { OnOk result (IsReadyToNote A.has_room t self.new.threads.items) }
+        ensures capacity { OnOk result (IsReadyToNote A.has_capacity t self.new.threads.items) }
         ensures same { machine_in A.state A.saved_state self.new ≡ machine_in A.state A.saved_state self.old }
-        ensures place { place_in self.new ≡ place_in self.old }
+        ensures layout { layout_in self.new ≡ layout_in self.old }
     {
         let thread = &mut self.threads[t as usize];
         thread.ready_to_note(word)
@@ -64,11 +64,11 @@ impl<A: Actor> Engine<A, A::Saved> {
     /// The thread goes on after the next event, which was answered so. Its waits are over.
     pub(crate) fn step(&mut self, t: u8, reply: Reply)
         requires started { t < length self.old.threads.items }
-        requires room { IsReady A.has_room t self.old.threads.items }
+        requires capacity { IsReady A.has_capacity t self.old.threads.items }
         requires answers { (l : Local A.State) → (machine_in A.state A.saved_state self.old).threads t ≡ Some l → Answers (A.thread.next l.state) reply }
         ensures done { (l : Local A.State) → (machine_in A.state A.saved_state self.old).threads t ≡ Some l
             → machine_in A.state A.saved_state self.new ≡ steps t (machine_in A.state A.saved_state self.old) (record l { state = A.thread.after l.state reply }) }
-        ensures place { place_in self.new ≡ place_in self.old }
+        ensures layout { layout_in self.new ≡ layout_in self.old }
     {
         let thread = &mut self.threads[t as usize];
         thread.go_on(reply);
@@ -81,21 +81,21 @@ impl<A: Actor> Engine<A, A::Saved> {
         ensures done { IfOk result (λ kind. (l : Local A.State) → (machine_in A.state A.saved_state self.old).threads t ≡ Some l
             → record { machine = machine_in A.state A.saved_state self.new; kind = kind } ≡ ran (steps t (machine_in A.state A.saved_state self.old) (record l { state = A.thread.after l.state reply }))) }
         ensures same { OnErr result (machine_in A.state A.saved_state self.new ≡ machine_in A.state A.saved_state self.old) }
-        ensures place { place_in self.new ≡ place_in self.old }
+        ensures layout { layout_in self.new ≡ layout_in self.old }
     {
         self.ready(t)?;
         self.step(t, reply);
         Ok(TurnKind::Ran)
     }
 
-    /// The thread's step, told in the order.
-    pub(crate) fn step_told(&mut self, t: u8, reply: Reply) -> Result<TurnKind, AllocError>
+    /// The thread's step, which the order gains.
+    pub(crate) fn step_in_order(&mut self, t: u8, reply: Reply) -> Result<TurnKind, AllocError>
         requires started { t < length self.old.threads.items }
         requires answers { (l : Local A.State) → (machine_in A.state A.saved_state self.old).threads t ≡ Some l → Answers (A.thread.next l.state) reply }
         ensures done { IfOk result (λ kind. (l : Local A.State) → (machine_in A.state A.saved_state self.old).threads t ≡ Some l
-            → record { machine = machine_in A.state A.saved_state self.new; kind = kind } ≡ ran (told t (steps t (machine_in A.state A.saved_state self.old) (record l { state = A.thread.after l.state reply })))) }
+            → record { machine = machine_in A.state A.saved_state self.new; kind = kind } ≡ ran (order_gains t (steps t (machine_in A.state A.saved_state self.old) (record l { state = A.thread.after l.state reply })))) }
         ensures same { OnErr result (machine_in A.state A.saved_state self.new ≡ machine_in A.state A.saved_state self.old) }
-        ensures place { place_in self.new ≡ place_in self.old }
+        ensures layout { layout_in self.new ≡ layout_in self.old }
     {
         self.ready(t)?;
         self.order.reserve(1)?;
@@ -109,7 +109,7 @@ impl<A: Actor> Engine<A, A::Saved> {
         ensures done { IfOk result (λ kind. record { machine = machine_in A.state A.saved_state self.new; kind = kind }
             ≡ halts t (machine_in A.state A.saved_state self.old) end) }
         ensures same { OnErr result (machine_in A.state A.saved_state self.new ≡ machine_in A.state A.saved_state self.old) }
-        ensures place { place_in self.new ≡ place_in self.old }
+        ensures layout { layout_in self.new ≡ layout_in self.old }
     {
         self.order.reserve(1)?;
         self.order.push_reserved(t);

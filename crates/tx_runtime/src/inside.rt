@@ -9,11 +9,11 @@ ghost use Rattle.tx_events.specs.declared.BlockKind.TheVariants.{Cancel};
 ghost use Rattle.tx_events.specs.declared.Reply.TheVariants.{Nothing};
 ghost use Rattle.tx_memory.specs.View.{words_of};
 ghost use Rattle.tx_runtime.specs.Here.{GoesInside, IsOpen, Turns, Chosen, PassesInside, LeavesBlock, Commits};
-ghost use Rattle.tx_runtime.specs.Room.{MayGrow};
+ghost use Rattle.tx_runtime.specs.Allocation.{MayAllocate};
 ghost use Rattle.tx_runtime.specs.Saves.{newest};
 ghost use Rattle.tx_serial.specs.Turn.{cancels};
 ghost use Rattle.tx_events.specs.declared.TurnKind.TheVariants.{Undone};
-ghost use Rattle.tx_runtime.specs.View.{machine_in, place_in};
+ghost use Rattle.tx_runtime.specs.View.{machine_in, layout_in};
 ghost use Rattle.tx_serial.specs.Machine.{blocker, Local, Save, OpenTx};
 
 use crate::access::word_of;
@@ -30,7 +30,7 @@ impl<A: Actor> Engine<A, A::Saved> {
         requires here { PassesInside A.is_reached A.thread t (machine_in A.state A.saved_state self.old) }
         ensures turned { IfOk result (λ kind. Turns A.state A.saved_state A.thread t self.old kind self.new) }
         ensures same { OnErr result (machine_in A.state A.saved_state self.new ≡ machine_in A.state A.saved_state self.old) }
-        ensures place { place_in self.new ≡ place_in self.old }
+        ensures layout { layout_in self.new ≡ layout_in self.old }
     {
         self.step_alone(t, Reply::Nothing)
     }
@@ -45,10 +45,10 @@ impl<A: Actor> Engine<A, A::Saved> {
     ) -> Result<TurnKind, AllocError>
         requires here { (vol : Bool) × GoesInside A.is_reached A.thread t (machine_in A.state A.saved_state self.old) (Load addr size vol) }
         requires keeps { KeepsRule (F.IsAlwaysCallable policy.now.answer) (FnReturnsAt F.Fn policy.now.answer) R.allows }
-        ensures chosen { IfOk result (λ kind. Chosen A.thread (place_in self.old) (FnReturnsAt F.Fn policy.now.answer) R.allows t
+        ensures chosen { IfOk result (λ kind. Chosen A.thread (layout_in self.old) (FnReturnsAt F.Fn policy.now.answer) R.allows t
             (machine_in A.state A.saved_state self.old) kind (machine_in A.state A.saved_state self.new)) }
         ensures same { OnErr result (machine_in A.state A.saved_state self.new ≡ machine_in A.state A.saved_state self.old) }
-        ensures place { place_in self.new ≡ place_in self.old }
+        ensures layout { layout_in self.new ≡ layout_in self.old }
     {
         let Some(value) = self.memory.load(addr, size) else {
             return self.halt(t, End::Trapped(Trap::BadAddress));
@@ -63,11 +63,11 @@ impl<A: Actor> Engine<A, A::Saved> {
     /// A load that nothing keeps off: the thread holds the word.
     fn read_inside(&mut self, t: u8, addr: u64, value: u64) -> Result<TurnKind, AllocError>
         requires here { (size : ℕ) × (vol : Bool) × (value ≡ load (words_of self.old.memory) addr size)
-            × (can_access (place_in self.old) addr size ≡ true) × GoesInside A.is_reached A.thread t (machine_in A.state A.saved_state self.old) (Load addr size vol) }
+            × (can_access (layout_in self.old) addr size ≡ true) × GoesInside A.is_reached A.thread t (machine_in A.state A.saved_state self.old) (Load addr size vol) }
         requires free { blocker t false (word_of addr) (machine_in A.state A.saved_state self.old) ≡ None }
         ensures turned { IfOk result (λ kind. Turns A.state A.saved_state A.thread t self.old kind self.new) }
         ensures same { OnErr result (machine_in A.state A.saved_state self.new ≡ machine_in A.state A.saved_state self.old) }
-        ensures place { place_in self.new ≡ place_in self.old }
+        ensures layout { layout_in self.new ≡ layout_in self.old }
     {
         let word = word_of(addr);
         self.ready(t)?;
@@ -89,10 +89,10 @@ impl<A: Actor> Engine<A, A::Saved> {
     ) -> Result<TurnKind, AllocError>
         requires here { (vol : Bool) × GoesInside A.is_reached A.thread t (machine_in A.state A.saved_state self.old) (Store addr size value vol) }
         requires keeps { KeepsRule (F.IsAlwaysCallable policy.now.answer) (FnReturnsAt F.Fn policy.now.answer) R.allows }
-        ensures chosen { IfOk result (λ kind. Chosen A.thread (place_in self.old) (FnReturnsAt F.Fn policy.now.answer) R.allows t
+        ensures chosen { IfOk result (λ kind. Chosen A.thread (layout_in self.old) (FnReturnsAt F.Fn policy.now.answer) R.allows t
             (machine_in A.state A.saved_state self.old) kind (machine_in A.state A.saved_state self.new)) }
         ensures same { OnErr result (machine_in A.state A.saved_state self.new ≡ machine_in A.state A.saved_state self.old) }
-        ensures place { place_in self.new ≡ place_in self.old }
+        ensures layout { layout_in self.new ≡ layout_in self.old }
     {
         let Some(_old) = self.memory.load(addr, size) else {
             return self.halt(t, End::Trapped(Trap::BadAddress));
@@ -113,11 +113,11 @@ impl<A: Actor> Engine<A, A::Saved> {
         value: u64,
     ) -> Result<TurnKind, AllocError>
         requires here { (vol : Bool) × GoesInside A.is_reached A.thread t (machine_in A.state A.saved_state self.old) (Store addr size value vol) }
-        requires access { can_access (place_in self.old) addr size ≡ true }
+        requires access { can_access (layout_in self.old) addr size ≡ true }
         requires free { blocker t true (word_of addr) (machine_in A.state A.saved_state self.old) ≡ None }
         ensures turned { IfOk result (λ kind. Turns A.state A.saved_state A.thread t self.old kind self.new) }
         ensures same { OnErr result (machine_in A.state A.saved_state self.new ≡ machine_in A.state A.saved_state self.old) }
-        ensures place { place_in self.new ≡ place_in self.old }
+        ensures layout { layout_in self.new ≡ layout_in self.old }
     {
         let word = word_of(addr);
         let Some(old) = self.memory.load(word, 8) else {
@@ -137,7 +137,7 @@ impl<A: Actor> Engine<A, A::Saved> {
         requires here { (kind : BlockKind) × GoesInside A.is_reached A.thread t (machine_in A.state A.saved_state self.old) (BeginAtomic kind) }
         ensures turned { IfOk result (λ kind. Turns A.state A.saved_state A.thread t self.old kind self.new) }
         ensures same { OnErr result (machine_in A.state A.saved_state self.new ≡ machine_in A.state A.saved_state self.old) }
-        ensures place { place_in self.new ≡ place_in self.old }
+        ensures layout { layout_in self.new ≡ layout_in self.old }
     {
         self.ready_to_note(t, 0)?;
         let thread = &mut self.threads[t as usize];
@@ -150,7 +150,7 @@ impl<A: Actor> Engine<A, A::Saved> {
         requires here { LeavesBlock A.is_reached A.thread t (machine_in A.state A.saved_state self.old) }
         ensures done { IfOk result (λ kind. Commits A.state A.saved_state A.thread t self.old kind self.new) }
         ensures same { OnErr result (machine_in A.state A.saved_state self.new ≡ machine_in A.state A.saved_state self.old) }
-        ensures place { place_in self.new ≡ place_in self.old }
+        ensures layout { layout_in self.new ≡ layout_in self.old }
     {
         let marks = self.threads[t as usize].log.marks().len();
         if marks == 0 {
@@ -168,7 +168,7 @@ impl<A: Actor> Engine<A, A::Saved> {
         requires one { (l : Local A.State) (b : ℕ) (k : A.State) (ss : List Save) → (machine_in A.state A.saved_state self.old).threads t ≡ Some l → l.tx ≡ OpenTx b k ss → length ss ≡ 1 }
         ensures done { IfOk result (λ kind. Commits A.state A.saved_state A.thread t self.old kind self.new) }
         ensures same { OnErr result (machine_in A.state A.saved_state self.new ≡ machine_in A.state A.saved_state self.old) }
-        ensures place { place_in self.new ≡ place_in self.old }
+        ensures layout { layout_in self.new ≡ layout_in self.old }
     {
         self.ready(t)?;
         self.order.reserve(1)?;
@@ -185,7 +185,7 @@ impl<A: Actor> Engine<A, A::Saved> {
         requires more { (l : Local A.State) (b : ℕ) (k : A.State) (ss : List Save) → (machine_in A.state A.saved_state self.old).threads t ≡ Some l → l.tx ≡ OpenTx b k ss → 1 < length ss }
         ensures done { IfOk result (λ kind. Commits A.state A.saved_state A.thread t self.old kind self.new) }
         ensures same { OnErr result (machine_in A.state A.saved_state self.new ≡ machine_in A.state A.saved_state self.old) }
-        ensures place { place_in self.new ≡ place_in self.old }
+        ensures layout { layout_in self.new ≡ layout_in self.old }
     {
         self.ready(t)?;
         let thread = &mut self.threads[t as usize];
@@ -197,7 +197,7 @@ impl<A: Actor> Engine<A, A::Saved> {
         requires here { GoesInside A.is_reached A.thread t (machine_in A.state A.saved_state self.old) EndAtomic }
         ensures turned { IfOk result (λ kind. Turns A.state A.saved_state A.thread t self.old kind self.new) }
         ensures same { OnErr result (machine_in A.state A.saved_state self.new ≡ machine_in A.state A.saved_state self.old) }
-        ensures place { place_in self.new ≡ place_in self.old }
+        ensures layout { layout_in self.new ≡ layout_in self.old }
     {
         self.leave_block(t)
     }
@@ -212,8 +212,8 @@ impl<A: Actor> Engine<A, A::Saved> {
         requires here { GoesInside A.is_reached A.thread t (machine_in A.state A.saved_state self.old) (Raise kind cancels) }
         ensures turned { IfOk result (λ kind. Turns A.state A.saved_state A.thread t self.old kind self.new) }
         ensures same { OnErr result (machine_in A.state A.saved_state self.new ≡ machine_in A.state A.saved_state self.old) }
-        ensures room { OnErr result (MayGrow A.thread (place_in self.old) t (machine_in A.state A.saved_state self.old)) }
-        ensures place { place_in self.new ≡ place_in self.old }
+        ensures capacity { OnErr result (MayAllocate A.thread (layout_in self.old) t (machine_in A.state A.saved_state self.old)) }
+        ensures layout { layout_in self.new ≡ layout_in self.old }
     {
         match kind {
             BlockKind::NoExcept => self.halt(t, End::Abort),
@@ -233,8 +233,8 @@ impl<A: Actor> Engine<A, A::Saved> {
         requires here { GoesInside A.is_reached A.thread t (machine_in A.state A.saved_state self.old) (Raise Cancel true) }
         ensures turned { IfOk result (λ kind. Turns A.state A.saved_state A.thread t self.old kind self.new) }
         ensures same { OnErr result (machine_in A.state A.saved_state self.new ≡ machine_in A.state A.saved_state self.old) }
-        ensures room { OnErr result (MayGrow A.thread (place_in self.old) t (machine_in A.state A.saved_state self.old)) }
-        ensures place { place_in self.new ≡ place_in self.old }
+        ensures capacity { OnErr result (MayAllocate A.thread (layout_in self.old) t (machine_in A.state A.saved_state self.old)) }
+        ensures layout { layout_in self.new ≡ layout_in self.old }
     {
         if self.threads[t as usize].log.marks().len() == 0 {
             return Ok(TurnKind::Idle);
@@ -253,8 +253,8 @@ impl<A: Actor> Engine<A, A::Saved> {
         ensures none { IfNone result ((l : Local A.State) (b : ℕ) (k : A.State) (ss : List Save) (x : ℕ) → (machine_in A.state A.saved_state self.old).threads t ≡ Some l → l.tx ≡ OpenTx b k ss → newest ss x ≡ None) }
         ensures same { IfNone result (machine_in A.state A.saved_state self.new ≡ machine_in A.state A.saved_state self.old) }
         ensures done { IfSome result (λ word. (l : Local A.State) (b : ℕ) (k s : A.State) (ss : List Save) → (machine_in A.state A.saved_state self.old).threads t ≡ Some l → l.tx ≡ OpenTx b k ss
-            → record { machine = machine_in A.state A.saved_state self.new; kind = Undone word } ≡ cancels (place_in self.old) t (machine_in A.state A.saved_state self.old) l s b k ss) }
-        ensures place { place_in self.new ≡ place_in self.old }
+            → record { machine = machine_in A.state A.saved_state self.new; kind = Undone word } ≡ cancels (layout_in self.old) t (machine_in A.state A.saved_state self.old) l s b k ss) }
+        ensures layout { layout_in self.new ≡ layout_in self.old }
     {
         let thread = &mut self.threads[t as usize];
         let Some(word) = thread.undo_newest(&mut self.memory) else {

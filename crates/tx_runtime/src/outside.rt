@@ -8,9 +8,9 @@ ghost use Rattle.tx_events.specs.declared.Event.TheVariants.{Silent, Load, Store
 ghost use Rattle.tx_events.specs.declared.Reply.TheVariants.{Nothing};
 ghost use Rattle.tx_memory.specs.View.{words_of};
 ghost use Rattle.tx_runtime.specs.Here.{GoesOutside, Turns, IsJoined};
-ghost use Rattle.tx_runtime.specs.View.{machine_in, place_in};
+ghost use Rattle.tx_runtime.specs.View.{machine_in, layout_in};
 ghost use Rattle.tx_serial.specs.Machine.{Local, busy};
-ghost use Rattle.tx_serial.specs.Turn.{steps, told, ran, begins};
+ghost use Rattle.tx_serial.specs.Turn.{steps, order_gains, ran, begins};
 
 use crate::access::word_of;
 use crate::engine::Engine;
@@ -23,7 +23,7 @@ impl<A: Actor> Engine<A, A::Saved> {
         requires here { GoesOutside A.is_reached A.thread t (machine_in A.state A.saved_state self.old) Silent }
         ensures turned { IfOk result (λ kind. Turns A.state A.saved_state A.thread t self.old kind self.new) }
         ensures same { OnErr result (machine_in A.state A.saved_state self.new ≡ machine_in A.state A.saved_state self.old) }
-        ensures place { place_in self.new ≡ place_in self.old }
+        ensures layout { layout_in self.new ≡ layout_in self.old }
     {
         self.step_alone(t, Reply::Nothing)
     }
@@ -38,7 +38,7 @@ impl<A: Actor> Engine<A, A::Saved> {
         requires here { (vol : Bool) × GoesOutside A.is_reached A.thread t (machine_in A.state A.saved_state self.old) (Load addr size vol) }
         ensures turned { IfOk result (λ kind. Turns A.state A.saved_state A.thread t self.old kind self.new) }
         ensures same { OnErr result (machine_in A.state A.saved_state self.new ≡ machine_in A.state A.saved_state self.old) }
-        ensures place { place_in self.new ≡ place_in self.old }
+        ensures layout { layout_in self.new ≡ layout_in self.old }
     {
         let Some(value) = self.memory.load(addr, size) else {
             return self.halt(t, End::Trapped(Trap::BadAddress));
@@ -46,7 +46,7 @@ impl<A: Actor> Engine<A, A::Saved> {
         let word = word_of(addr);
         match self.blockers(t, word, false) {
             Some(blockers) => Ok(self.wait(t, word, blockers)),
-            None => self.step_told(t, Reply::Loaded { value }),
+            None => self.step_in_order(t, Reply::Loaded { value }),
         }
     }
 
@@ -61,7 +61,7 @@ impl<A: Actor> Engine<A, A::Saved> {
         requires here { (vol : Bool) × GoesOutside A.is_reached A.thread t (machine_in A.state A.saved_state self.old) (Store addr size value vol) }
         ensures turned { IfOk result (λ kind. Turns A.state A.saved_state A.thread t self.old kind self.new) }
         ensures same { OnErr result (machine_in A.state A.saved_state self.new ≡ machine_in A.state A.saved_state self.old) }
-        ensures place { place_in self.new ≡ place_in self.old }
+        ensures layout { layout_in self.new ≡ layout_in self.old }
     {
         let Some(_old) = self.memory.load(addr, size) else {
             return self.halt(t, End::Trapped(Trap::BadAddress));
@@ -82,14 +82,14 @@ impl<A: Actor> Engine<A, A::Saved> {
         value: u64,
     ) -> Result<TurnKind, AllocError>
         requires here { (vol : Bool) × GoesOutside A.is_reached A.thread t (machine_in A.state A.saved_state self.old) (Store addr size value vol) }
-        requires access { can_access (place_in self.old) addr size ≡ true }
+        requires access { can_access (layout_in self.old) addr size ≡ true }
         ensures done { IfOk result (λ kind. (l : Local A.State) → (machine_in A.state A.saved_state self.old).threads t ≡ Some l
             → record { machine = machine_in A.state A.saved_state self.new; kind = kind }
-            ≡ ran (record (told t (steps t (machine_in A.state A.saved_state self.old) (record l { state = A.thread.after l.state Nothing }))) {
+            ≡ ran (record (order_gains t (steps t (machine_in A.state A.saved_state self.old) (record l { state = A.thread.after l.state Nothing }))) {
               memory = store (words_of self.old.memory) addr size value;
             })) }
         ensures same { OnErr result (machine_in A.state A.saved_state self.new ≡ machine_in A.state A.saved_state self.old) }
-        ensures place { place_in self.new ≡ place_in self.old }
+        ensures layout { layout_in self.new ≡ layout_in self.old }
     {
         self.ready(t)?;
         self.order.reserve(1)?;
@@ -105,7 +105,7 @@ impl<A: Actor> Engine<A, A::Saved> {
         requires births { self.old.births < 2 ^ 64 - 1 }
         ensures turned { IfOk result (λ kind. Turns A.state A.saved_state A.thread t self.old kind self.new) }
         ensures same { OnErr result (machine_in A.state A.saved_state self.new ≡ machine_in A.state A.saved_state self.old) }
-        ensures place { place_in self.new ≡ place_in self.old }
+        ensures layout { layout_in self.new ≡ layout_in self.old }
     {
         if let Some(holder) = self.lock.other_holder(t) {
             return Ok(TurnKind::BlockWait { holder });
@@ -121,7 +121,7 @@ impl<A: Actor> Engine<A, A::Saved> {
             → record { machine = machine_in A.state A.saved_state self.new; kind = kind }
             ≡ begins t (machine_in A.state A.saved_state self.old) l (A.thread.after l.state Nothing) None) }
         ensures same { OnErr result (machine_in A.state A.saved_state self.new ≡ machine_in A.state A.saved_state self.old) }
-        ensures place { place_in self.new ≡ place_in self.old }
+        ensures layout { layout_in self.new ≡ layout_in self.old }
     {
         self.ready_to_note(t, 0)?;
         let thread = &mut self.threads[t as usize];
@@ -136,7 +136,7 @@ impl<A: Actor> Engine<A, A::Saved> {
         requires depth { self.old.lock.depth < 2 ^ 64 - 1 }
         ensures turned { IfOk result (λ kind. Turns A.state A.saved_state A.thread t self.old kind self.new) }
         ensures same { OnErr result (machine_in A.state A.saved_state self.new ≡ machine_in A.state A.saved_state self.old) }
-        ensures place { place_in self.new ≡ place_in self.old }
+        ensures layout { layout_in self.new ≡ layout_in self.old }
     {
         if let Some(holder) = self.lock.other_holder(t) {
             return Ok(TurnKind::BlockWait { holder });
@@ -145,7 +145,7 @@ impl<A: Actor> Engine<A, A::Saved> {
             return Ok(TurnKind::BlockWait { holder });
         }
         let entered = self.lock.enter(t);
-        let kind = self.step_told(t, Reply::Nothing)?;
+        let kind = self.step_in_order(t, Reply::Nothing)?;
         self.lock = entered;
         Ok(kind)
     }
@@ -166,10 +166,10 @@ impl<A: Actor> Engine<A, A::Saved> {
         requires here { GoesOutside A.is_reached A.thread t (machine_in A.state A.saved_state self.old) EndSync }
         ensures turned { IfOk result (λ kind. Turns A.state A.saved_state A.thread t self.old kind self.new) }
         ensures same { OnErr result (machine_in A.state A.saved_state self.new ≡ machine_in A.state A.saved_state self.old) }
-        ensures place { place_in self.new ≡ place_in self.old }
+        ensures layout { layout_in self.new ≡ layout_in self.old }
     {
         let left = self.lock.leave();
-        let kind = self.step_told(t, Reply::Nothing)?;
+        let kind = self.step_in_order(t, Reply::Nothing)?;
         self.lock = left;
         Ok(kind)
     }
@@ -179,7 +179,7 @@ impl<A: Actor> Engine<A, A::Saved> {
         requires here { GoesOutside A.is_reached A.thread t (machine_in A.state A.saved_state self.old) (Spawn func arg) }
         ensures turned { IfOk result (λ kind. Turns A.state A.saved_state A.thread t self.old kind self.new) }
         ensures same { OnErr result (machine_in A.state A.saved_state self.new ≡ machine_in A.state A.saved_state self.old) }
-        ensures place { place_in self.new ≡ place_in self.old }
+        ensures layout { layout_in self.new ≡ layout_in self.old }
     {
         let number = self.threads.len() as u8;
         if number >= self.limit {
@@ -207,13 +207,13 @@ impl<A: Actor> Engine<A, A::Saved> {
         requires here { GoesOutside A.is_reached A.thread t (machine_in A.state A.saved_state self.old) (Join id) }
         ensures turned { IfOk result (λ kind. Turns A.state A.saved_state A.thread t self.old kind self.new) }
         ensures same { OnErr result (machine_in A.state A.saved_state self.new ≡ machine_in A.state A.saved_state self.old) }
-        ensures place { place_in self.new ≡ place_in self.old }
+        ensures layout { layout_in self.new ≡ layout_in self.old }
     {
         let Some(number) = self.joined(t, id) else {
             return self.halt(t, End::Trapped(Trap::BadJoin));
         };
         if self.threads[number as usize].ended {
-            self.step_told(t, Reply::Nothing)
+            self.step_in_order(t, Reply::Nothing)
         } else {
             Ok(TurnKind::JoinWait { id: number })
         }
@@ -251,7 +251,7 @@ impl<A: Actor> Engine<A, A::Saved> {
         requires here { GoesOutside A.is_reached A.thread t (machine_in A.state A.saved_state self.old) (Out byte) }
         ensures turned { IfOk result (λ kind. Turns A.state A.saved_state A.thread t self.old kind self.new) }
         ensures same { OnErr result (machine_in A.state A.saved_state self.new ≡ machine_in A.state A.saved_state self.old) }
-        ensures place { place_in self.new ≡ place_in self.old }
+        ensures layout { layout_in self.new ≡ layout_in self.old }
     {
         self.ready(t)?;
         self.order.reserve(1)?;
@@ -266,10 +266,10 @@ impl<A: Actor> Engine<A, A::Saved> {
         requires here { GoesOutside A.is_reached A.thread t (machine_in A.state A.saved_state self.old) Inp }
         ensures turned { IfOk result (λ kind. Turns A.state A.saved_state A.thread t self.old kind self.new) }
         ensures same { OnErr result (machine_in A.state A.saved_state self.new ≡ machine_in A.state A.saved_state self.old) }
-        ensures place { place_in self.new ≡ place_in self.old }
+        ensures layout { layout_in self.new ≡ layout_in self.old }
     {
         let reply = self.input.reply();
-        let kind = self.step_told(t, reply)?;
+        let kind = self.step_in_order(t, reply)?;
         self.input.advance();
         Ok(kind)
     }
@@ -278,7 +278,7 @@ impl<A: Actor> Engine<A, A::Saved> {
         requires here { GoesOutside A.is_reached A.thread t (machine_in A.state A.saved_state self.old) Done }
         ensures turned { IfOk result (λ kind. Turns A.state A.saved_state A.thread t self.old kind self.new) }
         ensures same { OnErr result (machine_in A.state A.saved_state self.new ≡ machine_in A.state A.saved_state self.old) }
-        ensures place { place_in self.new ≡ place_in self.old }
+        ensures layout { layout_in self.new ≡ layout_in self.old }
     {
         self.ready(t)?;
         self.order.reserve(1)?;

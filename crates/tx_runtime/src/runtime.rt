@@ -40,11 +40,12 @@ fn is_inside(kind: TurnKind, accesses: bool) -> bool
 impl<A: Actor> Runtime<A> {
     ghost use Rattle.std.specs.Prelude.{ℕ, ◌<◌, ◌≤◌, ◌^◌, ◌+◌, ◌-◌, false, None, IfOk, OnErr, option_copied};
     ghost use Rattle.std.specs.Fn.{FnReturnsAt};
+    ghost use Rattle.tx_events.specs.declared.TheConstants.{THREAD_LIMIT};
     ghost use Rattle.choosers.specs.Answers.{KeepsRule};
-    ghost use Rattle.tx_memory.specs.View.{place_of, words_of};
+    ghost use Rattle.tx_memory.specs.View.{layout_of, words_of};
     ghost use Rattle.tx_runtime.specs.Here.{Chosen};
-    ghost use Rattle.tx_runtime.specs.Room.{MayGrow};
-    ghost use Rattle.tx_runtime.specs.Runtime.{machine_of, place_at, limit_of, inside_of, inside_after, saves_in, ShowsActor, HoldsOf, Carries};
+    ghost use Rattle.tx_runtime.specs.Allocation.{MayAllocate};
+    ghost use Rattle.tx_runtime.specs.Runtime.{machine_of, layout_at, limit_of, inside_of, inside_after, saves_in, ShowsActor, HoldsOf, KeepsOrder};
     ghost use Rattle.tx_runtime.specs.Saves.{saves_of, ShowsLevels};
     ghost use Rattle.tx_serial.specs.Turn.{first_machine};
 
@@ -57,10 +58,10 @@ impl<A: Actor> Runtime<A> {
         threads: u8,
     ) -> Result<Runtime<A>, AllocError>
         requires some { 0 < threads }
-        requires limit { threads ≤ 64 }
-        requires memory { (place_of memory).limit ≡ threads }
+        requires limit { threads ≤ THREAD_LIMIT }
+        requires memory { (layout_of memory).limit ≡ threads }
         ensures first { IfOk result (λ r. machine_of A.state A.saved_state r ≡ first_machine (words_of memory) input.items (A.state main)) }
-        ensures place { IfOk result (λ r. place_at r ≡ place_of memory) }
+        ensures layout { IfOk result (λ r. layout_at r ≡ layout_of memory) }
         ensures limit { IfOk result (λ r. limit_of r ≡ threads) }
         ensures inside { IfOk result (λ r. (t : ℕ) → inside_of r t ≡ false) }
     {
@@ -103,16 +104,16 @@ impl<A: Actor> Runtime<A> {
         requires births { (machine_of A.state A.saved_state self.old).births < 2 ^ 64 - 1 }
         requires depth { (machine_of A.state A.saved_state self.old).lock.depth < 2 ^ 64 - 1 }
         requires keeps { KeepsRule (F.IsAlwaysCallable policy.now.answer) (FnReturnsAt F.Fn policy.now.answer) R.allows }
-        ensures chosen { IfOk result (λ kind. Chosen A.thread (place_at self.old) (FnReturnsAt F.Fn policy.now.answer) R.allows t
+        ensures chosen { IfOk result (λ kind. Chosen A.thread (layout_at self.old) (FnReturnsAt F.Fn policy.now.answer) R.allows t
             (machine_of A.state A.saved_state self.old) kind (machine_of A.state A.saved_state self.new)) }
-        ensures carries { IfOk result (λ kind. Carries A.is_reached A.thread (place_at self.old)
+        ensures keeps_order { IfOk result (λ kind. KeepsOrder A.is_reached A.thread (layout_at self.old)
             (machine_of A.state A.saved_state self.old) (machine_of A.state A.saved_state self.new)) }
         ensures inside { IfOk result (λ kind. (u : ℕ) → inside_of self.new u
             ≡ inside_after A.thread t (machine_of A.state A.saved_state self.old) kind (inside_of self.old) u) }
         ensures same { OnErr result (machine_of A.state A.saved_state self.new ≡ machine_of A.state A.saved_state self.old) }
         ensures kept { OnErr result ((u : ℕ) → inside_of self.new u ≡ inside_of self.old u) }
-        ensures room { OnErr result (MayGrow A.thread (place_at self.old) t (machine_of A.state A.saved_state self.old)) }
-        ensures place { place_at self.new ≡ place_at self.old }
+        ensures capacity { OnErr result (MayAllocate A.thread (layout_at self.old) t (machine_of A.state A.saved_state self.old)) }
+        ensures layout { layout_at self.new ≡ layout_at self.old }
         ensures limit { limit_of self.new ≡ limit_of self.old }
         ensures births { (machine_of A.state A.saved_state self.new).births ≤ (machine_of A.state A.saved_state self.old).births + 1 }
         ensures depth { (machine_of A.state A.saved_state self.new).lock.depth ≤ (machine_of A.state A.saved_state self.old).lock.depth + 1 }
@@ -121,6 +122,14 @@ impl<A: Actor> Runtime<A> {
         let kind = self.engine.turn(t, policy)?;
         self.inside[t as usize] = is_inside(kind, accesses);
         Ok(kind)
+    }
+
+    /// The memory, as the turns so far left it.
+    pub fn memory(&self) -> &Memory
+        ensures words { words_of result.now ≡ (machine_of A.state A.saved_state self.now).memory }
+        ensures layout { layout_of result.now ≡ layout_at self.now }
+    {
+        &self.engine.memory
     }
 
     /// How the program has ended, if it has.

@@ -125,6 +125,8 @@ fn the_turn_table(rt: HostRuntime) -> Result<(), Fail> {
     ];
     take_turns(&rt, &mut runtime, &policy, 2, &rows)?;
     assert_eq!(rt; runtime.order(), [0, 0, 1].as_slice());
+    assert_eq!(rt; runtime.memory().load(A, 8), Some(4));
+    assert_eq!(rt; runtime.memory().load(B, 8), Some(3));
     Ok(())
 }
 

@@ -1,15 +1,15 @@
 //! A started thread and its transaction.
 ghost use Rattle.std.specs.Prelude.{◌≡◌, ℕ, ◌<◌, ◌≤◌, ◌+◌, ◌^◌, Bool, true, false, List, [], ◌∷◌, length, is_some, Some, None, OnOk, OnErr, IfOk, IfSome, IfNone};
 ghost use Rattle.own_table.specs.declared.table.Holders.{Holders};
-ghost use Rattle.tx_events.specs.Memory.{Place, can_access, update};
+ghost use Rattle.tx_events.specs.Memory.{MemoryLayout, can_access, update};
 ghost use Rattle.tx_events.specs.Thread.{Answers};
 ghost use Rattle.tx_events.specs.declared.Reply.TheVariants.{Nothing};
-ghost use Rattle.tx_memory.specs.View.{place_of, words_of};
+ghost use Rattle.tx_memory.specs.View.{layout_of, words_of};
 ghost use Rattle.tx_runtime.specs.Saves.{saves_of, newest, handed, newest_without, IsFresh};
 ghost use Rattle.tx_runtime.specs.Threads.{local_of, tx_of, waits_of, is_sound, has_saves, stage_of, birth_in, closed_by};
 ghost use Rattle.tx_runtime.specs.declared.thread.Transaction.{Transaction};
 ghost use Rattle.tx_serial.specs.Machine.{OpenTx, GivingUp, no_waits, no_save, wait_more, waits_at, kept_or, oldest, forget_all, note, is_noted};
-ghost use Rattle.undo_log.specs.View.{notes_of, marks_of, HasRoom};
+ghost use Rattle.undo_log.specs.View.{notes_of, marks_of, HasCapacity};
 
 use std::alloc::{AllocError, Global};
 use tx_events::{Actor, Reply};
@@ -53,16 +53,6 @@ pub(crate) struct ThreadSlot<A, K> {
     pub(crate) log: Log,
 }
 
-/// A log with one savepoint, which notes nothing.
-pub(crate) fn fresh_log(alloc: Global) -> Result<Log, AllocError>
-    ensures { IfOk result IsFresh }
-{
-    let mut log = Log::new(alloc);
-    log.reserve(0)?;
-    let _ = log.mark();
-    Ok(log)
-}
-
 impl WaitCount {
     pub(crate) fn none() -> WaitCount
         ensures { waits_of result ≡ no_waits }
@@ -104,7 +94,7 @@ impl<A: Actor> ThreadSlot<A, A::Saved> {
         ensures runs { result.ended ≡ false }
         ensures tx { result.tx ≡ None }
         ensures waits { waits_of result.waits ≡ no_waits }
-        ensures sound { (p : Place) → is_sound p result ≡ true }
+        ensures sound { (p : MemoryLayout) → is_sound p result ≡ true }
     {
         ThreadSlot {
             actor,
@@ -149,8 +139,8 @@ impl<A: Actor> ThreadSlot<A, A::Saved> {
     pub(crate) fn ready(&mut self) -> Result<(), AllocError>
         ensures local { (holders : Holders) (t : ℕ) → local_of A.state A.saved_state holders t self.new ≡ local_of A.state A.saved_state holders t self.old }
         ensures waits { self.new.waits ≡ self.old.waits }
-        ensures sound { (p : Place) → is_sound p self.new ≡ is_sound p self.old }
-        ensures room { OnOk result (A.has_room self.new.actor) }
+        ensures sound { (p : MemoryLayout) → is_sound p self.new ≡ is_sound p self.old }
+        ensures capacity { OnOk result (A.has_capacity self.new.actor) }
     {
         self.actor.ready()
     }
@@ -159,8 +149,8 @@ impl<A: Actor> ThreadSlot<A, A::Saved> {
     pub(crate) fn ready_to_note(&mut self, word: u64) -> Result<(), AllocError>
         ensures local { (holders : Holders) (t : ℕ) → local_of A.state A.saved_state holders t self.new ≡ local_of A.state A.saved_state holders t self.old }
         ensures waits { self.new.waits ≡ self.old.waits }
-        ensures sound { (p : Place) → is_sound p self.new ≡ is_sound p self.old }
-        ensures room { OnOk result (A.has_room self.new.actor × HasRoom self.new.log) }
+        ensures sound { (p : MemoryLayout) → is_sound p self.new ≡ is_sound p self.old }
+        ensures capacity { OnOk result (A.has_capacity self.new.actor × HasCapacity self.new.log) }
     {
         self.log.reserve(word)?;
         self.actor.ready()
@@ -168,14 +158,14 @@ impl<A: Actor> ThreadSlot<A, A::Saved> {
 
     /// Goes on after the next event, which was answered so. Its waits are over.
     pub(crate) fn go_on(&mut self, reply: Reply)
-        requires room { A.has_room self.old.actor }
+        requires capacity { A.has_capacity self.old.actor }
         requires answers { Answers (A.thread.next (A.state self.old.actor)) reply }
         ensures local { (holders : Holders) (t : ℕ) → local_of A.state A.saved_state holders t self.new
             ≡ record (local_of A.state A.saved_state holders t self.old) {
               state = A.thread.after (A.state self.old.actor) reply;
             } }
         ensures waits { waits_of self.new.waits ≡ no_waits }
-        ensures sound { (p : Place) → is_sound p self.new ≡ is_sound p self.old }
+        ensures sound { (p : MemoryLayout) → is_sound p self.new ≡ is_sound p self.old }
     {
         self.actor.take(reply);
         self.waits = WaitCount::none();
@@ -183,7 +173,7 @@ impl<A: Actor> ThreadSlot<A, A::Saved> {
 
     /// Goes on after `Done`: the thread has ended.
     pub(crate) fn finish(&mut self)
-        requires room { A.has_room self.old.actor }
+        requires capacity { A.has_capacity self.old.actor }
         requires answers { Answers (A.thread.next (A.state self.old.actor)) Nothing }
         ensures local { (holders : Holders) (t : ℕ) → local_of A.state A.saved_state holders t self.new
             ≡ record (local_of A.state A.saved_state holders t self.old) {
@@ -191,7 +181,7 @@ impl<A: Actor> ThreadSlot<A, A::Saved> {
               ended = true;
             } }
         ensures waits { waits_of self.new.waits ≡ no_waits }
-        ensures sound { (p : Place) → is_sound p self.new ≡ is_sound p self.old }
+        ensures sound { (p : MemoryLayout) → is_sound p self.new ≡ is_sound p self.old }
     {
         self.go_on(Reply::Nothing);
         self.ended = true;
@@ -201,20 +191,20 @@ impl<A: Actor> ThreadSlot<A, A::Saved> {
     pub(crate) fn wait(&mut self, word: u64, least: u64)
         ensures local { (holders : Holders) (t : ℕ) → local_of A.state A.saved_state holders t self.new ≡ local_of A.state A.saved_state holders t self.old }
         ensures waits { waits_of self.new.waits ≡ wait_more (waits_of self.old.waits) word least }
-        ensures sound { (p : Place) → is_sound p self.new ≡ is_sound p self.old }
+        ensures sound { (p : MemoryLayout) → is_sound p self.new ≡ is_sound p self.old }
     {
         self.waits = self.waits.and_one(word, least);
     }
 
     /// Notes what the word holds, before a store to it.
     pub(crate) fn note(&mut self, word: u64, old: u64)
-        requires room { HasRoom self.old.log }
+        requires capacity { HasCapacity self.old.log }
         requires live { has_saves self.old.tx ≡ true }
         ensures local { (holders : Holders) (t : ℕ) → local_of A.state A.saved_state holders t self.new
             ≡ record (local_of A.state A.saved_state holders t self.old) {
               tx = tx_of A.saved_state self.old.tx (note (saves_of self.old.log) word old);
             } }
-        ensures sound { (p : Place) → can_access p word 8 ≡ true → is_sound p self.old ≡ true → is_sound p self.new ≡ true }
+        ensures sound { (p : MemoryLayout) → can_access p word 8 ≡ true → is_sound p self.old ≡ true → is_sound p self.new ≡ true }
         ensures actor { self.new.actor ≡ self.old.actor }
     {
         if self.log.marks().len() > 0 {
@@ -224,13 +214,13 @@ impl<A: Actor> ThreadSlot<A, A::Saved> {
 
     /// Sets a savepoint.
     pub(crate) fn mark(&mut self)
-        requires room { HasRoom self.old.log }
+        requires capacity { HasCapacity self.old.log }
         requires live { has_saves self.old.tx ≡ true }
         ensures local { (holders : Holders) (t : ℕ) → local_of A.state A.saved_state holders t self.new
             ≡ record (local_of A.state A.saved_state holders t self.old) {
               tx = tx_of A.saved_state self.old.tx (no_save ∷ saves_of self.old.log);
             } }
-        ensures sound { (p : Place) → is_sound p self.old ≡ true → is_sound p self.new ≡ true }
+        ensures sound { (p : MemoryLayout) → is_sound p self.old ≡ true → is_sound p self.new ≡ true }
         ensures actor { self.new.actor ≡ self.old.actor }
     {
         let _ = self.log.mark();
@@ -243,7 +233,7 @@ impl<A: Actor> ThreadSlot<A, A::Saved> {
             ≡ record (local_of A.state A.saved_state holders t self.old) {
               tx = tx_of A.saved_state self.old.tx (handed (saves_of self.old.log));
             } }
-        ensures sound { (p : Place) → is_sound p self.old ≡ true → is_sound p self.new ≡ true }
+        ensures sound { (p : MemoryLayout) → is_sound p self.old ≡ true → is_sound p self.new ≡ true }
         ensures actor { self.new.actor ≡ self.old.actor }
     {
         let mark = self.log.marks().len() - 1;
@@ -252,9 +242,9 @@ impl<A: Actor> ThreadSlot<A, A::Saved> {
 
     /// Goes on after a `Store`, and notes what the word held before.
     pub(crate) fn write(&mut self, word: u64, old: u64)
-        requires actor { A.has_room self.old.actor }
+        requires actor { A.has_capacity self.old.actor }
         requires answers { Answers (A.thread.next (A.state self.old.actor)) Nothing }
-        requires room { HasRoom self.old.log }
+        requires capacity { HasCapacity self.old.log }
         requires live { has_saves self.old.tx ≡ true }
         ensures local { (holders : Holders) (t : ℕ) → local_of A.state A.saved_state holders t self.new
             ≡ record (local_of A.state A.saved_state holders t self.old) {
@@ -262,7 +252,7 @@ impl<A: Actor> ThreadSlot<A, A::Saved> {
               tx = tx_of A.saved_state self.old.tx (note (saves_of self.old.log) word old);
             } }
         ensures waits { waits_of self.new.waits ≡ no_waits }
-        ensures sound { (p : Place) → can_access p word 8 ≡ true → is_sound p self.old ≡ true → is_sound p self.new ≡ true }
+        ensures sound { (p : MemoryLayout) → can_access p word 8 ≡ true → is_sound p self.old ≡ true → is_sound p self.new ≡ true }
     {
         self.note(word, old);
         self.go_on(Reply::Nothing);
@@ -270,9 +260,9 @@ impl<A: Actor> ThreadSlot<A, A::Saved> {
 
     /// Enters an atomic block in another one.
     pub(crate) fn enter(&mut self)
-        requires actor { A.has_room self.old.actor }
+        requires actor { A.has_capacity self.old.actor }
         requires answers { Answers (A.thread.next (A.state self.old.actor)) Nothing }
-        requires room { HasRoom self.old.log }
+        requires capacity { HasCapacity self.old.log }
         requires live { has_saves self.old.tx ≡ true }
         ensures local { (holders : Holders) (t : ℕ) → local_of A.state A.saved_state holders t self.new
             ≡ record (local_of A.state A.saved_state holders t self.old) {
@@ -280,7 +270,7 @@ impl<A: Actor> ThreadSlot<A, A::Saved> {
               tx = tx_of A.saved_state self.old.tx (no_save ∷ saves_of self.old.log);
             } }
         ensures waits { waits_of self.new.waits ≡ no_waits }
-        ensures sound { (p : Place) → is_sound p self.old ≡ true → is_sound p self.new ≡ true }
+        ensures sound { (p : MemoryLayout) → is_sound p self.old ≡ true → is_sound p self.new ≡ true }
     {
         self.mark();
         self.go_on(Reply::Nothing);
@@ -288,7 +278,7 @@ impl<A: Actor> ThreadSlot<A, A::Saved> {
 
     /// Leaves an atomic block that is in another one.
     pub(crate) fn leave_inner(&mut self)
-        requires actor { A.has_room self.old.actor }
+        requires actor { A.has_capacity self.old.actor }
         requires answers { Answers (A.thread.next (A.state self.old.actor)) Nothing }
         requires marks { 1 < length (marks_of self.old.log) }
         ensures local { (holders : Holders) (t : ℕ) → local_of A.state A.saved_state holders t self.new
@@ -297,7 +287,7 @@ impl<A: Actor> ThreadSlot<A, A::Saved> {
               tx = tx_of A.saved_state self.old.tx (handed (saves_of self.old.log));
             } }
         ensures waits { waits_of self.new.waits ≡ no_waits }
-        ensures sound { (p : Place) → is_sound p self.old ≡ true → is_sound p self.new ≡ true }
+        ensures sound { (p : MemoryLayout) → is_sound p self.old ≡ true → is_sound p self.new ≡ true }
     {
         self.drop_savepoint();
         self.go_on(Reply::Nothing);
@@ -305,7 +295,7 @@ impl<A: Actor> ThreadSlot<A, A::Saved> {
 
     /// Leaves the outermost atomic block.
     pub(crate) fn leave(&mut self, holds: bool)
-        requires actor { A.has_room self.old.actor }
+        requires actor { A.has_capacity self.old.actor }
         requires answers { Answers (A.thread.next (A.state self.old.actor)) Nothing }
         requires tx { is_some self.old.tx ≡ true }
         ensures local { (holders : Holders) (t : ℕ) → local_of A.state A.saved_state holders t self.new
@@ -314,7 +304,7 @@ impl<A: Actor> ThreadSlot<A, A::Saved> {
               tx = closed_by holds (birth_in self.old.tx);
             } }
         ensures waits { waits_of self.new.waits ≡ no_waits }
-        ensures sound { (p : Place) → is_sound p self.new ≡ true }
+        ensures sound { (p : MemoryLayout) → is_sound p self.new ≡ true }
     {
         self.close(holds);
         self.go_on(Reply::Nothing);
@@ -326,7 +316,7 @@ impl<A: Actor> ThreadSlot<A, A::Saved> {
         ensures local { (holders : Holders) (t : ℕ) → local_of A.state A.saved_state holders t self.new
             ≡ record (local_of A.state A.saved_state holders t self.old) { tx = closed_by holds (birth_in self.old.tx) } }
         ensures waits { waits_of self.new.waits ≡ no_waits }
-        ensures sound { (p : Place) → is_sound p self.new ≡ true }
+        ensures sound { (p : MemoryLayout) → is_sound p self.new ≡ true }
         ensures actor { self.new.actor ≡ self.old.actor }
     {
         self.log.clear();
@@ -342,17 +332,19 @@ impl<A: Actor> ThreadSlot<A, A::Saved> {
 
     /// The transaction begins to give up.
     pub(crate) fn give_up(&mut self)
+        requires { 0 < length (marks_of self.old.log) }
         ensures local { (holders : Holders) (t : ℕ) (x : Transaction A.Saved) → self.old.tx ≡ Some x
             → local_of A.state A.saved_state holders t self.new ≡ record (local_of A.state A.saved_state holders t self.old) {
               tx = GivingUp x.birth (A.saved_state x.kept) (saves_of self.old.log);
             } }
         ensures waits { waits_of self.new.waits ≡ no_waits }
-        ensures sound { (p : Place) → has_saves self.old.tx ≡ true → is_sound p self.old ≡ true → is_sound p self.new ≡ true }
+        ensures sound { (p : MemoryLayout) → has_saves self.old.tx ≡ true → is_sound p self.old ≡ true → is_sound p self.new ≡ true }
     {
+        self.order();
+        self.waits = WaitCount::none();
         if let Some(tx) = &mut self.tx {
             tx.stage = Stage::Undoing;
         }
-        self.waits = WaitCount::none();
     }
 
     /// Copies the kept state.
@@ -366,20 +358,33 @@ impl<A: Actor> ThreadSlot<A, A::Saved> {
         }
     }
 
-    /// Stands again just after the outermost BeginAtomic, in this copy of the kept state and with this log.
-    pub(crate) fn start_again(&mut self, copy: A::Saved, log: Log)
-        requires { IsFresh log }
+    /// Puts the notes of the newest savepoint in order, so that its words can be undone without a search.
+    fn order(&mut self)
+        requires { 0 < length (marks_of self.old.log) }
+        ensures local { (holders : Holders) (t : ℕ) → local_of A.state A.saved_state holders t self.new ≡ local_of A.state A.saved_state holders t self.old }
+        ensures saves { saves_of self.new.log ≡ saves_of self.old.log }
+        ensures marks { marks_of self.new.log ≡ marks_of self.old.log }
+        ensures waits { self.new.waits ≡ self.old.waits }
+        ensures tx { self.new.tx ≡ self.old.tx }
+        ensures sound { (p : MemoryLayout) → is_sound p self.old ≡ true → is_sound p self.new ≡ true }
+    {
+        self.log.order_newest();
+    }
+
+    /// Stands again just after the outermost BeginAtomic, in this copy of the kept state.
+    pub(crate) fn start_again(&mut self, copy: A::Saved)
+        requires { 0 < length (marks_of self.old.log) }
         ensures local { (holders : Holders) (t : ℕ) (x : Transaction A.Saved) → self.old.tx ≡ Some x
             → local_of A.state A.saved_state holders t self.new ≡ record (local_of A.state A.saved_state holders t self.old) {
               state = A.saved_state copy;
               tx = OpenTx x.birth (A.saved_state x.kept) (no_save ∷ []);
             } }
         ensures waits { waits_of self.new.waits ≡ no_waits }
-        ensures sound { (p : Place) → is_some self.old.tx ≡ true → is_sound p self.new ≡ true }
+        ensures sound { (p : MemoryLayout) → is_some self.old.tx ≡ true → is_sound p self.new ≡ true }
     {
         self.actor.restore(copy);
         self.waits = WaitCount::none();
-        self.log = log;
+        self.log.start_over();
         if let Some(tx) = &mut self.tx {
             tx.stage = Stage::Open;
         }
@@ -387,8 +392,8 @@ impl<A: Actor> ThreadSlot<A, A::Saved> {
 
     /// Enters an outermost atomic block. On `AllocError` the thread is as before.
     pub(crate) fn begin(&mut self, birth: u64) -> Result<(), AllocError>
-        requires room { A.has_room self.old.actor }
-        requires log { HasRoom self.old.log }
+        requires capacity { A.has_capacity self.old.actor }
+        requires log { HasCapacity self.old.log }
         requires answers { Answers (A.thread.next (A.state self.old.actor)) Nothing }
         requires notes { notes_of self.old.log ≡ [] }
         requires marks { marks_of self.old.log ≡ [] }
@@ -398,7 +403,7 @@ impl<A: Actor> ThreadSlot<A, A::Saved> {
               tx = OpenTx birth (A.thread.after (A.state self.old.actor) Nothing) (no_save ∷ []);
             }) }
         ensures waits { OnOk result (waits_of self.new.waits ≡ no_waits) }
-        ensures sound { (p : Place) → is_sound p self.old ≡ true → is_sound p self.new ≡ true }
+        ensures sound { (p : MemoryLayout) → is_sound p self.old ≡ true → is_sound p self.new ≡ true }
         ensures same { OnErr result ((holders : Holders) (t : ℕ) → local_of A.state A.saved_state holders t self.new ≡ local_of A.state A.saved_state holders t self.old) }
         ensures same_waits { OnErr result (self.new.waits ≡ self.old.waits) }
     {
@@ -424,9 +429,9 @@ impl<A: Actor> ThreadSlot<A, A::Saved> {
 
     /// Gives the word back what it held at the outermost savepoint, and forgets its notes.
     pub(crate) fn undo_word(&mut self, memory: &mut Memory, word: u64)
-        requires word { can_access (place_of memory.old) word 8 ≡ true }
-        requires sound { is_sound (place_of memory.old) self.old ≡ true }
-        ensures place { place_of memory.new ≡ place_of memory.old }
+        requires word { can_access (layout_of memory.old) word 8 ≡ true }
+        requires sound { is_sound (layout_of memory.old) self.old ≡ true }
+        ensures layout { layout_of memory.new ≡ layout_of memory.old }
         ensures words { words_of memory.new ≡ update (words_of memory.old) word
             (kept_or (oldest (saves_of self.old.log) word) (words_of memory.old word)) }
         ensures local { (holders : Holders) (t : ℕ) → local_of A.state A.saved_state holders t self.new
@@ -434,7 +439,7 @@ impl<A: Actor> ThreadSlot<A, A::Saved> {
               tx = tx_of A.saved_state self.old.tx (forget_all (saves_of self.old.log) word);
             } }
         ensures waits { waits_of self.new.waits ≡ no_waits }
-        ensures sound { is_sound (place_of memory.old) self.new ≡ true }
+        ensures sound { is_sound (layout_of memory.old) self.new ≡ true }
         ensures tx { self.new.tx ≡ self.old.tx }
         ensures actor { self.new.actor ≡ self.old.actor }
     {
@@ -446,12 +451,12 @@ impl<A: Actor> ThreadSlot<A, A::Saved> {
     /// exactly where it notes none, and then nothing changes.
     pub(crate) fn undo_newest(&mut self, memory: &mut Memory) -> Option<u64>
         requires mark { 0 < length (marks_of self.old.log) }
-        requires sound { is_sound (place_of memory.old) self.old ≡ true }
+        requires sound { is_sound (layout_of memory.old) self.old ≡ true }
         ensures none { IfNone result ((x : ℕ) → newest (saves_of self.old.log) x ≡ None) }
         ensures noted { IfSome result (λ w. is_noted (newest (saves_of self.old.log)) w ≡ true) }
         ensures least { IfSome result (λ w. (v : ℕ) → v < w → is_noted (newest (saves_of self.old.log)) v ≡ false) }
-        ensures access { IfSome result (λ w. can_access (place_of memory.old) w 8 ≡ true) }
-        ensures place { place_of memory.new ≡ place_of memory.old }
+        ensures access { IfSome result (λ w. can_access (layout_of memory.old) w 8 ≡ true) }
+        ensures layout { layout_of memory.new ≡ layout_of memory.old }
         ensures words { IfSome result (λ w. words_of memory.new ≡ update (words_of memory.old) w
             (kept_or (newest (saves_of self.old.log) w) (words_of memory.old w))) }
         ensures local { IfSome result (λ w. (holders : Holders) (t : ℕ) → local_of A.state A.saved_state holders t self.new
@@ -462,7 +467,32 @@ impl<A: Actor> ThreadSlot<A, A::Saved> {
         ensures same_words { IfNone result (words_of memory.new ≡ words_of memory.old) }
         ensures same { IfNone result ((holders : Holders) (t : ℕ) → local_of A.state A.saved_state holders t self.new ≡ local_of A.state A.saved_state holders t self.old) }
         ensures same_waits { IfNone result (self.new.waits ≡ self.old.waits) }
-        ensures sound { is_sound (place_of memory.old) self.new ≡ true }
+        ensures sound { is_sound (layout_of memory.old) self.new ≡ true }
+    {
+        self.order();
+        self.undo_least(memory)
+    }
+
+    /// The same, in whatever order the notes stand.
+    fn undo_least(&mut self, memory: &mut Memory) -> Option<u64>
+        requires mark { 0 < length (marks_of self.old.log) }
+        requires sound { is_sound (layout_of memory.old) self.old ≡ true }
+        ensures none { IfNone result ((x : ℕ) → newest (saves_of self.old.log) x ≡ None) }
+        ensures noted { IfSome result (λ w. is_noted (newest (saves_of self.old.log)) w ≡ true) }
+        ensures least { IfSome result (λ w. (v : ℕ) → v < w → is_noted (newest (saves_of self.old.log)) v ≡ false) }
+        ensures access { IfSome result (λ w. can_access (layout_of memory.old) w 8 ≡ true) }
+        ensures layout { layout_of memory.new ≡ layout_of memory.old }
+        ensures words { IfSome result (λ w. words_of memory.new ≡ update (words_of memory.old) w
+            (kept_or (newest (saves_of self.old.log) w) (words_of memory.old w))) }
+        ensures local { IfSome result (λ w. (holders : Holders) (t : ℕ) → local_of A.state A.saved_state holders t self.new
+            ≡ record (local_of A.state A.saved_state holders t self.old) {
+              tx = tx_of A.saved_state self.old.tx (newest_without w (saves_of self.old.log));
+            }) }
+        ensures waits { IfSome result (λ w. waits_of self.new.waits ≡ no_waits) }
+        ensures same_words { IfNone result (words_of memory.new ≡ words_of memory.old) }
+        ensures same { IfNone result ((holders : Holders) (t : ℕ) → local_of A.state A.saved_state holders t self.new ≡ local_of A.state A.saved_state holders t self.old) }
+        ensures same_waits { IfNone result (self.new.waits ≡ self.old.waits) }
+        ensures sound { is_sound (layout_of memory.old) self.new ≡ true }
     {
         let Some(word) = self.log.undo_newest(memory) else {
             return None;

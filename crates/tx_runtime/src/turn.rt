@@ -3,9 +3,9 @@ ghost use Rattle.std.specs.Prelude.{◌≡◌, ℕ, ◌<◌, ◌≤◌, ◌^◌,
 ghost use Rattle.std.specs.Fn.{FnReturnsAt};
 ghost use Rattle.choosers.specs.Answers.{KeepsRule};
 ghost use Rattle.tx_runtime.specs.Here.{GoesOutside, GoesInside, Chosen, Turns};
-ghost use Rattle.tx_runtime.specs.Room.{MayGrow};
+ghost use Rattle.tx_runtime.specs.Allocation.{MayAllocate};
 ghost use Rattle.tx_runtime.specs.Standing.{StandsAt};
-ghost use Rattle.tx_runtime.specs.View.{machine_in, place_in};
+ghost use Rattle.tx_runtime.specs.View.{machine_in, layout_in};
 ghost use Rattle.tx_serial.specs.Run.{is_access, accesses_in};
 
 use crate::engine::Engine;
@@ -87,11 +87,11 @@ impl<A: Actor> Engine<A, A::Saved> {
         requires births { self.old.births < 2 ^ 64 - 1 }
         requires depth { self.old.lock.depth < 2 ^ 64 - 1 }
         requires keeps { KeepsRule (F.IsAlwaysCallable policy.now.answer) (FnReturnsAt F.Fn policy.now.answer) R.allows }
-        ensures chosen { IfOk result (λ kind. Chosen A.thread (place_in self.old) (FnReturnsAt F.Fn policy.now.answer) R.allows t
+        ensures chosen { IfOk result (λ kind. Chosen A.thread (layout_in self.old) (FnReturnsAt F.Fn policy.now.answer) R.allows t
             (machine_in A.state A.saved_state self.old) kind (machine_in A.state A.saved_state self.new)) }
         ensures same { OnErr result (machine_in A.state A.saved_state self.new ≡ machine_in A.state A.saved_state self.old) }
-        ensures room { OnErr result (MayGrow A.thread (place_in self.old) t (machine_in A.state A.saved_state self.old)) }
-        ensures place { place_in self.new ≡ place_in self.old }
+        ensures capacity { OnErr result (MayAllocate A.thread (layout_in self.old) t (machine_in A.state A.saved_state self.old)) }
+        ensures layout { layout_in self.new ≡ layout_in self.old }
     {
         match self.standing(t) {
             Standing::Still => Ok(TurnKind::Idle),
@@ -109,7 +109,7 @@ impl<A: Actor> Engine<A, A::Saved> {
         requires depth { self.old.lock.depth < 2 ^ 64 - 1 }
         ensures turned { IfOk result (λ kind. Turns A.state A.saved_state A.thread t self.old kind self.new) }
         ensures same { OnErr result (machine_in A.state A.saved_state self.new ≡ machine_in A.state A.saved_state self.old) }
-        ensures place { place_in self.new ≡ place_in self.old }
+        ensures layout { layout_in self.new ≡ layout_in self.old }
     {
         match event {
             Event::Silent => self.silent(t),
@@ -147,11 +147,11 @@ impl<A: Actor> Engine<A, A::Saved> {
     ) -> Result<TurnKind, AllocError>
         requires here { GoesInside A.is_reached A.thread t (machine_in A.state A.saved_state self.old) event }
         requires keeps { KeepsRule (F.IsAlwaysCallable policy.now.answer) (FnReturnsAt F.Fn policy.now.answer) R.allows }
-        ensures chosen { IfOk result (λ kind. Chosen A.thread (place_in self.old) (FnReturnsAt F.Fn policy.now.answer) R.allows t
+        ensures chosen { IfOk result (λ kind. Chosen A.thread (layout_in self.old) (FnReturnsAt F.Fn policy.now.answer) R.allows t
             (machine_in A.state A.saved_state self.old) kind (machine_in A.state A.saved_state self.new)) }
         ensures same { OnErr result (machine_in A.state A.saved_state self.new ≡ machine_in A.state A.saved_state self.old) }
-        ensures room { OnErr result (MayGrow A.thread (place_in self.old) t (machine_in A.state A.saved_state self.old)) }
-        ensures place { place_in self.new ≡ place_in self.old }
+        ensures capacity { OnErr result (MayAllocate A.thread (layout_in self.old) t (machine_in A.state A.saved_state self.old)) }
+        ensures layout { layout_in self.new ≡ layout_in self.old }
     {
         match event {
             Event::Load {
@@ -175,8 +175,8 @@ impl<A: Actor> Engine<A, A::Saved> {
         requires alone { is_access event ≡ false }
         ensures turned { IfOk result (λ kind. Turns A.state A.saved_state A.thread t self.old kind self.new) }
         ensures same { OnErr result (machine_in A.state A.saved_state self.new ≡ machine_in A.state A.saved_state self.old) }
-        ensures room { OnErr result (MayGrow A.thread (place_in self.old) t (machine_in A.state A.saved_state self.old)) }
-        ensures place { place_in self.new ≡ place_in self.old }
+        ensures capacity { OnErr result (MayAllocate A.thread (layout_in self.old) t (machine_in A.state A.saved_state self.old)) }
+        ensures layout { layout_in self.new ≡ layout_in self.old }
     {
         match event {
             Event::Silent => self.pass(t),

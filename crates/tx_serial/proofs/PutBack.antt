@@ -4,14 +4,14 @@ use Rattle.std.specs.Prelude.{◌&&◌}
 use Rattle.std.proofs.lemmas.Bool.{eqb-true, eqb-false, true≢false, false≢true, cases_lt}
 use Rattle.std.proofs.Common.{inl, inr}
 use Rattle.tx_events.specs.Thread.{Thread}
-use Rattle.tx_events.specs.Memory.{Place}
+use Rattle.tx_events.specs.Memory.{MemoryLayout}
 use Rattle.tx_events.specs.World.{World, Alive, Lock}
 use Rattle.tx_serial.specs.Machine.{Local, Tx, NoTx, OpenTx, GivingUp, Closing, kept_or, oldest, held_by, wrote_by, is_live, live_in, eldest}
 use Rattle.tx_serial.specs.Shows.{ShowsTx, ShowsThread, saves_of, put_back_by, put_back}
-use Rattle.tx_serial.proofs.Agrees.{undoes, Going}
-use Rattle.tx_serial.proofs.Search.{eldest_none, eldest_some, eldest_below}
-use Rattle.tx_serial.proofs.Levels.{bottom, none_oldest}
-use Rattle.tx_serial.proofs.Here.{and_false, not_true, based}
+use Rattle.tx_serial.proofs.WorldAgreement.{undoes, Going}
+use Rattle.tx_serial.proofs.SearchLemmas.{eldest_none, eldest_some, eldest_below}
+use Rattle.tx_serial.proofs.SavepointLevels.{bottom, none_oldest}
+use Rattle.tx_serial.proofs.TurnContext.{and_false, not_true, based}
 
 module _ {S : Type 0} (threads : ℕ → Option (Local S)) (x : ℕ) where
   abbrev Same : ℕ → Type 0
@@ -37,7 +37,7 @@ module _ {S : Type 0} (threads : ℕ → Option (Local S)) (x : ℕ) where
       apart : (u c k : ℕ) → c ≡ k → u < c → (u == k) ≡ false
       apart u c k e i = not_true (u == k) (λ j. let q = eqb-true u k j in absurd (omega (arith, e, i, q)))
 
-module _ {S : Type 0} (a : Thread S) (p : Place) (memory outside : ℕ → ℕ) where
+module _ {S : Type 0} (a : Thread S) (p : MemoryLayout) (memory outside : ℕ → ℕ) where
   -- a thread that has no live transaction that wrote the word
   same_tx : (x : ℕ) (start : S) (l : Local S) (tx : Tx S) → l.tx ≡ tx → ShowsTx a p memory outside start l tx → undoes (Some l) x ≡ false → (v : ℕ) → kept_or (oldest (saves_of tx) x) v ≡ v
   same_tx x start l NoTx e f h v = refl
@@ -71,7 +71,7 @@ module _ {S : Type 0} (a : Thread S) (p : Place) (memory outside : ℕ → ℕ) 
   holds_written x (Some l) None f h = absurd f
   holds_written x (Some l) (Some s) f h = ap (λ c. is_live l.tx && c) (not_true (l.wrote x) (λ i. true≢false (sym (f.holds x i) ∙ h))) ∙ and_false (is_live l.tx)
 
-module _ {S : Type 0} (a : Thread S) (p : Place) (memory : ℕ → ℕ) (threads : ℕ → Option (Local S)) (started : ℕ) (lock : Lock) (w : World S) (g : Going a p memory threads started lock w) where
+module _ {S : Type 0} (a : Thread S) (p : MemoryLayout) (memory : ℕ → ℕ) (threads : ℕ → Option (Local S)) (started : ℕ) (lock : Lock) (w : World S) (g : Going a p memory threads started lock w) where
   pub memory_put_back : (x : ℕ) → w.memory x ≡ put_back threads started x (memory x)
   memory_put_back x = by_found (eldest (λ u. undoes (threads u) x) (λ u. u) started) refl
     where

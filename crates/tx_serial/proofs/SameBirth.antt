@@ -12,13 +12,13 @@ use Rattle.tx_events.specs.declared.Event.{Event}
 use Rattle.tx_events.specs.declared.Event.TheVariants.{Silent, Load, Store, Out, Inp, Spawn, Join, BeginAtomic, EndAtomic, Raise, BeginSync, EndSync, Done, Stop}
 use Rattle.tx_events.specs.declared.Reply.TheVariants.{Nothing, Id}
 use Rattle.tx_events.specs.Thread.{Thread}
-use Rattle.tx_events.specs.Memory.{update, Place, can_access, word_of, word_bound}
+use Rattle.tx_events.specs.Memory.{update, MemoryLayout, can_access, word_of, word_bound}
 use Rattle.tx_events.specs.World.{target}
 use Rattle.tx_serial.specs.Machine.{Machine, Local, Tx, NoTx, OpenTx, GivingUp, Closing, Save, is_noted, birth, birth_of, has_tx, tx_in, least, blocker, lock_owner, busy, clash_of}
 use Rattle.tx_serial.specs.Turn.{Turned, bare, gives_up, clashes, load_in, store_in, load_out, store_out, joins, begins, sync_in, sync_idle, closes, outermost, commits, cancels_by, cancels, raises, in_does, out_does, without, lets_go, given_back, gives_back, turn_in, turn_of, turn_at, turn}
-use Rattle.tx_serial.proofs.Frames.{at_update}
+use Rattle.tx_serial.proofs.UntouchedThreads.{at_update}
 
-module _ {S : Type 0} (a : Thread S) (p : Place) (t : ℕ) (m : Machine S) (l : Local S) (is : m.threads t ≡ Some l) where
+module _ {S : Type 0} (a : Thread S) (p : MemoryLayout) (t : ℕ) (m : Machine S) (l : Local S) (is : m.threads t ≡ Some l) where
   -- every transaction that is there before and after has one birth
   abbrev pub SameBirth : (ℕ → Option (Local S)) → Type 0
   SameBirth threads = (u : ℕ) → tx_in (m.threads u) ≡ true → tx_in (threads u) ≡ true → birth_of (threads u) ≡ birth_of (m.threads u)
@@ -179,7 +179,7 @@ module _ {S : Type 0} (a : Thread S) (p : Place) (t : ℕ) (m : Machine S) (l : 
   tx_same answer (GivingUp b kk ss) e = back_same b kk ss e (least l.held (word_bound p))
   tx_same answer (Closing b) e = go_same b e (least l.held (word_bound p))
 
-module _ {S : Type 0} (a : Thread S) (p : Place) (answer : Clash → Choice) (t : ℕ) (m : Machine S) where
+module _ {S : Type 0} (a : Thread S) (p : MemoryLayout) (answer : Clash → Choice) (t : ℕ) (m : Machine S) where
   abbrev Keeps : Turned S → Type 0
   Keeps r = (u : ℕ) → tx_in (m.threads u) ≡ true → tx_in (r.machine.threads u) ≡ true → birth_of (r.machine.threads u) ≡ birth_of (m.threads u)
 

@@ -5,18 +5,18 @@ use Rattle.choosers.specs.declared.Clash.{Clash}
 use Rattle.choosers.specs.declared.Choice.{Choice}
 use Rattle.tx_events.specs.declared.End.{End}
 use Rattle.tx_events.specs.Thread.{Thread, Lawful}
-use Rattle.tx_events.specs.Memory.{Place}
+use Rattle.tx_events.specs.Memory.{MemoryLayout}
 use Rattle.tx_events.specs.World.{World, Replays, first_world}
 use Rattle.tx_serial.specs.Machine.{Machine, Tx, NoTx, OpenTx, GivingUp, Closing}
 use Rattle.tx_serial.specs.Turn.{Slot, turns, turn, turn_at, turn_of, first_machine}
 use Rattle.tx_serial.specs.Bound.{Tally, no_tally, tally_in, tallied, AtMost, is_waiting, zeros}
-use Rattle.tx_serial.proofs.Weight.{Lone}
-use Rattle.tx_serial.proofs.Alone.{lone_turn}
-use Rattle.tx_serial.proofs.Ends.{Paid}
-use Rattle.tx_serial.proofs.Comes.{turn_bound, paid, quiet, shown}
-use Rattle.tx_serial.proofs.Erase.{erase, erase_tx, erase_local, erase_opt, turns_erased, first_erased}
+use Rattle.tx_serial.proofs.PendingWork.{Lone}
+use Rattle.tx_serial.proofs.AloneThread.{lone_turn}
+use Rattle.tx_serial.proofs.AloneEnds.{Paid}
+use Rattle.tx_serial.proofs.PartialRuns.{turn_bound, paid, quiet, shown}
+use Rattle.tx_serial.proofs.HistoryErased.{erase, erase_tx, erase_local, erase_opt, turns_erased, first_erased}
 
-module _ {S : Type 0} (R : S → Type 0) (a : Thread S) (laws : Lawful S R a) (p : Place) (small : p.limit ≤ 64) (memory : ℕ → ℕ) (input : List ℕ) (main : S) (reached : R main) (free : a.blocks main ≡ [])
+module _ {S : Type 0} (R : S → Type 0) (a : Thread S) (laws : Lawful S R a) (p : MemoryLayout) (small : p.limit ≤ 64) (memory : ℕ → ℕ) (input : List ℕ) (main : S) (reached : R main) (free : a.blocks main ≡ [])
     (steps accesses : ℕ) (order : List ℕ) (v : World (S × Tally)) (e : End) (h : Replays (tallied a) p (first_world memory input (main, no_tally)) order v)
     (k : AtMost a p steps accesses (first_world memory input (main, no_tally)) order v h) (f : v.end ≡ Some e) (qs : List Slot) where
   abbrev last : Machine (S × Tally)

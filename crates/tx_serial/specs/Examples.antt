@@ -6,7 +6,7 @@ use Rattle.tx_events.specs.declared.Event.{Event}
 use Rattle.tx_events.specs.declared.Event.TheVariants.{Silent, Store, Spawn, BeginAtomic, EndAtomic, Raise, Done}
 use Rattle.tx_events.specs.declared.TurnKind.{TurnKind}
 use Rattle.tx_events.specs.Thread.{Thread}
-use Rattle.tx_events.specs.Memory.{Place}
+use Rattle.tx_events.specs.Memory.{MemoryLayout}
 use Rattle.tx_serial.specs.Machine.{Machine}
 use Rattle.tx_serial.specs.Turn.{turn, first_machine}
 
@@ -24,7 +24,7 @@ abbrev pub script : List Event → Thread (List Event)
 script child = record { next = first; after = λ s r. others s; child = λ s n f x. child; blocks = λ s. [] }
 
 -- globals of two words, at 65536 and 65544
-abbrev pub two_words : Place
+abbrev pub two_words : MemoryLayout
 two_words = record { globals = 16; limit = 64 }
 
 -- what turns come to: their kinds, the order, how many births were drawn, and the two words

@@ -9,13 +9,13 @@ use Rattle.tx_events.specs.declared.Event.TheVariants.{Silent, Load, Store, Out,
 use Rattle.tx_events.specs.declared.TurnKind.{TurnKind}
 use Rattle.tx_events.specs.declared.TurnKind.TheVariants.{Ran, Waited, BlockWait, JoinWait, Rolled, Undone, Released, Idle}
 use Rattle.tx_events.specs.Thread.{Thread}
-use Rattle.tx_events.specs.Memory.{Place, can_access, word_of, word_bound}
+use Rattle.tx_events.specs.Memory.{MemoryLayout, can_access, word_of, word_bound}
 use Rattle.tx_events.specs.World.{target}
 use Rattle.tx_serial.specs.Machine.{Machine, Local, Tx, NoTx, OpenTx, GivingUp, Closing, Save, least, blocker, lock_owner, busy, clash_of, is_noted}
 use Rattle.tx_serial.specs.Turn.{number_of}
 
 -- The event is a mapped and aligned access to the word x: a store, or a load.
-abbrev pub Accesses : Place → Event → Bool → ℕ → Type 0
+abbrev pub Accesses : MemoryLayout → Event → Bool → ℕ → Type 0
 Accesses p (Load addr size vol) store x = (can_access p addr size ≡ true) × (store ≡ false) × (x ≡ word_of addr)
 Accesses p (Store addr size value vol) store x = (can_access p addr size ≡ true) × (store ≡ true) × (x ≡ word_of addr)
 Accesses p Silent store x = ⊥
@@ -32,7 +32,7 @@ Accesses p Done store x = ⊥
 Accesses p (Stop end) store x = ⊥
 
 -- The access is one that thread u blocks, of all that block it the one whose birth is least.
-abbrev pub Blocked : {S : Type 0} → Place → ℕ → Machine S → Event → Bool → ℕ → ℕ → Type 0
+abbrev pub Blocked : {S : Type 0} → MemoryLayout → ℕ → Machine S → Event → Bool → ℕ → ℕ → Type 0
 Blocked p t m e store x u = Accesses p e store x × (blocker t store x m ≡ Some u)
 
 -- Outside a transaction thread u shuts the block: it holds the lock, or, where no other thread does, BeginSync meets its
@@ -63,12 +63,12 @@ pub record Unended {S : Type 0} (t : ℕ) (m : Machine S) (e : Event) (n : ℕ) 
   pub runs : joined.ended ≡ false
 
 -- the least word that the newest savepoint notes
-abbrev pub NewestNotes : Place → List Save → ℕ → Type 0
+abbrev pub NewestNotes : MemoryLayout → List Save → ℕ → Type 0
 NewestNotes p [] x = ⊥
 NewestNotes p (n ∷ ss) x = least (is_noted n) (word_bound p) ≡ Some x
 
 -- A thread that goes on, and has no transaction, takes a turn of this kind. Ran comes where nothing else does.
-abbrev pub KindOut : {S : Type 0} → Thread S → Place → ℕ → Machine S → Local S → TurnKind → Type 0
+abbrev pub KindOut : {S : Type 0} → Thread S → MemoryLayout → ℕ → Machine S → Local S → TurnKind → Type 0
 KindOut a p t m l Ran = Unit {0}
 KindOut a p t m l (Waited x u) = (store : Bool) × Blocked p t m (a.next l.state) store x u
 KindOut a p t m l (BlockWait u) = Shut t m (a.next l.state) u
@@ -80,7 +80,7 @@ KindOut a p t m l Idle = ⊥
 
 -- And one whose transaction is open: at a blocked access the policy's answer decides; at a Raise that cancels a word
 -- goes back while the newest savepoint notes one.
-abbrev pub KindIn : {S : Type 0} → Thread S → Place → (Clash → Choice) → ℕ → Machine S → Local S → ℕ → List Save → TurnKind → Type 0
+abbrev pub KindIn : {S : Type 0} → Thread S → MemoryLayout → (Clash → Choice) → ℕ → Machine S → Local S → ℕ → List Save → TurnKind → Type 0
 KindIn a p answer t m l b ss Ran = Unit {0}
 KindIn a p answer t m l b ss (Waited x u) = (store : Bool) × Blocked p t m (a.next l.state) store x u × (answer (clash_of t store x m b u) ≡ Wait)
 KindIn a p answer t m l b ss (Rolled x u) = (store : Bool) × Blocked p t m (a.next l.state) store x u × (answer (clash_of t store x m b u) ≡ Yield)
@@ -92,7 +92,7 @@ KindIn a p answer t m l b ss Idle = ⊥
 
 -- While it gives up, the least held word goes back; while it closes, the least held word is let go.
 
-abbrev pub KindGiving : {S : Type 0} → Place → Local S → TurnKind → Type 0
+abbrev pub KindGiving : {S : Type 0} → MemoryLayout → Local S → TurnKind → Type 0
 KindGiving p l (Undone x) = least l.held (word_bound p) ≡ Some x
 KindGiving p l Ran = ⊥
 KindGiving p l (Waited x u) = ⊥
@@ -102,7 +102,7 @@ KindGiving p l (Rolled x u) = ⊥
 KindGiving p l (Released x) = ⊥
 KindGiving p l Idle = ⊥
 
-abbrev pub KindClosing : {S : Type 0} → Place → Local S → TurnKind → Type 0
+abbrev pub KindClosing : {S : Type 0} → MemoryLayout → Local S → TurnKind → Type 0
 KindClosing p l (Released x) = least l.held (word_bound p) ≡ Some x
 KindClosing p l Ran = ⊥
 KindClosing p l (Waited x u) = ⊥
@@ -112,7 +112,7 @@ KindClosing p l (Rolled x u) = ⊥
 KindClosing p l (Undone x) = ⊥
 KindClosing p l Idle = ⊥
 
-abbrev pub KindBy : {S : Type 0} → Thread S → Place → (Clash → Choice) → ℕ → Machine S → Local S → Tx S → TurnKind → Type 0
+abbrev pub KindBy : {S : Type 0} → Thread S → MemoryLayout → (Clash → Choice) → ℕ → Machine S → Local S → Tx S → TurnKind → Type 0
 KindBy a p answer t m l NoTx kind = KindOut a p t m l kind
 KindBy a p answer t m l (OpenTx b k ss) kind = KindIn a p answer t m l b ss kind
 KindBy a p answer t m l (GivingUp b k ss) kind = KindGiving p l kind
@@ -125,7 +125,7 @@ pub record GoesOn {S : Type 0} (t : ℕ) (m : Machine S) (l : Local S) : Type 0 
   pub up : l.ended ≡ false
 
 -- In the turn of thread t the policy is asked of this clash: t goes on, its transaction is open, and its access is blocked.
-pub record Asked {S : Type 0} (a : Thread S) (p : Place) (t : ℕ) (m : Machine S) (c : Clash) : Type 0 where
+pub record Asked {S : Type 0} (a : Thread S) (p : MemoryLayout) (t : ℕ) (m : Machine S) (c : Clash) : Type 0 where
   pub local : Local S
   pub goes : GoesOn t m local
   pub birth : ℕ

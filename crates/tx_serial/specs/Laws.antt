@@ -3,7 +3,7 @@ use Rattle.std.specs.Prelude.{ℕ, ◌≡◌, ◌==◌, true, false, Option, Som
 use Rattle.tx_events.specs.declared.End.{End}
 use Rattle.tx_events.specs.declared.End.TheVariants.{StepsOut}
 use Rattle.tx_events.specs.Thread.{Thread}
-use Rattle.tx_events.specs.Memory.{Place}
+use Rattle.tx_events.specs.Memory.{MemoryLayout}
 use Rattle.tx_events.specs.World.{World, Replays}
 use Rattle.tx_serial.specs.Machine.{Machine, Local, Waits, no_waits, held_by, wrote_by, live_in}
 use Rattle.tx_serial.specs.Run.{Outcome, is_access}
@@ -22,7 +22,7 @@ EndsAs None e = e ≡ StepsOut
 EndsAs (Some end) e = e ≡ end
 
 -- The order of a run replays in the indivisible world, with the same output, input left and end.
-pub record Replayed {S : Type 0} (a : Thread S) (p : Place) (start : World S) (result : Outcome) : Type 0 where
+pub record Replayed {S : Type 0} (a : Thread S) (p : MemoryLayout) (start : World S) (result : Outcome) : Type 0 where
   pub world : World S
   pub replays : Replays a p start result.order world
   pub out : result.out ≡ world.out

@@ -10,3 +10,4 @@ pub mod Order
 pub mod Trace
 pub mod Laws
 pub mod Bound
+pub mod Steps

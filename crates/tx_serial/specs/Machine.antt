@@ -117,12 +117,12 @@ birth_of (Some l) = birth l.tx
 -- Who keeps whom off.
 
 -- Thread u blocks this access of thread t: it holds the word for writing, or it holds it and the access is a store.
-abbrev pub keeps_off : {S : Type 0} → ℕ → Bool → ℕ → (ℕ → Option (Local S)) → ℕ → Bool
-keeps_off t store x threads u = not (u == t) && cond store (held_by (threads u) x) (wrote_by (threads u) x)
+abbrev pub conflicts_with : {S : Type 0} → ℕ → Bool → ℕ → (ℕ → Option (Local S)) → ℕ → Bool
+conflicts_with t store x threads u = not (u == t) && cond store (held_by (threads u) x) (wrote_by (threads u) x)
 
 -- the blocking thread whose birth is least
 abbrev pub blocker : {S : Type 0} → ℕ → Bool → ℕ → Machine S → Option ℕ
-blocker t store x m = eldest (keeps_off t store x m.threads) (λ u. birth_of (m.threads u)) m.started
+blocker t store x m = eldest (conflicts_with t store x m.threads) (λ u. birth_of (m.threads u)) m.started
 
 -- the thread other than t that holds the lock
 abbrev pub lock_owner : ℕ → Option ℕ → Option ℕ
@@ -152,8 +152,8 @@ abbrev pub clash_of : {S : Type 0} → ℕ → Bool → ℕ → Machine S → �
 clash_of t store x m b u = record {
   mine = b;
   least = birth_of (m.threads u);
-  greatest = greatest (keeps_off t store x m.threads) (λ v. birth_of (m.threads v)) m.started;
-  count = count (keeps_off t store x m.threads) m.started;
+  greatest = greatest (conflicts_with t store x m.threads) (λ v. birth_of (m.threads v)) m.started;
+  count = count (conflicts_with t store x m.threads) m.started;
   waits = waits_at (m.waits t) x (birth_of (m.threads u));
 }
 

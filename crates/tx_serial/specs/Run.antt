@@ -10,7 +10,7 @@ use Rattle.tx_events.specs.declared.Event.TheVariants.{Silent, Load, Store, Out,
 use Rattle.tx_events.specs.declared.TurnKind.{TurnKind}
 use Rattle.tx_events.specs.declared.TurnKind.TheVariants.{Ran, Waited, BlockWait, JoinWait, Rolled, Undone, Released, Idle}
 use Rattle.tx_events.specs.Thread.{Thread}
-use Rattle.tx_events.specs.Memory.{Place}
+use Rattle.tx_events.specs.Memory.{MemoryLayout}
 use Rattle.tx_serial.specs.Machine.{Machine, Local, Tx, NoTx, OpenTx, GivingUp, Closing}
 use Rattle.tx_serial.specs.Turn.{Slot, turn}
 use Rattle.tx_serial.specs.Kinds.{is_ran}
@@ -84,7 +84,7 @@ pub record Progress (S : Type 0) : Type 0 where
 abbrev pub not_begun : {S : Type 0} → Machine S → Progress S
 not_begun m = record { machine = m; turn = 0; before = None; last = None; inside = false; counts = no_counts }
 
-abbrev pub advance : {S : Type 0} → Thread S → Place → Slot → Progress S → Progress S
+abbrev pub advance : {S : Type 0} → Thread S → MemoryLayout → Slot → Progress S → Progress S
 advance a p q r =
     let done = turn a p q.answer q.thread r.machine in
     record {
@@ -96,7 +96,7 @@ advance a p q r =
       counts = count_in done.kind r.counts;
     }
 
-abbrev pub advances : {S : Type 0} → Thread S → Place → List Slot → Progress S → Progress S
+abbrev pub advances : {S : Type 0} → Thread S → MemoryLayout → List Slot → Progress S → Progress S
 advances a p [] r = r
 advances a p (q ∷ qs) r = advances a p qs (advance a p q r)
 
@@ -105,12 +105,12 @@ abbrev pub seen : {S : Type 0} → Progress S → Seen
 seen r = record { turn = r.turn; started = r.machine.started; last = r.last; inside = r.inside }
 
 -- A picker as a function of what it is shown and of the last turn's thread. Each turn is of the thread that it picks.
-abbrev pub PickedBy : {S : Type 0} → (Seen → Option ℕ → Option ℕ) → Thread S → Place → List Slot → Progress S → Type 0
+abbrev pub PickedBy : {S : Type 0} → (Seen → Option ℕ → Option ℕ) → Thread S → MemoryLayout → List Slot → Progress S → Type 0
 PickedBy pick a p [] r = Unit {0}
 PickedBy pick a p (q ∷ qs) r = (pick (seen r) r.before ≡ Some q.thread) × PickedBy pick a p qs (advance a p q r)
 
 -- no end has come before any of the turns
-abbrev pub NoEndBefore : {S : Type 0} → Thread S → Place → List Slot → Progress S → Type 0
+abbrev pub NoEndBefore : {S : Type 0} → Thread S → MemoryLayout → List Slot → Progress S → Type 0
 NoEndBefore a p [] r = Unit {0}
 NoEndBefore a p (q ∷ qs) r = (r.machine.end ≡ None) × NoEndBefore a p qs (advance a p q r)
 
@@ -128,7 +128,7 @@ pub record Outcome : Type 0 where
   pub counts : Counts
 
 -- A run of at most `bound` turns, from the machine `first`: these are its turns, and this is what it comes to.
-pub record RunOf {S : Type 0} (a : Thread S) (p : Place) (bound : ℕ) (first : Machine S) (slots : List Slot) (result : Outcome) : Type 0 where
+pub record RunOf {S : Type 0} (a : Thread S) (p : MemoryLayout) (bound : ℕ) (first : Machine S) (slots : List Slot) (result : Outcome) : Type 0 where
   pub within : length slots ≤ bound
   pub going : NoEndBefore a p slots (not_begun first)
   pub stops : Stops bound (length slots) (advances a p slots (not_begun first)).machine.end result.end

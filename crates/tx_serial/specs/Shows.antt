@@ -6,9 +6,9 @@ use Rattle.tx_events.specs.declared.Event.{Event}
 use Rattle.tx_events.specs.declared.Event.TheVariants.{Silent, Load, Store, Out, Inp, Spawn, Join, BeginAtomic, EndAtomic, Raise, BeginSync, EndSync, Done, Stop}
 use Rattle.tx_events.specs.declared.Reply.TheVariants.{Nothing}
 use Rattle.tx_events.specs.Thread.{Thread}
-use Rattle.tx_events.specs.Memory.{Place, word_bound}
+use Rattle.tx_events.specs.Memory.{MemoryLayout, word_bound}
 use Rattle.tx_events.specs.Alone.{Inner, Inside, begin, newest}
-use Rattle.tx_events.specs.World.{World, Alive, Silents, Replays}
+use Rattle.tx_events.specs.World.{World, Alive, SilentSteps, Replays}
 use Rattle.tx_serial.specs.Machine.{Machine, Local, Tx, NoTx, OpenTx, GivingUp, Closing, Save, kept_or, oldest, held_by, wrote_by, live_in, tx_in, birth_of}
 
 -- The world's memory is the machine's, with every transaction that is open or giving up put back to its outermost
@@ -78,7 +78,7 @@ NoneAt x (s ∷ ss) = (s x ≡ None) × NoneAt x ss
 -- the kept state is reached from it by silent steps and the outermost BeginAtomic
 pub record Began {S : Type 0} (a : Thread S) (start kept : S) : Type 0 where
   pub before : S
-  pub silents : Silents a start before
+  pub silents : SilentSteps a start before
   pub kind : BlockKind
   pub begins : a.next before ≡ BeginAtomic kind
   pub kept_is : kept ≡ a.after before Nothing
@@ -87,7 +87,7 @@ pub record Began {S : Type 0} (a : Thread S) (start kept : S) : Type 0 where
 -- `outside`. Those accessed exactly the held words and stored to exactly those held for writing. On the held words the
 -- machine's memory is the memory of that run, or, where a cancelling Raise is next and the word is put back already,
 -- its newest copy; and each savepoint put back gives what the copy has.
-pub record InBlock {S : Type 0} (a : Thread S) (p : Place) (memory outside : ℕ → ℕ) (start : S) (l : Local S) (k : S) (ss : List Save) : Type 0 where
+pub record InBlock {S : Type 0} (a : Thread S) (p : MemoryLayout) (memory outside : ℕ → ℕ) (start : S) (l : Local S) (k : S) (ss : List Save) : Type 0 where
   pub began : Began a start k
   pub inner : Inner S
   pub run : Inside a p (begin k outside) inner
@@ -106,26 +106,26 @@ pub record Giving {S : Type 0} (a : Thread S) (memory outside : ℕ → ℕ) (st
   pub unsaved : (x : ℕ) → l.wrote x ≡ false → oldest ss x ≡ None
 
 -- Without a transaction, or with a closing one, the thread is reached from the world's by silent steps.
-abbrev pub ShowsTx : {S : Type 0} → Thread S → Place → (ℕ → ℕ) → (ℕ → ℕ) → S → Local S → Tx S → Type 0
-ShowsTx a p memory outside start l NoTx = Silents a start l.state × ((x : ℕ) → l.held x ≡ false)
+abbrev pub ShowsTx : {S : Type 0} → Thread S → MemoryLayout → (ℕ → ℕ) → (ℕ → ℕ) → S → Local S → Tx S → Type 0
+ShowsTx a p memory outside start l NoTx = SilentSteps a start l.state × ((x : ℕ) → l.held x ≡ false)
 ShowsTx a p memory outside start l (OpenTx b k ss) = InBlock a p memory outside start l k ss
 ShowsTx a p memory outside start l (GivingUp b k ss) = Giving a memory outside start l k ss
-ShowsTx a p memory outside start l (Closing b) = Silents a start l.state
+ShowsTx a p memory outside start l (Closing b) = SilentSteps a start l.state
 
-pub record ShowsLocal {S : Type 0} (a : Thread S) (p : Place) (memory outside : ℕ → ℕ) (l : Local S) (s : Alive S) : Type 0 where
+pub record ShowsLocal {S : Type 0} (a : Thread S) (p : MemoryLayout) (memory outside : ℕ → ℕ) (l : Local S) (s : Alive S) : Type 0 where
   pub ended : s.ended ≡ l.ended
   pub holds : (x : ℕ) → l.wrote x ≡ true → l.held x ≡ true
   pub bounded : (x : ℕ) → l.held x ≡ true → x < word_bound p
   pub tx : ShowsTx a p memory outside s.state l l.tx
 
-abbrev pub ShowsThread : {S : Type 0} → Thread S → Place → (ℕ → ℕ) → (ℕ → ℕ) → Option (Local S) → Option (Alive S) → Type 0
+abbrev pub ShowsThread : {S : Type 0} → Thread S → MemoryLayout → (ℕ → ℕ) → (ℕ → ℕ) → Option (Local S) → Option (Alive S) → Type 0
 ShowsThread a p memory outside None None = Unit {0}
 ShowsThread a p memory outside None (Some s) = ⊥
 ShowsThread a p memory outside (Some l) None = ⊥
 ShowsThread a p memory outside (Some l) (Some s) = ShowsLocal a p memory outside l s
 
 -- While no end has come:
-pub record Stands {S : Type 0} (a : Thread S) (p : Place) (m : Machine S) (w : World S) : Type 0 where
+pub record Stands {S : Type 0} (a : Thread S) (p : MemoryLayout) (m : Machine S) (w : World S) : Type 0 where
   -- the lock's holder and depth are equal, and so are the started threads (and, in `threads`, the ended ones)
   pub lock : w.lock ≡ m.lock
   pub started : w.started ≡ m.started
@@ -143,14 +143,14 @@ pub record Stands {S : Type 0} (a : Thread S) (p : Place) (m : Machine S) (w : W
   pub alone : (t u : ℕ) → m.lock.holder ≡ Some t → (u == t) ≡ false → live_in (m.threads u) ≡ false
 
 -- The machine stands for this world: output, input left and end are equal, and, where no end has come, the rest is shown.
-pub record Shows {S : Type 0} (a : Thread S) (p : Place) (m : Machine S) (w : World S) : Type 0 where
+pub record Shows {S : Type 0} (a : Thread S) (p : MemoryLayout) (m : Machine S) (w : World S) : Type 0 where
   pub out : w.out ≡ m.out
   pub input : w.input ≡ m.input
   pub end : w.end ≡ m.end
   pub going : m.end ≡ None → Stands a p m w
 
 -- The order of the machine is enabled step by step from the start, and leads to a world that the machine stands for.
-pub record Shown {S : Type 0} (a : Thread S) (p : Place) (start : World S) (m : Machine S) : Type 0 where
+pub record ShownByReplay {S : Type 0} (a : Thread S) (p : MemoryLayout) (start : World S) (m : Machine S) : Type 0 where
   pub world : World S
   pub replays : Replays a p start m.order world
   pub shows : Shows a p m world

@@ -6,9 +6,9 @@ use Rattle.tx_events.specs.declared.Item.{Item}
 use Rattle.tx_events.specs.declared.What.{What}
 use Rattle.tx_events.specs.declared.What.TheVariants.{Read, Write, Enter, Leave, Spawned, Joined}
 use Rattle.tx_events.specs.Thread.{Thread, is_empty, rest_of}
-use Rattle.tx_events.specs.Memory.{Place, can_access}
-use Rattle.tx_events.specs.Alone.{Inner, Inside, at_start, goes_on, Took, Goes, Leaves, Halts, Never, outcome}
-use Rattle.tx_events.specs.World.{World, Step, Replays, Does, target}
+use Rattle.tx_events.specs.Memory.{MemoryLayout, can_access}
+use Rattle.tx_events.specs.Alone.{Inner, Inside, at_start, goes_on, BlockStep, Goes, Leaves, Halts, Never, outcome}
+use Rattle.tx_events.specs.World.{World, Step, Replays, EventStep, target}
 use Rattle.tx_serial.specs.Turn.{number_of}
 
 -- this item of thread t, where the condition holds
@@ -17,7 +17,7 @@ item_if true t what = record { t = t; what = what } ∷ []
 item_if false t what = []
 
 -- a mapped and aligned access
-abbrev pub access_items : Place → ℕ → Event → List Item
+abbrev pub access_items : MemoryLayout → ℕ → Event → List Item
 access_items p t (Load addr size vol) = item_if (can_access p addr size) t (Read addr size)
 access_items p t (Store addr size value vol) = item_if (can_access p addr size) t (Write addr size)
 access_items p t Silent = []
@@ -34,12 +34,12 @@ access_items p t Done = []
 access_items p t (Stop end) = []
 
 -- the accesses of a run inside a block, those of blocks that it cancels included
-abbrev pub inside_items : {S : Type 0} {a : Thread S} {p : Place} {i j : Inner S} → ℕ → Inside a p i j → List Item
+abbrev pub inside_items : {S : Type 0} {a : Thread S} {p : MemoryLayout} {i j : Inner S} → ℕ → Inside a p i j → List Item
 inside_items t at_start = []
 inside_items {S} {a} {p} t (goes_on {j} run step) = inside_items t run ++ access_items p t (a.next j.state)
 
 -- an outer block is left, unless the program ended in it
-abbrev pub leave_items : {S : Type 0} → Bool → ℕ → Took S → List Item
+abbrev pub leave_items : {S : Type 0} → Bool → ℕ → BlockStep S → List Item
 leave_items outer t (Leaves s memory) = item_if outer t Leave
 leave_items outer t (Halts end) = []
 leave_items outer t (Goes i) = []
@@ -52,7 +52,7 @@ join_items t id (Some u) = record { t = t; what = Joined (number_of id) } ∷ []
 
 -- The items of a step of thread t, in the state s: of its event, or of its whole atomic block. A block is outer where no
 -- other block of the thread is open around it.
-abbrev pub step_items : {S : Type 0} (a : Thread S) (p : Place) (t : ℕ) (w : World S) (s : S) (e : Event) (v : World S) → Does a p t w s e v → List Item
+abbrev pub step_items : {S : Type 0} (a : Thread S) (p : MemoryLayout) (t : ℕ) (w : World S) (s : S) (e : Event) (v : World S) → EventStep a p t w s e v → List Item
 step_items a p t w s (BeginAtomic kind) v d =
     item_if (is_empty (a.blocks s)) t Enter ++ (inside_items t d.1.run ++ leave_items (is_empty (a.blocks s)) t (outcome d.1))
 step_items a p t w s (Load addr size vol) v d = access_items p t (Load addr size vol)
@@ -70,19 +70,22 @@ step_items a p t w s Done v d = []
 step_items a p t w s (Stop end) v d = []
 
 -- the items of its steps, in their order
-abbrev pub items_of : {S : Type 0} (a : Thread S) (p : Place) (w : World S) (order : List ℕ) (v : World S) → Replays a p w order v → List Item
+abbrev pub items_of : {S : Type 0} (a : Thread S) (p : MemoryLayout) (w : World S) (order : List ℕ) (v : World S) → Replays a p w order v → List Item
 items_of a p w [] v h = []
 items_of a p w (t ∷ order) v h = step_items a p t w h.1.before (a.next h.1.before) h.0 h.1.does ++ items_of a p h.0 order v h.2
 
 -- TraceOf: the order replays from the start, and these are the items of its replay.
-pub record TraceOf {S : Type 0} (a : Thread S) (p : Place) (start : World S) (order : List ℕ) (items : List Item) : Type 0 where
+pub record TraceOf {S : Type 0} (a : Thread S) (p : MemoryLayout) (start : World S) (order : List ℕ) (items : List Item) : Type 0 where
   pub world : World S
   pub replays : Replays a p start order world
   pub is : items ≡ items_of a p start order world replays
 
--- The one list has the items of one more step, of thread t, than the other.
-pub record OneStepMore {S : Type 0} (a : Thread S) (p : Place) (t : ℕ) (items more : List Item) : Type 0 where
+-- The one list has the items of one more step, of thread t, than the other. That step leads from the world to which the
+-- order replays to the one to which the order with t behind it replays.
+pub record OneStepMore {S : Type 0} (a : Thread S) (p : MemoryLayout) (start : World S) (order : List ℕ) (t : ℕ) (items more : List Item) : Type 0 where
   pub before : World S
   pub after : World S
+  pub replayed : Replays a p start order before
   pub step : Step a p t before after
+  pub replays : Replays a p start (order ++ t ∷ []) after
   pub is : more ≡ (items ++ step_items a p t before step.before (a.next step.before) after step.does)

@@ -12,5 +12,6 @@ pub mod examples;
 pub mod kinds;
 pub mod order;
 pub mod runs;
+pub mod steps;
 pub mod trace;
 pub mod waits;

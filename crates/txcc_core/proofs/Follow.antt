@@ -103,7 +103,7 @@ snoc count more w v u (t ∷ order) r s =
 replay_at : (k n : ℕ) (w v : World) (order : List ℕ) → k ≡ n → Replays k w order v → Replays n w order v
 replay_at k n w v order e r = subst (λ c. Replays c w order v) e r
 
--- the instruction at a place
+-- the instruction at an index
 next_code : (code : List Instr) (at : ℕ) (i : Instr) (rest : List Instr) → drop at code ≡ i ∷ rest → (slice_get code at ≡ Some i) × (drop (at + 1) code ≡ rest) × (at < length code)
 next_code [] zero i rest e = cc
 next_code [] (suc at) i rest e = cc

@@ -323,7 +323,7 @@ no_sign tokens plus minus Minus rest h = minus rest h
 
 -- names
 
--- the names before a place
+-- the names before an index
 name_take : (names : List (Vec ℕ Heap)) (n k : ℕ) → k < n → name_at (names_of (take n names)) k ≡ name_at (names_of names) k
 name_take [] zero k lt = refl
 name_take [] (suc n) k lt = refl
@@ -331,7 +331,7 @@ name_take (x ∷ names) zero k lt = absurd (omega (arith, lt))
 name_take (x ∷ names) (suc n) zero lt = refl
 name_take (x ∷ names) (suc n) (suc k) lt = name_take names n k (omega (arith, lt))
 
--- a name that stands before a place is there twice
+-- a name that stands before an index is there twice
 pub not_apart : (names : List (Vec ℕ Heap)) (i : ℕ) (v : Vec ℕ Heap) (name : List ℕ) → i < length names → v ≡ get_or names i v → name ≡ v.items → (k : ℕ) → k < length (names_of (take i names)) → name_at (names_of (take i names)) k ≡ name → AreApart (names_of names) → ⊥
 not_apart names i v name lt is same k below e apart =
     let within : i < length (names_of names) = rw length-map lt in

@@ -8,11 +8,12 @@
 --
 -- Each form is a relation of its tree, the tokens where it begins, and the tokens that are left behind it.
 use Rattle.std.specs.Prelude.{◌≡◌, ◌≢◌, ℕ, ◌<◌, ◌≤◌, ℤ, pos, ◌-ℤ◌, List, [], ◌∷◌, length, codes, slice_get, unwrap_or, Some, if◌then◌else◌, nat_le}
+use Rattle.cpp_lex.specs.declared.TheConstants.{GREATEST_TEXT}
 use Rattle.cpp_lex.specs.declared.TokKind.{TokKind}
 use Rattle.cpp_lex.specs.declared.TokKind.TheVariants.{Name, Key, Punct, Int as IntTok, Char as CharTok}
 use Rattle.cpp_lex.specs.Tokens.{Lexeme, IsTokens}
 use Rattle.cpp_lex.specs.Ints.{int_type_of}
-use Rattle.cpp_lex.specs.declared.IntType.TheVariants.{Int as IntType}
+use Rattle.tx_ints.specs.declared.kinds.IntKind.TheVariants.{Int as IntType}
 use Rattle.txcc_core.specs.declared.tree.Sign.{Sign}
 use Rattle.txcc_core.specs.declared.tree.Sign.TheVariants.{Plus, Minus}
 use Rattle.txcc_core.specs.declared.tree.Signed.{Signed}
@@ -181,7 +182,7 @@ pub record Derives (tokens : List Lexeme) (s : Source) : Type 0 where
 
 -- the text is in the language, and is this program
 pub record Accepts (text : List ℕ) (s : Source) : Type 0 where
-  pub short : length text ≤ 1048576
+  pub short : length text ≤ GREATEST_TEXT
   pub tokens : List Lexeme
   pub lexes : IsTokens text tokens
   pub derives : Derives tokens s

@@ -14,7 +14,7 @@ pub record SumTree : Type 0 where
   pub first : Term
   pub more : List Signed
 
--- an assignment to a global, by its place among the globals
+-- an assignment to a global, by its index among the globals
 pub record AssignTree : Type 0 where
   pub to : ℕ
   pub value : SumTree

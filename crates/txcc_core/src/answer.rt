@@ -47,7 +47,7 @@ pub struct Ran {
     pub idle: u64,
 }
 
-/// How the call ended. The number of a status is its place here, from 0.
+/// How the call ended. The number of a status is its position here, from 0.
 #[derive(Clone, Copy, Debug, PartialEq, Eq)]
 pub enum Status {
     /// The program returned from `main`.

@@ -11,7 +11,7 @@ pub enum Instr {
     Load(usize),
     /// The top of the stack into a global.
     Store(usize),
-    /// The operator's value on the two topmost ints in place of them.
+    /// The operator's value on the two topmost ints in their stead.
     Apply(BinOp),
     /// The low byte of the top of the stack to the output.
     Out,

@@ -33,7 +33,7 @@ fn emit_term(code: &mut Vec<Instr>, term: Term) -> Result<(), AllocError>
     ensures { OnOk result (code.new.items ≡ code.old.items ++ term_code term ∷ []) }
 {
     match term {
-        Term::Global(place) => emit(code, Instr::Load(place)),
+        Term::Global(index) => emit(code, Instr::Load(index)),
         Term::Int(value) => emit(code, Instr::Push(value)),
         Term::Char(value) => emit(code, Instr::Push(i32::from(value))),
     }

@@ -101,11 +101,11 @@ impl Machine {
         Ok(())
     }
 
-    fn store(&mut self, place: usize, value: i32)
-        requires { place < length (state_of self.old).memory }
-        ensures { state_of self.new ≡ stored place value (state_of self.old) }
+    fn store(&mut self, index: usize, value: i32)
+        requires { index < length (state_of self.old).memory }
+        ensures { state_of self.new ≡ stored index value (state_of self.old) }
     {
-        self.memory[place] = value;
+        self.memory[index] = value;
     }
 
     // One more byte of output, the value's low byte.
@@ -134,7 +134,7 @@ impl Machine {
         }
     }
 
-    // What an instruction does, but for the place.
+    // What an instruction does, but for the next index.
     fn act(&mut self, instr: Instr) -> Result<Option<End>, AllocError>
         requires { CanAct instr (state_of self.old) }
         ensures { IfOk result (λ over. act instr (state_of self.old) ≡ (moved (state_of self.new), over)) }

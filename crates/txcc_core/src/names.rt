@@ -4,7 +4,7 @@ ghost use Rattle.std.specs.Prelude.{ℕ, IsTrue, ◌↔◌, ◌<◌, ◌≡◌, 
 ghost use Rattle.txcc_core.specs.Syntax.{names_of};
 ghost use Rattle.txcc_core.specs.Grammar.{HasNames, AreApart, name_at};
 
-use crate::terms::place_of;
+use crate::terms::index_of;
 
 /// The most globals of a program.
 const MOST_GLOBALS: usize = 1000;
@@ -14,7 +14,7 @@ fn is_named(names: &[Vec<u8>], name: &[u8]) -> bool
     ensures yes { IsTrue result → (i : ℕ) × (i < length (names_of names.now)) × (name_at (names_of names.now) i ≡ name.now) }
     ensures no { (result ≡ false) → (i : ℕ) → i < length (names_of names.now) → name_at (names_of names.now) i ≢ name.now }
 {
-    place_of(names, name).is_some()
+    index_of(names, name).is_some()
 }
 
 // Whether each name is there once.

@@ -8,7 +8,7 @@ ghost use Rattle.txcc_core.specs.Grammar.{IsSign, IsSigned, IsSum, IsAssign, IsP
 ghost use Rattle.txcc_core.specs.Found.{NoneAt, Longest, WholeSum};
 
 use crate::names::has_names;
-use crate::terms::{Found, after, parse_int, parse_name, parse_place, parse_term};
+use crate::terms::{Found, after, parse_int, parse_name, parse_target, parse_term};
 use crate::tree::{Assign, Program, Sign, Signed, Stmt, Sum};
 use cpp_lex::{TokKind, Token};
 use std::alloc::{AllocError, Global};
@@ -104,7 +104,7 @@ fn parse_assign<'a>(
     ensures some { IfOk result (λ found. IfSome found (λ f. IsAssign (names_of names.now) (assign_of f.item) (lexemes tokens.now) (lexemes f.rest.now))) }
     ensures none { IfOk result (λ found. IfNone found (NoneAt (IsAssign (names_of names.now)) (lexemes tokens.now))) }
 {
-    let Some(to) = parse_place(names, tokens) else {
+    let Some(to) = parse_target(names, tokens) else {
         return Ok(None);
     };
     let Some(rest) = after(to.rest, TokKind::Punct, b"=") else {

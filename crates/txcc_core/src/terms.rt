@@ -7,7 +7,8 @@ ghost use Rattle.txcc_core.specs.Syntax.{names_of};
 ghost use Rattle.txcc_core.specs.Grammar.{IsWord, Begins, name_at, IsGlobal, IsInt, IsChar, IsTerm};
 
 use crate::tree::Term;
-use cpp_lex::{IntType, TokKind, Token, int_type};
+use cpp_lex::{TokKind, Token, int_type};
+use tx_ints::IntKind;
 
 // What begins here, and the tokens behind it.
 #[derive(Drop)]
@@ -34,8 +35,8 @@ pub fn after<'a>(tokens: &'a [Token], kind: TokKind, spelling: &[u8]) -> Option<
     }
 }
 
-// The place of the global of that name.
-pub fn place_of(names: &[Vec<u8>], name: &[u8]) -> Option<usize>
+// The index of the global of that name.
+pub fn index_of(names: &[Vec<u8>], name: &[u8]) -> Option<usize>
     ensures some { IfSome result (λ i. (i < length (names_of names.now)) × (name_at (names_of names.now) i ≡ name.now)) }
     ensures none { IfNone result ((i : ℕ) → i < length (names_of names.now) → name_at (names_of names.now) i ≢ name.now) }
 {
@@ -55,7 +56,7 @@ fn global_of(names: &[Vec<u8>], token: &Token) -> Option<usize>
     if token.kind != TokKind::Name {
         return None;
     }
-    place_of(names, token.bytes.as_slice())
+    index_of(names, token.bytes.as_slice())
 }
 
 // The value of an integer of the type `int`.
@@ -67,7 +68,7 @@ fn int_of(token: &Token) -> Option<i32>
         return None;
     }
     match int_type(token.bytes.as_slice(), token.value) {
-        Some(IntType::Int) => Some(token.value as i32),
+        Some(IntKind::Int) => Some(token.value as i32),
         _ => None,
     }
 }
@@ -93,8 +94,8 @@ fn term_of(names: &[Vec<u8>], token: &Token) -> Option<Term>
     ensures some { IfSome result (λ t. IsTerm (names_of names.now) t (lexeme_of token.now)) }
     ensures none { IfNone result ((t : Term) → IsTerm (names_of names.now) t (lexeme_of token.now) → ⊥) }
 {
-    if let Some(place) = global_of(names, token) {
-        return Some(Term::Global(place));
+    if let Some(index) = global_of(names, token) {
+        return Some(Term::Global(index));
     }
     if let Some(value) = int_of(token) {
         return Some(Term::Int(value));
@@ -113,8 +114,8 @@ pub fn parse_term<'a>(names: &[Vec<u8>], tokens: &'a [Token]) -> Option<Found<'a
     Some(Found { item, rest })
 }
 
-// The place of the global whose name begins here.
-pub fn parse_place<'a>(names: &[Vec<u8>], tokens: &'a [Token]) -> Option<Found<'a, usize>>
+// The index of the global whose name begins here.
+pub fn parse_target<'a>(names: &[Vec<u8>], tokens: &'a [Token]) -> Option<Found<'a, usize>>
     ensures some { IfSome result (λ f. Begins (IsGlobal (names_of names.now) f.item) (lexemes tokens.now) (lexemes f.rest.now)) }
     ensures none { IfNone result ((g : ℕ) (rest : List Lexeme) → Begins (IsGlobal (names_of names.now) g) (lexemes tokens.now) rest → ⊥) }
 {

@@ -8,7 +8,7 @@ ghost use Rattle.txcc_core.specs.Below.{IsWell};
 ghost use Rattle.txcc_core.specs.Grammar.{Accepts};
 ghost use Rattle.txcc_core.specs.Report.{end_lines};
 ghost use Rattle.txcc_core.specs.Words.{texts};
-ghost use Rattle.txcc_core.specs.TopCall.{Outside, IsBare, Reads, Answers, IsRunStatus};
+ghost use Rattle.txcc_core.specs.TopCall.{HostState, IsBare, Reads, Answers, IsRunStatus};
 ghost use Rattle.txcc_core.specs.Writes.{IsRefusal, UsageSays, RefusalSays, WroteRun, UnwrittenSays};
 
 use crate::answer::{Answer, Ran, Refusal, Status};
@@ -18,12 +18,9 @@ use crate::parser::parse;
 use crate::report::{end_lines, status_of};
 use crate::tree::Program;
 use crate::words::{Form, form_of};
-use cpp_lex::{LexFault, lex, one_reading};
+use cpp_lex::{GREATEST_TEXT, LexFault, lex, one_reading};
 use std::alloc::{AllocError, Global};
 use tx_host::{Host, ReadFault, WriteFault};
-
-/// The most bytes of a source.
-const MOST_BYTES: u64 = 1048576;
 
 /// The number of the refusal of a text that is no program.
 const NOT_BUILT: u8 = 12;
@@ -33,7 +30,7 @@ fn program_of(alloc: Global, text: &[u8]) -> Result<Option<Program>, AllocError>
     ensures some { IfOk result (λ found. IfSome found (λ program. Accepts text.now (source_of program))) }
     ensures none { IfOk result (λ found. IfNone found ((source : Source) → Accepts text.now source → ⊥)) }
 {
-    if text.len() as u64 > MOST_BYTES {
+    if text.len() as u64 > GREATEST_TEXT {
         return Ok(None);
     }
     one_reading();
@@ -174,7 +171,7 @@ pub fn txcc<H: Host>(alloc: Global, words: &[String], host: &mut H) -> Answer
     let Some(form) = form_of(words) else {
         return usage(host);
     };
-    let text = match host.read_file(alloc, form.file, MOST_BYTES) {
+    let text = match host.read_file(alloc, form.file, GREATEST_TEXT) {
         Ok(text) => text,
         Err(ReadFault::Failed) => return bare(Status::HostFault),
         Err(ReadFault::Memory) => return bare(Status::Memory),

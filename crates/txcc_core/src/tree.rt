@@ -1,6 +1,6 @@
 //! The syntax tree of a program.
 
-/// An operand of a sum: a global by its place among the globals, an integer of the type `int`, or a character.
+/// An operand of a sum: a global by its index among the globals, an integer of the type `int`, or a character.
 /// Plain `char` is signed, so a character is a signed byte.
 #[derive(Clone, Copy, Debug, PartialEq, Eq)]
 pub enum Term {

@@ -1,5 +1,5 @@
 -- Entries of an index, and words that a list begins with.
-use Rattle.std.proofs.Common.{ℕ, ◌≡◌, ◌==◌, ◌<◌, ◌≤◌, suc, zero, cond, Option, Some, None, List, [], ◌∷◌, ◌++◌, length, take, drop, get_or, refl, ap, sym, subst, ◌∙◌, ◌⊎◌, inl, inr, ◌||◌, arith}
+use Rattle.std.proofs.Common.{ℕ, ◌≡◌, ◌==◌, ◌<◌, ◌≤◌, suc, zero, cond, Option, Some, None, List, [], ◌∷◌, ◌++◌, length, take, drop, get_or, refl, ap, sym, subst, take-append-drop, ◌∙◌, ◌⊎◌, inl, inr, ◌||◌, arith}
 use Rattle.std.proofs.lemmas.List.{map-append, take-append-le}
 use Rattle.std.proofs.Math.Seq.{take-append_seam}
 use Rattle.std.proofs.lemmas.Option.{slice_get_within, get_or_from_slice_get, none-some}
@@ -8,9 +8,9 @@ use Rattle.std.specs.List.{slice_get, list_any}
 use Rattle.std.specs.Prelude.{Result, Ok, Err, OnOk, OnErr, IsOk, is_ok}
 use Rattle.undo_log.specs.declared.index.Entry.{Entry}
 use Rattle.undo_log.specs.declared.notes.Note.{Note}
-use Rattle.undo_log.specs.Index.{last_place, words_in, IsLinked, BeginsWith}
+use Rattle.undo_log.specs.Index.{last_position, words_in, IsLinked, BeginsWith}
 use Rattle.undo_log.specs.Notes.{is_noted, noted_words}
-use Rattle.undo_log.proofs.Places.{last_push}
+use Rattle.undo_log.proofs.LastPositions.{last_push}
 
 words_push : (es : List Entry) (e : Entry) → words_in (es ++ e ∷ []) ≡ words_in es ++ e.word ∷ []
 words_push es e = map-append (λ (k : Entry). k.word) es (e ∷ [])
@@ -43,44 +43,44 @@ words_before es e i h = ap (take i) (words_push es e) ∙ take-append-le i (word
 words_all : (es : List Entry) (e : Entry) → take (length es) (words_in (es ++ e ∷ [])) ≡ words_in es
 words_all es e = ap (take (length es)) (words_push es e) ∙ (ap (λ n. take n (words_in es ++ e.word ∷ [])) (sym (words_long es)) ∙ take-append_seam (words_in es) (e.word ∷ []))
 
-pub linked_push : (es : List Entry) (e : Entry) → IsLinked es → e.before ≡ last_place (words_in es) e.word → IsLinked (es ++ e ∷ [])
-linked_push es e linked at place x h = elim (got_push es e place x h) [
-  | inl l ↦ linked place x l ∙ ap (λ ws. last_place ws x.word) (sym (words_before es e place (omega (arith, slice_get_within es place x l))))
+pub linked_push : (es : List Entry) (e : Entry) → IsLinked es → e.before ≡ last_position (words_in es) e.word → IsLinked (es ++ e ∷ [])
+linked_push es e linked at position x h = elim (got_push es e position x h) [
+  | inl l ↦ linked position x l ∙ ap (λ ws. last_position ws x.word) (sym (words_before es e position (omega (arith, slice_get_within es position x l))))
   | inr r ↦
-      ap (λ (k : Entry). k.before) r.1 ∙ (at ∙ (ap (λ ws. last_place ws e.word) (sym (ap (λ n. take n (words_in (es ++ e ∷ []))) r.0 ∙ words_all es e))
-      ∙ ap (λ (k : Entry). last_place (take place (words_in (es ++ e ∷ []))) k.word) (sym r.1)))
+      ap (λ (k : Entry). k.before) r.1 ∙ (at ∙ (ap (λ ws. last_position ws e.word) (sym (ap (λ n. take n (words_in (es ++ e ∷ []))) r.0 ∙ words_all es e))
+      ∙ ap (λ (k : Entry). last_position (take position (words_in (es ++ e ∷ []))) k.word) (sym r.1)))
 ]
 
 pub linked_pop : (es : List Entry) (e : Entry) → IsLinked (es ++ e ∷ []) → IsLinked es
-linked_pop es e linked place x h =
-    let inside : place < length es = slice_get_within es place x h in
-    linked place x (got_front es e place inside ∙ h) ∙ ap (λ ws. last_place ws x.word) (words_before es e place (omega (arith, inside)))
+linked_pop es e linked position x h =
+    let inside : position < length es = slice_get_within es position x h in
+    linked position x (got_front es e position inside ∙ h) ∙ ap (λ ws. last_position ws x.word) (words_before es e position (omega (arith, inside)))
 
-pub linked_last : (es : List Entry) (e : Entry) → IsLinked (es ++ e ∷ []) → e.before ≡ last_place (words_in es) e.word
-linked_last es e linked = linked (length es) e (got_last es e) ∙ ap (λ ws. last_place ws e.word) (words_all es e)
+pub linked_last : (es : List Entry) (e : Entry) → IsLinked (es ++ e ∷ []) → e.before ≡ last_position (words_in es) e.word
+linked_last es e linked = linked (length es) e (got_last es e) ∙ ap (λ ws. last_position ws e.word) (words_all es e)
 
-pub place_push : (es : List Entry) (e : Entry) (word : ℕ) → last_place (words_in (es ++ e ∷ [])) word ≡ cond (e.word == word) (Some (length es)) (last_place (words_in es) word)
-place_push es e word = ap (λ ws. last_place ws word) (words_push es e) ∙ (last_push (words_in es) e.word word ∙ ap (λ n. cond (e.word == word) (Some n) (last_place (words_in es) word)) (words_long es))
+pub position_push : (es : List Entry) (e : Entry) (word : ℕ) → last_position (words_in (es ++ e ∷ [])) word ≡ cond (e.word == word) (Some (length es)) (last_position (words_in es) word)
+position_push es e word = ap (λ ws. last_position ws word) (words_push es e) ∙ (last_push (words_in es) e.word word ∙ ap (λ n. cond (e.word == word) (Some n) (last_position (words_in es) word)) (words_long es))
 
-pub place_last : (es : List Entry) (e : Entry) → last_place (words_in (es ++ e ∷ [])) e.word ≡ Some (length es)
-place_last es e = place_push es e e.word ∙ ap (λ b. cond b (Some (length es)) (last_place (words_in es) e.word)) (eq-eqb e.word e.word refl)
+pub position_last : (es : List Entry) (e : Entry) → last_position (words_in (es ++ e ∷ [])) e.word ≡ Some (length es)
+position_last es e = position_push es e e.word ∙ ap (λ b. cond b (Some (length es)) (last_position (words_in es) e.word)) (eq-eqb e.word e.word refl)
 
--- the places once the last entry is gone
-pub place_pop : (es : List Entry) (e : Entry) (word : ℕ) → IsLinked (es ++ e ∷ []) → cond (e.word == word) e.before (last_place (words_in (es ++ e ∷ [])) word) ≡ last_place (words_in es) word
-place_pop es e word linked = ap (cond (e.word == word) e.before) (place_push es e word) ∙ elim (cases_Bool (e.word == word)) [
-  | inl same ↦ ap (λ b. cond b e.before (cond b (Some (length es)) (last_place (words_in es) word))) same ∙ (linked_last es e linked ∙ ap (last_place (words_in es)) (eqb-true e.word word same))
-  | inr other ↦ ap (λ b. cond b e.before (cond b (Some (length es)) (last_place (words_in es) word))) other
+-- the positions once the last entry is gone
+pub position_pop : (es : List Entry) (e : Entry) (word : ℕ) → IsLinked (es ++ e ∷ []) → cond (e.word == word) e.before (last_position (words_in (es ++ e ∷ [])) word) ≡ last_position (words_in es) word
+position_pop es e word linked = ap (cond (e.word == word) e.before) (position_push es e word) ∙ elim (cases_Bool (e.word == word)) [
+  | inl same ↦ ap (λ b. cond b e.before (cond b (Some (length es)) (last_position (words_in es) word))) same ∙ (linked_last es e linked ∙ ap (last_position (words_in es)) (eqb-true e.word word same))
+  | inr other ↦ ap (λ b. cond b e.before (cond b (Some (length es)) (last_position (words_in es) word))) other
 ]
 
-pub place_pushed : (es now : List Entry) (e : Entry) (word place : ℕ) (had got : Option ℕ) → now ≡ es ++ e ∷ [] → place ≡ length es → had ≡ last_place (words_in es) word → got ≡ cond (e.word == word) (Some place) had → got ≡ last_place (words_in now) word
-place_pushed es now e word place had got items at h g =
+pub position_pushed : (es now : List Entry) (e : Entry) (word position : ℕ) (had got : Option ℕ) → now ≡ es ++ e ∷ [] → position ≡ length es → had ≡ last_position (words_in es) word → got ≡ cond (e.word == word) (Some position) had → got ≡ last_position (words_in now) word
+position_pushed es now e word position had got items at h g =
     g ∙ (ap (λ n. cond (e.word == word) (Some n) had) at ∙ (ap (cond (e.word == word) (Some (length es))) h
-    ∙ (sym (place_push es e word) ∙ ap (λ r. last_place (words_in r) word) (sym items))))
+    ∙ (sym (position_push es e word) ∙ ap (λ r. last_position (words_in r) word) (sym items))))
 
-pub place_popped : (es before : List Entry) (e : Entry) (word : ℕ) (put had got : Option ℕ) → before ≡ es ++ e ∷ [] → IsLinked before → e.before ≡ put → had ≡ last_place (words_in before) word → got ≡ cond (e.word == word) put had → got ≡ last_place (words_in es) word
-place_popped es before e word put had got items linked is h g =
-    g ∙ (ap (λ o. cond (e.word == word) o had) (sym is) ∙ (ap (cond (e.word == word) e.before) (h ∙ ap (λ r. last_place (words_in r) word) items)
-    ∙ place_pop es e word (subst IsLinked items linked)))
+pub position_popped : (es before : List Entry) (e : Entry) (word : ℕ) (put had got : Option ℕ) → before ≡ es ++ e ∷ [] → IsLinked before → e.before ≡ put → had ≡ last_position (words_in before) word → got ≡ cond (e.word == word) put had → got ≡ last_position (words_in es) word
+position_popped es before e word put had got items linked is h g =
+    g ∙ (ap (λ o. cond (e.word == word) o had) (sym is) ∙ (ap (cond (e.word == word) e.before) (h ∙ ap (λ r. last_position (words_in r) word) items)
+    ∙ position_pop es e word (subst IsLinked items linked)))
 
 take_all : (xs : List ℕ) → take (length xs) xs ≡ xs
 take_all [] = refl
@@ -153,14 +153,21 @@ begins_then notes more ws count h =
     begins_more (noted_words (take count notes)) (take count ws) (noted_words more) (begins_cut notes ws count h)
     ∙ ap (take (length (take count ws))) (sym (map-append (λ (k : Note). k.word) (take count notes) more))
 
+-- the index is cut to notes that are as they were
+pub begins_kept : (old new : List Note) (ws : List ℕ) (count : ℕ) → take count new ≡ take count old → BeginsWith (noted_words old) ws → BeginsWith (noted_words new) (take count ws)
+begins_kept old new ws count same h =
+    let front : BeginsWith (noted_words (take count new)) (take count ws) = subst (λ z. BeginsWith (noted_words z) (take count ws)) (sym same) (begins_cut old ws count h) in
+    let all : noted_words (take count new) ++ noted_words (drop count new) ≡ noted_words new = sym (map-append (λ (k : Note). k.word) (take count new) (drop count new)) ∙ ap noted_words (take-append-drop count new) in
+    subst (λ z. BeginsWith z (take count ws)) all (begins_more (noted_words (take count new)) (take count ws) (noted_words (drop count new)) front)
+
 -- the same of equal lists
 pub begins_same : {all now ws kept : List ℕ} → now ≡ all → kept ≡ ws → BeginsWith all ws → BeginsWith now kept
 begins_same {all} {now} {ws} {kept} e k h = k ∙ (h ∙ (ap (λ r. take (length r) all) (sym k) ∙ ap (take (length kept)) (sym e)))
 
 -- a result that can't be an error
-pub ok_of : {A B P : Type 0} (r : Result A B) (value : Option ℕ) (place : ℕ) → OnOk r P → OnErr r (value ≡ None) → value ≡ Some place → P
-ok_of (Ok a) value place ok err e = ok
-ok_of (Err b) value place ok err e = absurd (none-some place (sym err ∙ e))
+pub ok_of : {A B P : Type 0} (r : Result A B) (value : Option ℕ) (position : ℕ) → OnOk r P → OnErr r (value ≡ None) → value ≡ Some position → P
+ok_of (Ok a) value position ok err e = ok
+ok_of (Err b) value position ok err e = absurd (none-some position (sym err ∙ e))
 
 pub pushed : {A B X : Type 0} (r : Result A B) (more before now : List X) → IsOk r → now ≡ cond (is_ok r) more before → now ≡ more
 pushed r more before now ok e = e ∙ ap (λ b. cond b more before) ok

@@ -1,4 +1,5 @@
 mod IndexLists
-pub mod Lists
-mod Places
+pub mod NoteLists
+mod LastPositions
 pub mod PutBack
+pub mod NoteOrder

@@ -6,7 +6,7 @@ use Rattle.std.proofs.lemmas.Bool.{eqb-true, eqb-false, eq-eqb, ne_eqb, cases_Bo
 use Rattle.tx_events.specs.Memory.{update}
 use Rattle.undo_log.specs.declared.notes.Note.{Note}
 use Rattle.undo_log.specs.Notes.{first_note, is_noted, put_back, word_back, others, noted_too, HoldsOf}
-use Rattle.undo_log.proofs.Lists.{put_push}
+use Rattle.undo_log.proofs.NoteLists.{put_push}
 
 abbrev pub first_by : Bool → Note → Option ℕ → Option ℕ
 first_by b n rest = cond b (Some n.old) rest

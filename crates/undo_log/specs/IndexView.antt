@@ -10,4 +10,4 @@ words_listed index = words_in index.entries.items
 -- there is room for one word more
 pub record CanAdd (index : Index) : Type 0 where
   pub entries : vec_len index.entries < vec_capacity index.entries
-  pub places : 0 < spare index.newest
+  pub positions : 0 < spare index.newest

@@ -1,4 +1,5 @@
 pub mod Index
 pub mod IndexView
 pub mod Notes
+pub mod Order
 pub mod View

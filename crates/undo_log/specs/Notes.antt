@@ -1,7 +1,7 @@
 -- Lists of notes, and putting them back.
 use Rattle.std.specs.Prelude.{ℕ, ◌==◌, Bool, not, Option, Some, None, unwrap_or, option_map, List, [], ◌∷◌, ◌++◌, ◌≡◌, if◌then◌else◌, filter, map}
 use Rattle.std.specs.List.{find, list_all, list_any}
-use Rattle.tx_events.specs.Memory.{Place, can_access, update}
+use Rattle.tx_events.specs.Memory.{MemoryLayout, can_access, update}
 use Rattle.undo_log.specs.declared.notes.Note.{Note}
 
 -- what the first note of the word has
@@ -29,7 +29,7 @@ abbrev pub others : ℕ → List Note → List Note
 others word notes = filter (λ n. not (n.word == word)) notes
 
 -- each noted word is a word of the memory
-abbrev pub can_put_back : Place → List Note → Bool
+abbrev pub can_put_back : MemoryLayout → List Note → Bool
 can_put_back p notes = list_all (λ n. can_access p n.word 8) notes
 
 -- the notes, and one of this word where it is not noted

@@ -1,29 +1,32 @@
-//! A list of words that tells where each word stands last, by a hash map from each word to that place. Each entry keeps
-//! the place of its word before it, so that the list can be cut back.
+//! A list of words that tells where each word stands last, by a hash map from each word to that position. Each entry keeps
+//! the position of its word before it, so that the list can be cut back.
 ghost use Rattle.std.specs.Prelude.{◌≡◌, ℕ};
 ghost use Rattle.std.specs.Bool.{nat_eq};
 ghost use Rattle.std.specs.HashMap.{get};
-ghost use Rattle.undo_log.specs.Index.{last_place, words_in, IsLinked};
+ghost use Rattle.undo_log.specs.Index.{last_position, words_in, IsLinked};
 
 use crate::notes::Note;
 use std::alloc::{AllocError, Global};
 use std::collections::HashMap;
+
+/// Below one word in so many that there is room for, an index is cleared word by word, else as a whole.
+const FEW: usize = 128;
 
 /// A word of the list.
 #[derive(Clone, Copy)]
 pub(crate) struct Entry {
     /// The address of the word.
     word: u64,
-    /// The place of the last entry before this one that has the word.
+    /// The position of the last entry before this one that has the word.
     before: Option<usize>,
 }
 
-/// A list of words, and for each word the place of its last occurrence.
+/// A list of words, and for each word the position of its last occurrence.
 #[derive(Drop)]
 pub(crate) struct Index {
     entries: Vec<Entry>,
     newest: HashMap<u64, usize>,
-    ghost places: { (word : ℕ) → get nat_eq newest word ≡ last_place (words_in entries.items) word },
+    ghost positions: { (word : ℕ) → get nat_eq newest word ≡ last_position (words_in entries.items) word },
     ghost linked: { IsLinked entries.items },
 }
 
@@ -54,7 +57,7 @@ impl Index {
     /// Makes room for one word more.
     pub(crate) fn reserve(&mut self) -> Result<(), AllocError>
         ensures words { words_listed self.new ≡ words_listed self.old }
-        ensures room { OnOk result (CanAdd self.new) }
+        ensures capacity { OnOk result (CanAdd self.new) }
     {
         self.entries.reserve(1)?;
         self.newest.reserve(1)
@@ -65,8 +68,8 @@ impl Index {
         requires { CanAdd self.old }
         ensures { words_listed self.new ≡ words_listed self.old ++ word ∷ [] }
     {
-        let place = self.len();
-        let before = match self.newest.insert(word, place) {
+        let position = self.len();
+        let before = match self.newest.insert(word, position) {
             Ok(before) => before,
             Err(_) => unreachable!(),
         };
@@ -91,7 +94,7 @@ impl Index {
         ensures { result ≡ list_any (λ w. w == word) (drop start (words_listed self.now)) }
     {
         match self.newest.get(&word) {
-            Some(place) => *place >= start,
+            Some(position) => *position >= start,
             None => false,
         }
     }
@@ -105,15 +108,34 @@ impl Index {
         }
     }
 
+    /// Takes out all words.
+    pub(crate) fn clear(&mut self)
+        ensures { words_listed self.new ≡ [] }
+    {
+        if self.len() <= self.newest.capacity() / FEW {
+            self.truncate(0);
+        } else {
+            self.clear_whole();
+        }
+    }
+
+    /// Takes out all words at once.
+    fn clear_whole(&mut self)
+        ensures { words_listed self.new ≡ [] }
+    {
+        self.newest.clear();
+        self.entries.clear();
+    }
+
     /// Takes out the last word.
     fn pop(&mut self)
         ensures { words_listed self.new ≡ take (length (words_listed self.old) - 1) (words_listed self.old) }
     {
         if let Some(entry) = self.entries.pop() {
             match entry.before {
-                Some(place) => {
+                Some(position) => {
                     // The word is there, so no memory is taken.
-                    let _ = self.newest.insert(entry.word, place);
+                    let _ = self.newest.insert(entry.word, position);
                 }
                 None => {
                     let _ = self.newest.remove(&entry.word);

@@ -1,9 +1,11 @@
 //! Lists of notes.
-ghost use Rattle.std.specs.Prelude.{◌≡◌, ◌==◌, ◌≤◌, ◌<◌, ◌+◌, ◌++◌, ◌↔◌, ℕ, [], true, not, length, take, drop, map, IsNone, IfSome, All};
+ghost use Rattle.std.specs.Prelude.{◌≡◌, ◌==◌, ◌≤◌, ◌<◌, ◌+◌, ◌-◌, ◌++◌, ◌↔◌, ℕ, [], true, not, option_map, slice_get, length, take, drop, map, IsNone, IfSome, All};
 ghost use Rattle.std.specs.List.{list_all, list_any};
 ghost use Rattle.tx_events.specs.Memory.{can_access, update};
-ghost use Rattle.tx_memory.specs.View.{place_of, words_of};
+ghost use Rattle.tx_memory.specs.View.{layout_of, words_of};
 ghost use Rattle.undo_log.specs.Notes.{first_note, is_noted, put_back, word_back, others, can_put_back};
+ghost use Rattle.undo_log.specs.Order.{IsDescending};
+ghost use Rattle.std.specs.List.Sorted.{IsPermutation};
 
 use tx_memory::Memory;
 
@@ -21,6 +23,37 @@ pub(crate) fn first_old(notes: &[Note], word: u64) -> Option<u64>
     ensures { result ≡ first_note notes.now word }
 {
     notes.iter().find(|n| n.word == word).map(|n| n.old)
+}
+
+/// The word of the last note.
+pub(crate) fn last_word(notes: &[Note]) -> Option<u64>
+    ensures { result ≡ option_map (λ n. n.word) (slice_get notes.now (length notes.now - 1)) }
+{
+    match notes.last() {
+        Some(note) => Some(note.word),
+        None => None,
+    }
+}
+
+/// Puts the notes in order of their words, the greatest first.
+fn sort_descending(notes: &mut [Note])
+    ensures len { length notes.new ≡ length notes.old }
+    ensures moved { IsPermutation notes.old notes.new }
+    ensures sorted { IsDescending notes.new }
+{
+    notes.sort_unstable_by_key(|n| n.word);
+    notes.reverse();
+}
+
+/// Puts the notes from `start` on in order of their words, the greatest first.
+pub(crate) fn sort_from(notes: &mut Vec<Note>, start: usize)
+    requires { start ≤ length notes.old.items }
+    ensures len { length notes.new.items ≡ length notes.old.items }
+    ensures older { take start notes.new.items ≡ take start notes.old.items }
+    ensures moved { IsPermutation (drop start notes.old.items) (drop start notes.new.items) }
+    ensures sorted { IsDescending (drop start notes.new.items) }
+{
+    sort_descending(&mut notes[start..]);
 }
 
 /// The least word that is noted.
@@ -41,8 +74,8 @@ pub(crate) fn count_others(notes: &[Note], word: u64) -> usize
 
 /// Gives each noted word what its first note has.
 pub(crate) fn put_all_back(memory: &mut Memory, notes: &[Note])
-    requires { can_put_back (place_of memory.old) notes.now ≡ true }
-    ensures place { place_of memory.new ≡ place_of memory.old }
+    requires { can_put_back (layout_of memory.old) notes.now ≡ true }
+    ensures layout { layout_of memory.new ≡ layout_of memory.old }
     ensures words { words_of memory.new ≡ put_back notes.now (words_of memory.old) }
 {
     let mut left = notes.len();
@@ -53,34 +86,34 @@ pub(crate) fn put_all_back(memory: &mut Memory, notes: &[Note])
     }
 }
 
-/// Gives the word what its first note has, if it is noted.
-pub(crate) fn put_word_back(memory: &mut Memory, notes: &[Note], word: u64)
-    requires { can_access (place_of memory.old) word 8 ≡ true }
-    ensures place { place_of memory.new ≡ place_of memory.old }
-    ensures words { words_of memory.new ≡ word_back (first_note notes.now word) word (words_of memory.old) }
+/// Gives the word these bytes, if there are any.
+pub(crate) fn put_word_back(memory: &mut Memory, first: Option<u64>, word: u64)
+    requires { can_access (layout_of memory.old) word 8 ≡ true }
+    ensures layout { layout_of memory.new ≡ layout_of memory.old }
+    ensures words { words_of memory.new ≡ word_back first word (words_of memory.old) }
 {
-    if let Some(old) = first_old(notes, word) {
+    if let Some(old) = first {
         put_word(memory, word, old);
     }
 }
 
 /// Gives the word these bytes.
 fn put_word(memory: &mut Memory, word: u64, old: u64)
-    requires { can_access (place_of memory.old) word 8 ≡ true }
-    ensures place { place_of memory.new ≡ place_of memory.old }
+    requires { can_access (layout_of memory.old) word 8 ≡ true }
+    ensures layout { layout_of memory.new ≡ layout_of memory.old }
     ensures words { words_of memory.new ≡ update (words_of memory.old) word old }
 {
     memory.store(word, 8, old);
 }
 
 /// Takes out the word's notes from `start` on.
-pub(crate) fn remove_from(notes: &mut Vec<Note>, start: usize, word: u64)
+pub(crate) fn remove_each(notes: &mut Vec<Note>, start: usize, word: u64)
     requires { start ≤ length notes.old.items }
     ensures { notes.new.items ≡ take start notes.old.items ++ others word (drop start notes.old.items) }
 {
     let mut kept = start;
-    for place in start..notes.len() {
-        let note = notes[place];
+    for position in start..notes.len() {
+        let note = notes[position];
         if note.word != word {
             notes[kept] = note;
             kept += 1;

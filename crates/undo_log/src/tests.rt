@@ -1,7 +1,7 @@
 //! Each call on its happy path, with ample memory.
 ghost use Rattle.std.specs.Prelude.{◌≡◌};
 ghost use Rattle.tx_events.specs.Memory.{can_access};
-ghost use Rattle.tx_memory.specs.View.{place_of};
+ghost use Rattle.tx_memory.specs.View.{layout_of};
 ghost use Rattle.undo_log.specs.Notes.{can_put_back};
 
 mod noted;
@@ -18,14 +18,14 @@ const OTHER: u64 = 65_544;
 
 /// Whether the address names a word of the memory.
 fn is_word(memory: &Memory, word: u64) -> bool
-    ensures { result ≡ can_access (place_of memory.now) word 8 }
+    ensures { result ≡ can_access (layout_of memory.now) word 8 }
 {
     memory.load(word, 8).is_some()
 }
 
 /// Whether each note is of a word of the memory.
 fn are_words(memory: &Memory, notes: &[Note]) -> bool
-    ensures { result ≡ can_put_back (place_of memory.now) notes.now }
+    ensures { result ≡ can_put_back (layout_of memory.now) notes.now }
 {
     notes.iter().all(|n| is_word(memory, n.word))
 }
@@ -153,6 +153,29 @@ fn the_newest_mark_is_undone_word_by_word(rt: HostRuntime) -> Result<(), Fail> {
     assert_eq!(rt; memory.load(OTHER, 8), Some(2));
     assert_eq!(rt; log.notes(), [Note { word: WORD, old: 1 }].as_slice());
     assert_eq!(rt; log.marks(), [0, 1].as_slice());
+    Ok(())
+}
+
+#[test]
+fn notes_in_order_and_a_log_that_starts_over(rt: HostRuntime) -> Result<(), Fail> {
+    let mut log = Log::new(rt.alloc());
+    let _ = mark(&mut log)?;
+    note(&mut log, WORD, 5)?;
+    note(&mut log, OTHER, 6)?;
+    log.order_newest();
+    let greatest_first = [
+        Note {
+            word: OTHER,
+            old: 6,
+        },
+        Note { word: WORD, old: 5 },
+    ];
+    assert_eq!(rt; log.notes(), greatest_first.as_slice());
+    if !log.marks().is_empty() {
+        log.start_over();
+    }
+    assert_eq!(rt; log.notes().len(), 0);
+    assert_eq!(rt; log.marks(), [0].as_slice());
     Ok(())
 }
 

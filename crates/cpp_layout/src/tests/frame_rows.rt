@@ -13,10 +13,10 @@ use std::test::Fail;
 
 // Up to four items, the size of their frame, and their offsets. The size is 0 where it is too
 // large.
-type Row = ([&'static [u8]; 4], u32, [u32; 4]);
+type LayoutCursor = ([&'static [u8]; 4], u32, [u32; 4]);
 
 // `A` is `struct { char a; long b; char c; }`, `B` an empty class, `C` is `struct { B a[3]; short b; }`.
-static ROWS: [Row; 13] = [
+static ROWS: [LayoutCursor; 13] = [
     ([b"", b"", b"", b""], 16, [0, 0, 0, 0]),
     ([b"c", b"", b"", b""], 16, [0, 0, 0, 0]),
     ([b"c", b"l", b"A", b"s"], 48, [0, 8, 16, 40]),
@@ -93,10 +93,10 @@ fn is_start(offsets: &[u32], expected: &[u32; 4]) -> bool {
 }
 
 // How many of the frames are so.
-fn right_frames(alloc: Global, rows: &[Row]) -> Result<u32, AllocError> {
+fn right_frames(alloc: Global, cursor: &[LayoutCursor]) -> Result<u32, AllocError> {
     let classes = three_classes(alloc)?;
     let mut right: u32 = 0;
-    for (words, size, offsets) in rows {
+    for (words, size, offsets) in cursor {
         let types = items(alloc, words)?;
         if framed(alloc, &types, &classes, offsets)? == *size {
             right = right.saturating_add(1);

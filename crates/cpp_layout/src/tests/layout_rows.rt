@@ -1,7 +1,7 @@
-// Layouts of classes, each in the place of the list that its letter says. The numbers are those of
-// g++ (bench/cpp_layout/layouts.cc), but for the rows with a remark.
+// Layouts of classes, each at the index of the list that its letter says. The numbers are those of
+// g++ (bench/cpp_layout/layouts.cc), but for the row with a remark.
 
-use super::{class_with, measure, place, plain, read};
+use super::{class_with, measure, member_offset, plain, read};
 use crate::extents::SizeAlign;
 use cpp_types::{ClassRec, Shape};
 use std::alloc::{AllocError, Global};
@@ -9,9 +9,9 @@ use std::test::Fail;
 
 // A class's base, whether it has a virtual function, and its members; its size, its alignment and
 // the offsets of its members. The size is 0 where the class is too large.
-type Row = (Option<u32>, bool, [&'static [u8]; 3], u32, u32, [u32; 3]);
+type LayoutRow = (Option<u32>, bool, [&'static [u8]; 3], u32, u32, [u32; 3]);
 
-static ROWS: [Row; 23] = [
+static ROWS: [LayoutRow; 23] = [
     // A
     (None, false, [b"c", b"l", b"c"], 24, 8, [0, 8, 16]),
     (None, true, [b"c", b"", b""], 16, 8, [8, 0, 0]),
@@ -47,10 +47,10 @@ static ROWS: [Row; 23] = [
     (Some(16), false, [b"c", b"", b""], 0, 0, [0, 0, 0]),
 ];
 
-fn listed(alloc: Global, rows: &[Row]) -> Result<Vec<ClassRec>, AllocError> {
+fn listed(alloc: Global, cursor: &[LayoutRow]) -> Result<Vec<ClassRec>, AllocError> {
     let mut classes = Vec::new(alloc);
     let mut number: u32 = 0;
-    for (base, is_virtual, words, _, _, _) in rows {
+    for (base, is_virtual, words, _, _, _) in cursor {
         classes.push(class_with(alloc, *base, *is_virtual, words, number)?)?;
         number = number.saturating_add(1);
     }
@@ -61,7 +61,7 @@ fn listed(alloc: Global, rows: &[Row]) -> Result<Vec<ClassRec>, AllocError> {
 fn are_placed(classes: &[ClassRec], class: u32, words: &[&[u8]; 3], offsets: &[u32; 3]) -> bool {
     for i in 0..3u32 {
         if !words[i as usize].is_empty() {
-            if place(classes, class, i) != Some(offsets[i as usize]) {
+            if member_offset(classes, class, i) != Some(offsets[i as usize]) {
                 return false;
             }
         }
@@ -69,8 +69,8 @@ fn are_placed(classes: &[ClassRec], class: u32, words: &[&[u8]; 3], offsets: &[u
     true
 }
 
-fn is_laid_out(classes: &[ClassRec], class: u32, row: &Row) -> bool {
-    let (_, _, words, size, align, offsets) = row;
+fn is_laid_out(classes: &[ClassRec], class: u32, cursor: &LayoutRow) -> bool {
+    let (_, _, words, size, align, offsets) = cursor;
     match measure(&plain(Shape::Class(class)), classes) {
         Some(Ok(found)) => {
             found.size == *size
@@ -83,12 +83,12 @@ fn is_laid_out(classes: &[ClassRec], class: u32, row: &Row) -> bool {
 }
 
 // How many of the classes are laid out so.
-fn right_layouts(alloc: Global, rows: &[Row]) -> Result<u32, AllocError> {
-    let classes = listed(alloc, rows)?;
+fn right_layouts(alloc: Global, cursor: &[LayoutRow]) -> Result<u32, AllocError> {
+    let classes = listed(alloc, cursor)?;
     let mut right: u32 = 0;
     let mut number: u32 = 0;
-    for row in rows {
-        if is_laid_out(&classes, number, row) {
+    for cursor in cursor {
+        if is_laid_out(&classes, number, cursor) {
             right = right.saturating_add(1);
         }
         number = number.saturating_add(1);

@@ -179,6 +179,47 @@ fn members_are_read(rt: HostRuntime) -> Result<(), Fail> {
     check(&rt, rt.alloc(), BEFORE, BEHIND, &rows)
 }
 
+// A word with a special meaning is read so in its places, also where a type of the unit has that name.
+#[test]
+fn words_that_also_name_types_are_read(rt: HostRuntime) -> Result<(), Fail> {
+    let rows = [
+        (
+            "struct T { int f() override; }; struct override {};",
+            "ClassSpecifier:T(ClassKey:struct MemberSpecification:}(MemberDeclaration:int(TypeSpecifierSeq(SimpleTypeSpecifier:int) \
+             MemberDeclarator:f(FunctionDeclarator:((DeclaratorId:f ParameterDeclarationClause FunctionQualifiers) VirtSpecifier:override)))) \
+             ClassSpecifier:override(ClassKey:struct MemberSpecification:})",
+        ),
+        (
+            "void f() transaction_safe; struct transaction_safe {}; transaction_safe x;",
+            "SimpleDeclaration:void(TypeSpecifierSeq(SimpleTypeSpecifier:void) InitDeclarator:f(FunctionDeclarator:((DeclaratorId:f \
+             ParameterDeclarationClause FunctionQualifiers(TxQualifier:transaction_safe)))) \
+             ClassSpecifier:transaction_safe(ClassKey:struct MemberSpecification:}) \
+             SimpleDeclaration:transaction_safe(TypeSpecifierSeq(TypeName:transaction_safe) InitDeclarator:x(DeclaratorId:x))",
+        ),
+        (
+            "struct final final {};",
+            "ClassSpecifier:final(ClassKey:struct VirtSpecifier:final MemberSpecification:})",
+        ),
+        (
+            "struct final {}; struct T final {};",
+            "ClassSpecifier:final(ClassKey:struct MemberSpecification:}) \
+             ClassSpecifier:T(ClassKey:struct VirtSpecifier:final MemberSpecification:})",
+        ),
+        (
+            "struct tx_exception {}; std::tx_exception<int> x;",
+            "ClassSpecifier:tx_exception(ClassKey:struct MemberSpecification:}) \
+             SimpleDeclaration:std(TypeSpecifierSeq(TxException:tx_exception(TypeId(TypeSpecifierSeq(SimpleTypeSpecifier:int) OmittedId))) \
+             InitDeclarator:x(DeclaratorId:x))",
+        ),
+        (
+            "struct abort {}; int x = std::abort;",
+            "ClassSpecifier:abort(ClassKey:struct MemberSpecification:}) \
+             SimpleDeclaration:int(TypeSpecifierSeq(SimpleTypeSpecifier:int) InitDeclarator:x(DeclaratorId:x EqualInitializer:=(StdAbort:abort)))",
+        ),
+    ];
+    check(&rt, rt.alloc(), ("", ""), ("", ""), &rows)
+}
+
 #[test]
 fn other_declarations_are_refused(rt: HostRuntime) -> Result<(), Fail> {
     let rows = [

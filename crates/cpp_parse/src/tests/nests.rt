@@ -1,4 +1,4 @@
-// Texts that nest: up to the limit, beyond it, and so deep that calls may not be nested as deep.
+// Derivations that nest: up to the limit, beyond it, and so deep that calls may not be nested as deep.
 
 use super::answer_of;
 use std::alloc::Global;

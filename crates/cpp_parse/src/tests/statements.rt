@@ -173,6 +173,35 @@ fn declarations_and_expressions_are_told_apart(rt: HostRuntime) -> Result<(), Fa
             "sizeof(T);",
             "ExpressionStatement:;(SizeofType:sizeof(TypeId(TypeSpecifierSeq(TypeName:T) OmittedId)))",
         ),
+        // Commas between ? and : separate no declarators.
+        (
+            "int x = a ? b, c : d;",
+            "SimpleDeclaration:int(TypeSpecifierSeq(SimpleTypeSpecifier:int) InitDeclarator:x(DeclaratorId:x \
+             EqualInitializer:=(ConditionalExpression:?(UnqualifiedId:a CommaExpression:,(UnqualifiedId:b UnqualifiedId:c) UnqualifiedId:d))))",
+        ),
+        (
+            "T(x) = b ? b, b : b;",
+            "SimpleDeclaration:T(TypeSpecifierSeq(TypeName:T) InitDeclarator:x(ParenthesizedDeclarator:((DeclaratorId:x) \
+             EqualInitializer:=(ConditionalExpression:?(UnqualifiedId:b CommaExpression:,(UnqualifiedId:b UnqualifiedId:b) UnqualifiedId:b))))",
+        ),
+        (
+            "T(x) = a ? b, c = d : e, y;",
+            "SimpleDeclaration:T(TypeSpecifierSeq(TypeName:T) InitDeclarator:x(ParenthesizedDeclarator:((DeclaratorId:x) \
+             EqualInitializer:=(ConditionalExpression:?(UnqualifiedId:a CommaExpression:,(UnqualifiedId:b \
+             AssignmentExpression:=(UnqualifiedId:c UnqualifiedId:d)) UnqualifiedId:e))) InitDeclarator:y(DeclaratorId:y))",
+        ),
+        (
+            "int x = a ? b ? c, d : e : f;",
+            "SimpleDeclaration:int(TypeSpecifierSeq(SimpleTypeSpecifier:int) InitDeclarator:x(DeclaratorId:x \
+             EqualInitializer:=(ConditionalExpression:?(UnqualifiedId:a ConditionalExpression:?(UnqualifiedId:b \
+             CommaExpression:,(UnqualifiedId:c UnqualifiedId:d) UnqualifiedId:e) UnqualifiedId:f))))",
+        ),
+        (
+            "for (int x = a ? b, c : d; ; ) ;",
+            "ForStatement:for(SimpleDeclaration:int(TypeSpecifierSeq(SimpleTypeSpecifier:int) InitDeclarator:x(DeclaratorId:x \
+             EqualInitializer:=(ConditionalExpression:?(UnqualifiedId:a CommaExpression:,(UnqualifiedId:b UnqualifiedId:c) UnqualifiedId:d)))) \
+             Absent Absent NullStatement:;)",
+        ),
         (
             "sizeof(x)[0];",
             "ExpressionStatement:;(SizeofExpression:sizeof(Subscript:[(ParenthesizedExpression:((UnqualifiedId:x) IntegerLiteral:0)))",
@@ -226,7 +255,8 @@ fn other_texts_are_refused(rt: HostRuntime) -> Result<(), Fail> {
         ("int main() { class T; }", "Syntax 5"),
         ("class T; int main() { T x(); }", "Syntax 10"),
         ("class T; class U; int main() { T x(U()); }", "Syntax 13"),
-        ("int main() { int x = a ? b, c : d; }", "Syntax 6"),
+        ("int main() { int x = a ? b, c; }", "Syntax 13"),
+        ("class T; int main() { (T)auto(1); }", "Syntax 10"),
         ("int main() { [] { goto x; }; }", "Syntax 8"),
         ("int main() { } }", "Syntax 6"),
     ];

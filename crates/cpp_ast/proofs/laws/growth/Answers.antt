@@ -1,4 +1,4 @@
-use Rattle.cpp_ast.proofs.Shown.{extends_refl, extends_trans, shows_grow, adds_shows, cut_back, one_tree}
+use Rattle.cpp_ast.proofs.NodeTrees.{extends_refl, extends_trans, shows_grow, adds_shows, cut_back, one_tree}
 use Rattle.cpp_ast.proofs.laws.growth.Goals as goal
 
 pub returns : goal.returns

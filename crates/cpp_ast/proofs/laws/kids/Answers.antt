@@ -1,4 +1,4 @@
-use Rattle.cpp_ast.proofs.Shown.{all_below, no_nodes, with_node}
+use Rattle.cpp_ast.proofs.NodeTrees.{all_below, no_nodes, with_node}
 use Rattle.cpp_ast.proofs.laws.kids.Goals as goal
 
 pub returns : goal.returns

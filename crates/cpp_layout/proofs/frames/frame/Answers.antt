@@ -10,7 +10,7 @@ returns-in_default c = frame_over (classes_of c.args.classes.now) c.args.items.n
 
 pub loop-item-preserved : goal.loop-item-preserved
 loop-item-preserved c = record {
-  end = next_end (classes_of c.args.classes.now) c.args.items.now c.loop-item.item-index c.loop-item.end c.item-item.result c.in-Some.place c.loop-item-test.true c.item-item.is c.loop-item.invariant.end c.in-Some.ensures;
-  offsets = next_offsets (classes_of c.args.classes.now) c.args.items.now c.loop-item.item-index c.loop-item.end c.item-item.result c.in-Some.place c.loop-item.offsets.items c.put.new.offsets.items c.loop-item-test.true c.item-item.is c.loop-item.invariant.end c.in-Some.ensures c.loop-item.invariant.offsets c.in-Ok.ensures;
+  end = next_end (classes_of c.args.classes.now) c.args.items.now c.loop-item.item-index c.loop-item.end c.item-item.result c.in-Some.lies c.loop-item-test.true c.item-item.is c.loop-item.invariant.end c.in-Some.ensures;
+  offsets = next_offsets (classes_of c.args.classes.now) c.args.items.now c.loop-item.item-index c.loop-item.end c.item-item.result c.in-Some.lies c.loop-item.offsets.items c.put.new.offsets.items c.loop-item-test.true c.item-item.is c.loop-item.invariant.end c.in-Some.ensures c.loop-item.invariant.offsets c.in-Ok.ensures;
   within = c.in-Some.ensures.within;
 }

@@ -6,10 +6,11 @@ use Rattle.cpp_layout.specs.Layout.{class_extent, form_extent, member_extent, en
 use Rattle.cpp_layout.specs.Measured.{HeldBelow, Follows}
 use Rattle.cpp_layout.proofs.Forms.{none_answers, answers_along, answers_by, answers_alone, large_part, vacant_measured}
 use Rattle.cpp_layout.proofs.Nesting.{own_depth, base_depth, base_complete, members_below, member_depth, member_complete, over_base, over_pointer, over_members, whole_is, extents_of, large_item, member_over, member_behind, item_over, no_members, seen}
+use Rattle.cpp_layout.specs.declared.extents.TheConstants.{GREATEST_SIZE}
 use Rattle.cpp_layout.proofs.measures.+measure.Goals as goal
 
-pub class_measured-base_row-requires : goal.class_measured-base_row-requires
-class_measured-base_row-requires t c = let d = base_depth (classes_of c.args.classes.now) c.requires.in_order c.args.class c.in_ok-number.number (class_of c.in_ok-found.found.now) c.in_ok-found.ensures c.in_ok-number.was in (omega arith, (c.requires.in_order, base_complete (classes_of c.args.classes.now) c.requires.in_order c.args.class c.in_ok-number.number (class_of c.in_ok-found.found.now) c.in_ok-found.ensures c.in_ok-number.was))
+pub class_measured-base_cursor-requires : goal.class_measured-base_cursor-requires
+class_measured-base_cursor-requires t c = let d = base_depth (classes_of c.args.classes.now) c.requires.in_order c.args.class c.in_ok-number.number (class_of c.in_ok-found.found.now) c.in_ok-found.ensures c.in_ok-number.was in (omega arith, (c.requires.in_order, base_complete (classes_of c.args.classes.now) c.requires.in_order c.args.class c.in_ok-number.number (class_of c.in_ok-found.found.now) c.in_ok-found.ensures c.in_ok-number.was))
 
 pub class_measured-returns-in_err-base : goal.class_measured-returns-in_err-base
 class_measured-returns-in_err-base t c = none_answers c.from_residual-in_err-base.result (class_extent (classes_of c.args.classes.now) c.args.class) c.from_residual-in_err-base.ensures (over_base (classes_of c.args.classes.now) c.requires.in_order c.args.class c.in_ok-number.number (class_of c.in_ok-found.found.now) c.in_ok-found.ensures c.in_ok-number.was c.in_err-base.ensures)
@@ -22,11 +23,11 @@ class_measured-with_members-requires t c =
     let d = own_depth (classes_of c.args.classes.now) c.args.class c.in_ok-number.number (class_of c.in_ok-found.found.now) c.in_ok-found.ensures c.in_ok-number.was in
     (omega arith, (c.requires.in_order, (subst (λ (z : List MemberRec). HeldBelow (classes_of c.args.classes.now) c.in_ok-number.number (map member_of z)) (sym c.deref.ensures.value) (members_below (classes_of c.args.classes.now) c.requires.in_order c.args.class c.in_ok-number.number (class_of c.in_ok-found.found.now) c.in_ok-found.ensures c.in_ok-number.was), c.in_ok-head.ensures.bounds)))
 
-pub class_measured-returns-in_err-row : goal.class_measured-returns-in_err-row
-class_measured-returns-in_err-row t c = none_answers c.from_residual-in_err-row.result (class_extent (classes_of c.args.classes.now) c.args.class) c.from_residual-in_err-row.ensures (over_members (classes_of c.args.classes.now) c.requires.in_order c.args.class c.in_ok-number.number (class_of c.in_ok-found.found.now) c.in_ok-found.ensures c.in_ok-number.was c.in_ok-base.base c.in_ok-head.head c.in_ok-base.ensures c.in_ok-head.ensures (subst (λ (z : List MemberRec). 1048576 < end_from c.in_ok-head.head.end (extents_of (classes_of c.args.classes.now) z)) c.deref.ensures.value c.in_err-row.ensures))
+pub class_measured-returns-in_err-cursor : goal.class_measured-returns-in_err-cursor
+class_measured-returns-in_err-cursor t c = none_answers c.from_residual-in_err-cursor.result (class_extent (classes_of c.args.classes.now) c.args.class) c.from_residual-in_err-cursor.ensures (over_members (classes_of c.args.classes.now) c.requires.in_order c.args.class c.in_ok-number.number (class_of c.in_ok-found.found.now) c.in_ok-found.ensures c.in_ok-number.was c.in_ok-base.base c.in_ok-head.head c.in_ok-base.ensures c.in_ok-head.ensures (subst (λ (z : List MemberRec). GREATEST_SIZE < end_from c.in_ok-head.head.end (extents_of (classes_of c.args.classes.now) z)) c.deref.ensures.value c.in_err-cursor.ensures))
 
 pub class_measured-returns : goal.class_measured-returns
-class_measured-returns t c = answers_along c.whole_of.result (seen c.in_ok-row.row) (class_extent (classes_of c.args.classes.now) c.args.class) (whole_is (classes_of c.args.classes.now) c.requires.in_order c.args.class c.in_ok-number.number (class_of c.in_ok-found.found.now) c.in_ok-found.ensures c.in_ok-number.was c.in_ok-base.base c.in_ok-head.head c.in_ok-row.row c.in_ok-base.ensures c.in_ok-head.ensures (subst (λ (z : List MemberRec). Follows c.in_ok-head.head (extents_of (classes_of c.args.classes.now) z) c.in_ok-row.row) c.deref.ensures.value c.in_ok-row.ensures)) c.whole_of.ensures
+class_measured-returns t c = answers_along c.whole_of.result (seen c.in_ok-cursor.cursor) (class_extent (classes_of c.args.classes.now) c.args.class) (whole_is (classes_of c.args.classes.now) c.requires.in_order c.args.class c.in_ok-number.number (class_of c.in_ok-found.found.now) c.in_ok-found.ensures c.in_ok-number.was c.in_ok-base.base c.in_ok-head.head c.in_ok-cursor.cursor c.in_ok-base.ensures c.in_ok-head.ensures (subst (λ (z : List MemberRec). Follows c.in_ok-head.head (extents_of (classes_of c.args.classes.now) z) c.in_ok-cursor.cursor) c.deref.ensures.value c.in_ok-cursor.ensures)) c.whole_of.ensures
 
 pub measured-returns-then-has_no_elements : goal.measured-returns-then-has_no_elements
 measured-returns-then-has_no_elements t c = vacant_measured (class_extent (classes_of c.args.classes.now)) (shape_form c.args.shape.now) c.align_of.result (sym c.if-has_no_elements.ensures) c.align_of.ensures.value c.align_of.ensures.low c.align_of.ensures.high
@@ -46,10 +47,10 @@ with_members-measured-requires t c =
     (omega arith, (c.requires.in_order, member_complete (classes_of c.args.classes.now) c.args.number c.args.members.now c.requires.held c.loop-member.member-index c.member-item.result c.loop-member-test.true c.member-item.is))
 
 pub with_members-returns-in_err-measured : goal.with_members-returns-in_err-measured
-with_members-returns-in_err-measured t c = no_members c.from_residual.result c.args.start (extents_of (classes_of c.args.classes.now) c.args.members.now) c.from_residual.ensures (member_over (classes_of c.args.classes.now) c.args.members.now c.loop-member.member-index c.member-item.result c.loop-member-test.true c.member-item.is c.args.start c.loop-member.row c.loop-member.invariant (large_item c.loop-member.row.end (member_extent (class_extent (classes_of c.args.classes.now)) (member_of c.member-item.result)) c.in_err-measured.ensures))
+with_members-returns-in_err-measured t c = no_members c.from_residual.result c.args.start (extents_of (classes_of c.args.classes.now) c.args.members.now) c.from_residual.ensures (member_over (classes_of c.args.classes.now) c.args.members.now c.loop-member.member-index c.member-item.result c.loop-member-test.true c.member-item.is c.args.start c.loop-member.cursor c.loop-member.invariant (large_item c.loop-member.cursor.end (member_extent (class_extent (classes_of c.args.classes.now)) (member_of c.member-item.result)) c.in_err-measured.ensures))
 
-pub with_members-returns-in_err-row : goal.with_members-returns-in_err-row
-with_members-returns-in_err-row t c = no_members c.from_residual-in_err-row.result c.args.start (extents_of (classes_of c.args.classes.now) c.args.members.now) c.from_residual-in_err-row.ensures (member_over (classes_of c.args.classes.now) c.args.members.now c.loop-member.member-index c.member-item.result c.loop-member-test.true c.member-item.is c.args.start c.loop-member.row c.loop-member.invariant (item_over c.loop-member.row (member_extent (class_extent (classes_of c.args.classes.now)) (member_of c.member-item.result)) c.in_ok-measured.field-0 c.in_ok-measured.ensures c.in_err-row.ensures))
+pub with_members-returns-in_err-cursor : goal.with_members-returns-in_err-cursor
+with_members-returns-in_err-cursor t c = no_members c.from_residual-in_err-cursor.result c.args.start (extents_of (classes_of c.args.classes.now) c.args.members.now) c.from_residual-in_err-cursor.ensures (member_over (classes_of c.args.classes.now) c.args.members.now c.loop-member.member-index c.member-item.result c.loop-member-test.true c.member-item.is c.args.start c.loop-member.cursor c.loop-member.invariant (item_over c.loop-member.cursor (member_extent (class_extent (classes_of c.args.classes.now)) (member_of c.member-item.result)) c.in_ok-measured.field-0 c.in_ok-measured.ensures c.in_err-cursor.ensures))
 
 pub with_members-loop-member-preserved : goal.with_members-loop-member-preserved
-with_members-loop-member-preserved t c = member_behind (classes_of c.args.classes.now) c.args.members.now c.loop-member.member-index c.member-item.result c.loop-member-test.true c.member-item.is c.args.start c.loop-member.row c.loop-member.invariant c.in_ok-measured.field-0 c.in_ok-row.row c.in_ok-measured.ensures c.in_ok-row.ensures
+with_members-loop-member-preserved t c = member_behind (classes_of c.args.classes.now) c.args.members.now c.loop-member.member-index c.member-item.result c.loop-member-test.true c.member-item.is c.args.start c.loop-member.cursor c.loop-member.invariant c.in_ok-measured.field-0 c.in_ok-cursor.cursor c.in_ok-measured.ensures c.in_ok-cursor.ensures

@@ -8,8 +8,8 @@ use Rattle.cpp_layout.proofs.measures.+measure.Given as goal
 abbrev pub decreases-measured : goal.decreases-measured
 decreases-measured l = held_depth (classes_of l.classes.now) (held_form (shape_form l.shape.now))
 
-abbrev pub decreases-base_row : goal.decreases-base_row
-decreases-base_row l = held_depth (classes_of l.classes.now) l.base
+abbrev pub decreases-base_cursor : goal.decreases-base_cursor
+decreases-base_cursor l = held_depth (classes_of l.classes.now) l.base
 
 abbrev pub decreases-class_measured : goal.decreases-class_measured
 decreases-class_measured l = 4 * depth (classes_of l.classes.now) l.class + 3
@@ -19,4 +19,4 @@ decreases-with_members l = 4 * l.number + 2
 
 -- the members so far
 abbrev pub invariant-with_members-loop-member : goal.invariant-with_members-loop-member
-invariant-with_members-loop-member l = Follows l.fn.start (extents_of (classes_of l.classes) (take l.member-index l.members)) l.row
+invariant-with_members-loop-member l = Follows l.fn.start (extents_of (classes_of l.classes) (take l.member-index l.members)) l.cursor

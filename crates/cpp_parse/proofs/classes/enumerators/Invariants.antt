@@ -6,4 +6,4 @@ abbrev pub invariant-items : goal.invariant-items
 invariant-items l = ReadsEnumerators l.text l.at l.next l.fn.out l.out
 
 abbrev pub decreases-items : goal.decreases-items
-decreases-items l = length l.text.symbols - l.next
+decreases-items l = length l.text.terminals - l.next

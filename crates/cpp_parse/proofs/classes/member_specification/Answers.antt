@@ -1,20 +1,34 @@
 use Rattle.std.proofs.Common.{refl}
-use Rattle.cpp_syntax.specs.declared.symbol.Symbol.TheVariants as symbol
-use Rattle.cpp_syntax.specs.Symbols.{open_brace, close_brace}
-use Rattle.cpp_syntax.proofs.Alone.{passed, refused}
-use Rattle.cpp_syntax.proofs.Longest.{word_none, mark_none, seq_none, node_none}
+use Rattle.cpp_syntax.specs.declared.terminal.Terminal.TheVariants as terminal
+use Rattle.cpp_syntax.specs.Terminals.{open_brace, close_brace}
+use Rattle.cpp_syntax.proofs.SingleTerminals.{passed, refused}
+use Rattle.cpp_syntax.proofs.LongestMatches.{word_none, mark_none, seq_none, node_none}
 use Rattle.cpp_syntax.proofs.Readers.{leaves_same, leaves_both, leaves_read, reads_seq, reads_mark, none_behind}
-use Rattle.cpp_parse_expr.proofs.Answering.{parsed_err, made, word_and, none_second}
+use Rattle.cpp_parse_expr.proofs.ReaderAnswers.{parsed_err, made, word_and, none_second}
 use Rattle.cpp_parse.proofs.classes.member_specification.Goals as goal
 
 pub returns-then-not-is_at : goal.returns-then-not-is_at
-returns-then-not-is_at c = (leaves_same c.refuse.ensures, node_none (seq_none (word_none (refused open_brace symbol.OpenBrace refl _ (c.if-not-is_at.ensures.no refl)))))
+returns-then-not-is_at c = (
+  leaves_same c.expected_at.ensures,
+  node_none (seq_none (word_none (refused open_brace terminal.OpenBrace refl _
+      (c.if-not-is_at.ensures.no refl)))),
+)
 
 pub returns-then-not-is_at-2 : goal.returns-then-not-is_at-2
-returns-then-not-is_at-2 c = (leaves_both (leaves_read c.in_ok-close.ensures) (leaves_same c.refuse-then-not-is_at-2.ensures), node_none (none_second (none_behind c.in_ok-close.ensures (mark_none (refused close_brace symbol.CloseBrace refl _ (c.if-not-is_at-2.ensures.no refl))) refl refl refl)))
+returns-then-not-is_at-2 c = (
+  leaves_both (leaves_read c.in_ok-close.ensures) (leaves_same c.expected_at-then-not-is_at-2.ensures),
+  node_none
+      (none_second (none_behind c.in_ok-close.ensures (mark_none (refused close_brace terminal.CloseBrace refl _ (c.if-not-is_at-2.ensures.no refl)))
+      refl refl refl)),
+)
 
 pub returns-in_err-node : goal.returns-in_err-node
-returns-in_err-node c = parsed_err _ _ _ _ c.from_residual-in_err-node.result c.from_residual-in_err-node.ensures.0 (leaves_both (leaves_read c.in_ok-close.ensures) (leaves_same c.in_err-node.ensures.memory))
+returns-in_err-node c =
+    parsed_err _ _ _ _ c.from_residual-in_err-node.result c.from_residual-in_err-node.ensures.0
+    (leaves_both (leaves_read c.in_ok-close.ensures) (leaves_same c.in_err-node.ensures.memory))
 
 pub returns : goal.returns
-returns c = made (word_and (passed open_brace symbol.OpenBrace refl _ (c.if-not-is_at.ensures.yes refl)) (c.if-not-is_at.ensures.inside refl refl) (reads_seq c.in_ok-close.ensures (reads_mark (passed close_brace symbol.CloseBrace refl _ (c.if-not-is_at-2.ensures.yes refl)) (c.if-not-is_at-2.ensures.inside refl refl)) refl refl) refl refl) c.checkpoint-start.ensures c.in_ok-node.ensures.read
+returns c =
+    made (word_and (passed open_brace terminal.OpenBrace refl _ (c.if-not-is_at.ensures.yes refl)) (c.if-not-is_at.ensures.inside refl refl)
+    (reads_seq c.in_ok-close.ensures (reads_mark (passed close_brace terminal.CloseBrace refl _ (c.if-not-is_at-2.ensures.yes refl))
+    (c.if-not-is_at-2.ensures.inside refl refl)) refl refl) refl refl) c.checkpoint-start.ensures c.in_ok-node.ensures.read

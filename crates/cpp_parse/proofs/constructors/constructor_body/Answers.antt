@@ -1,7 +1,6 @@
 use Rattle.std.proofs.Common.{refl}
-use Rattle.cpp_syntax.specs.declared.symbol.Symbol.TheVariants as symbol
-use Rattle.cpp_parse_expr.proofs.Answering.{parsed_err}
-use Rattle.cpp_parse_expr.proofs.Suffixed.{parsed_seq}
+use Rattle.cpp_parse_expr.proofs.ReaderAnswers.{parsed_err}
+use Rattle.cpp_parse_expr.proofs.PostfixReaders.{parsed_seq}
 use Rattle.cpp_parse.proofs.constructors.constructor_body.Goals as goal
 
 pub returns-in_err-body : goal.returns-in_err-body

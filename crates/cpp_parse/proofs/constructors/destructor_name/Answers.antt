@@ -1,20 +1,28 @@
 use Rattle.std.proofs.Common.{refl}
-use Rattle.cpp_syntax.specs.declared.symbol.Symbol.TheVariants as symbol
-use Rattle.cpp_syntax.specs.Symbols.{is_type_name, tilde}
-use Rattle.cpp_syntax.proofs.Alone.{passed, refused}
-use Rattle.cpp_syntax.proofs.Longest.{word_none, mark_none, seq_none, node_none}
+use Rattle.cpp_syntax.specs.declared.terminal.Terminal.TheVariants as terminal
+use Rattle.cpp_syntax.specs.Terminals.{is_type_name, tilde}
+use Rattle.cpp_syntax.proofs.SingleTerminals.{passed, refused}
+use Rattle.cpp_syntax.proofs.LongestMatches.{word_none, mark_none, seq_none, node_none}
 use Rattle.cpp_syntax.proofs.Readers.{leaves_same, reads_mark}
-use Rattle.cpp_parse_expr.proofs.Answering.{parsed_err, made, word_and, none_second}
+use Rattle.cpp_parse_expr.proofs.ReaderAnswers.{parsed_err, made, word_and, none_second}
 use Rattle.cpp_parse.proofs.constructors.destructor_name.Goals as goal
 
 pub returns-then-not-is_at : goal.returns-then-not-is_at
-returns-then-not-is_at c = (leaves_same c.refuse.ensures, node_none (seq_none (word_none (refused tilde symbol.Tilde refl _ (c.if-not-is_at.ensures.no refl)))))
+returns-then-not-is_at c =
+    (leaves_same c.expected_at.ensures, node_none (seq_none (word_none (refused tilde terminal.Tilde refl _ (c.if-not-is_at.ensures.no refl)))))
 
 pub returns-then-not-is_at-2 : goal.returns-then-not-is_at-2
-returns-then-not-is_at-2 c = (leaves_same c.refuse-then-not-is_at-2.ensures, node_none (none_second (mark_none (refused is_type_name symbol.TypeName refl _ (c.if-not-is_at-2.ensures.no refl)))))
+returns-then-not-is_at-2 c = (
+  leaves_same c.expected_at-then-not-is_at-2.ensures,
+  node_none (none_second (mark_none
+      (refused is_type_name terminal.TypeName refl _ (c.if-not-is_at-2.ensures.no refl)))),
+)
 
 pub returns-in_err-node : goal.returns-in_err-node
 returns-in_err-node c = parsed_err _ _ _ _ c.from_residual.result c.from_residual.ensures.0 (leaves_same c.in_err-node.ensures.memory)
 
 pub returns : goal.returns
-returns c = made (word_and (passed tilde symbol.Tilde refl _ (c.if-not-is_at.ensures.yes refl)) (c.if-not-is_at.ensures.inside refl refl) (reads_mark (passed is_type_name symbol.TypeName refl _ (c.if-not-is_at-2.ensures.yes refl)) (c.if-not-is_at-2.ensures.inside refl refl)) refl refl) c.checkpoint-start.ensures c.in_ok-node.ensures.read
+returns c =
+    made (word_and (passed tilde terminal.Tilde refl _ (c.if-not-is_at.ensures.yes refl)) (c.if-not-is_at.ensures.inside refl refl)
+    (reads_mark (passed is_type_name terminal.TypeName refl _ (c.if-not-is_at-2.ensures.yes refl)) (c.if-not-is_at-2.ensures.inside refl refl)) refl
+    refl) c.checkpoint-start.ensures c.in_ok-node.ensures.read

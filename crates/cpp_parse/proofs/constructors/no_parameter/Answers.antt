@@ -1,5 +1,5 @@
 use Rattle.cpp_syntax.proofs.Readers.{leaves_same, reads_nothing}
-use Rattle.cpp_parse_expr.proofs.Answering.{always_err, made}
+use Rattle.cpp_parse_expr.proofs.ReaderAnswers.{always_err, made}
 use Rattle.cpp_parse.proofs.constructors.no_parameter.Goals as goal
 
 pub returns-in_err-node : goal.returns-in_err-node

@@ -1,18 +1,18 @@
 use Rattle.std.proofs.Common.{ℕ, Option, None, refl, ap, arith}
-use Rattle.cpp_syntax.specs.declared.symbol.Symbol.TheVariants as symbol
-use Rattle.cpp_syntax.specs.Texts.{first_or}
-use Rattle.cpp_syntax.proofs.Readers.{leaves_both, gains_none}
-use Rattle.cpp_syntax.proofs.Loops.{any_begins, any_more}
-use Rattle.cpp_syntax.proofs.Firsts.{not_empty}
-use Rattle.cpp_parse_expr.proofs.Answering.{always_err}
-use Rattle.cpp_parse.proofs.Reached.{many_read, leaves_any}
+use Rattle.cpp_syntax.specs.Derivations.{first_or}
+use Rattle.cpp_syntax.proofs.Readers.{leaves_both, appended_none}
+use Rattle.cpp_syntax.proofs.ReaderLoops.{any_begins, any_more}
+use Rattle.cpp_syntax.proofs.FirstTerminals.{not_empty}
+use Rattle.cpp_parse_expr.proofs.ReaderAnswers.{always_err}
+use Rattle.cpp_parse.proofs.LongestAlone.{many_read, leaves_any}
 use Rattle.cpp_parse.proofs.declarations.simple_declarations.Goals as goal
 
 pub declarations-init : goal.declarations-init
-declarations-init c = (any_begins (gains_none c.args.out.now) c.requires.here, refl)
+declarations-init c = (any_begins (appended_none c.args.out.now) c.requires.here, refl)
 
 pub returns-in_err-behind : goal.returns-in_err-behind
-returns-in_err-behind c = always_err _ _ _ _ c.from_residual.result c.from_residual.ensures.0 (leaves_both (leaves_any c.declarations.invariant.0) c.in_err-behind.ensures)
+returns-in_err-behind c =
+    always_err _ _ _ _ c.from_residual.result c.from_residual.ensures.0 (leaves_both (leaves_any c.declarations.invariant.0) c.in_err-behind.ensures)
 
 pub returns-in_default : goal.returns-in_default
 returns-in_default c =

@@ -1,39 +1,55 @@
 use Rattle.std.proofs.Common.{refl}
-use Rattle.cpp_syntax.specs.declared.symbol.Symbol.TheVariants as symbol
-use Rattle.cpp_syntax.proofs.Longest.{seq_none, node_none}
+use Rattle.cpp_syntax.proofs.LongestMatches.{seq_none, node_none}
 use Rattle.cpp_syntax.proofs.Readers.{leaves_same, leaves_both, leaves_read, reads_seq, none_behind}
-use Rattle.cpp_syntax.proofs.Loops.{reads_mark_next}
-use Rattle.cpp_parse_expr.proofs.Answering.{parsed_err, made_at_name}
-use Rattle.cpp_parse.proofs.Reached.{none_marked}
+use Rattle.cpp_syntax.proofs.ReaderLoops.{reads_mark_next}
+use Rattle.cpp_parse_expr.proofs.ReaderAnswers.{parsed_err, made_at_name}
+use Rattle.cpp_parse.proofs.LongestAlone.{none_marked}
 use Rattle.cpp_parse.proofs.functions.constructor_definition.Goals as goal
 
 pub returns-in_err-named : goal.returns-in_err-named
-returns-in_err-named c = parsed_err _ _ _ _ c.from_residual-in_err-named.result c.from_residual-in_err-named.ensures.0 (leaves_both (leaves_read c.in_ok-behind.ensures) (c.in_err-named.ensures))
+returns-in_err-named c =
+    parsed_err _ _ _ _ c.from_residual-in_err-named.result c.from_residual-in_err-named.ensures.0
+    (leaves_both (leaves_read c.in_ok-behind.ensures) (c.in_err-named.ensures))
 
 pub returns-in_err-body : goal.returns-in_err-body
-returns-in_err-body c = parsed_err _ _ _ _ c.from_residual-in_err-body.result c.from_residual-in_err-body.ensures.0 (leaves_both (leaves_read c.in_ok-behind.ensures) (leaves_both (leaves_read c.in_ok-named.ensures) (c.in_err-body.ensures)))
+returns-in_err-body c =
+    parsed_err _ _ _ _ c.from_residual-in_err-body.result c.from_residual-in_err-body.ensures.0
+    (leaves_both (leaves_read c.in_ok-behind.ensures) (leaves_both (leaves_read c.in_ok-named.ensures) (c.in_err-body.ensures)))
 
 pub returns-in_default : goal.returns-in_default
 returns-in_default c =
-    let x = rw c.in_default.is at c.in_ok-body.ensures in
-    (leaves_both (leaves_read c.in_ok-behind.ensures) (leaves_both (leaves_read c.in_ok-named.ensures) (x.0)), node_none (none_marked (none_behind c.in_ok-behind.ensures (none_behind c.in_ok-named.ensures (seq_none (x.1)) refl refl refl) refl refl refl)))
+    let x = rw c.in_default.is at c.in_ok-body.ensures in (
+      leaves_both (leaves_read c.in_ok-behind.ensures) (leaves_both (leaves_read c.in_ok-named.ensures) (x.0)),
+      node_none
+          (none_marked (none_behind c.in_ok-behind.ensures (none_behind c.in_ok-named.ensures (seq_none (x.1)) refl refl refl) refl refl refl)),
+    )
 
 pub returns-in_err-next : goal.returns-in_err-next
-returns-in_err-next c = parsed_err _ _ _ _ c.from_residual-in_err-next.result c.from_residual-in_err-next.ensures.0 (leaves_both (leaves_read c.in_ok-behind.ensures) (leaves_both (leaves_read c.in_ok-named.ensures) (leaves_both (leaves_read (rw c.in-Some.is at c.in_ok-body.ensures)) (c.in_err-next.ensures))))
+returns-in_err-next c =
+    parsed_err _ _ _ _ c.from_residual-in_err-next.result c.from_residual-in_err-next.ensures.0
+    (leaves_both (leaves_read c.in_ok-behind.ensures) (leaves_both (leaves_read c.in_ok-named.ensures)
+    (leaves_both (leaves_read (rw c.in-Some.is at c.in_ok-body.ensures)) (c.in_err-next.ensures))))
 
 pub returns-in_default-2 : goal.returns-in_default-2
 returns-in_default-2 c =
     let read_body = rw c.in-Some.is at c.in_ok-body.ensures in
-    let x = rw c.in_default-2.is at c.in_ok-next.ensures in
-    (leaves_both (leaves_read c.in_ok-behind.ensures) (leaves_both (leaves_read c.in_ok-named.ensures) (leaves_both (leaves_read read_body) (x.0))), node_none (none_marked (none_behind c.in_ok-behind.ensures (none_behind c.in_ok-named.ensures (none_behind read_body (x.1) refl refl refl) refl refl refl) refl refl refl)))
+    let x = rw c.in_default-2.is at c.in_ok-next.ensures in (
+      leaves_both (leaves_read c.in_ok-behind.ensures) (leaves_both (leaves_read c.in_ok-named.ensures) (leaves_both (leaves_read read_body) (x.0))),
+      node_none (none_marked (none_behind c.in_ok-behind.ensures (none_behind c.in_ok-named.ensures (none_behind read_body (x.1) refl refl refl)
+          refl refl refl) refl refl refl)),
+    )
 
 pub returns-in_err-node_from : goal.returns-in_err-node_from
 returns-in_err-node_from c =
     let read_body = rw c.in-Some.is at c.in_ok-body.ensures in
     let read_next = rw c.in-Some-2.is at c.in_ok-next.ensures in
-    parsed_err _ _ _ _ c.from_residual-in_err-node_from.result c.from_residual-in_err-node_from.ensures.0 (leaves_both (leaves_read c.in_ok-behind.ensures) (leaves_both (leaves_read c.in_ok-named.ensures) (leaves_both (leaves_read read_body) (leaves_both (leaves_read read_next) (leaves_same c.in_err-node_from.ensures.memory)))))
+    parsed_err _ _ _ _ c.from_residual-in_err-node_from.result c.from_residual-in_err-node_from.ensures.0
+    (leaves_both (leaves_read c.in_ok-behind.ensures) (leaves_both (leaves_read c.in_ok-named.ensures)
+    (leaves_both (leaves_read read_body) (leaves_both (leaves_read read_next) (leaves_same c.in_err-node_from.ensures.memory)))))
 
 pub returns : goal.returns
 returns c =
     let read_body = rw c.in-Some.is at c.in_ok-body.ensures in
-    made_at_name (reads_seq (reads_mark_next c.requires.here) (reads_seq c.in_ok-behind.ensures (reads_seq c.in_ok-named.ensures (reads_seq read_body ((rw c.in-Some-2.is at c.in_ok-next.ensures)) refl refl) refl refl) refl refl) refl refl) c.checkpoint-start.ensures c.in_ok-node_from.ensures.read
+    made_at_name (reads_seq (reads_mark_next c.requires.here) (reads_seq c.in_ok-behind.ensures
+    (reads_seq c.in_ok-named.ensures (reads_seq read_body ((rw c.in-Some-2.is at c.in_ok-next.ensures)) refl refl) refl refl) refl refl) refl
+    refl) c.checkpoint-start.ensures c.in_ok-node_from.ensures.read

@@ -1,14 +1,15 @@
 use Rattle.std.proofs.Common.{refl}
-use Rattle.cpp_syntax.specs.declared.symbol.Symbol.TheVariants as symbol
-use Rattle.cpp_syntax.specs.Symbols.{equal}
-use Rattle.cpp_syntax.proofs.Alone.{passed, refused}
-use Rattle.cpp_syntax.proofs.Longest.{mark_none, seq_none, node_none}
+use Rattle.cpp_syntax.specs.declared.terminal.Terminal.TheVariants as terminal
+use Rattle.cpp_syntax.specs.Terminals.{equal}
+use Rattle.cpp_syntax.proofs.SingleTerminals.{passed, refused}
+use Rattle.cpp_syntax.proofs.LongestMatches.{mark_none, seq_none, node_none}
 use Rattle.cpp_syntax.proofs.Readers.{leaves_same, leaves_both, leaves_read}
-use Rattle.cpp_parse_expr.proofs.Answering.{parsed_err, made, mark_and, none_second_mark}
+use Rattle.cpp_parse_expr.proofs.ReaderAnswers.{parsed_err, made, mark_and, none_second_mark}
 use Rattle.cpp_parse.proofs.single_members.equal_initializer.Goals as goal
 
 pub returns-then-not-is_at : goal.returns-then-not-is_at
-returns-then-not-is_at c = (leaves_same c.refuse.ensures, node_none (seq_none (mark_none (refused equal symbol.Equal refl _ (c.if-not-is_at.ensures.no refl)))))
+returns-then-not-is_at c =
+    (leaves_same c.expected_at.ensures, node_none (seq_none (mark_none (refused equal terminal.Equal refl _ (c.if-not-is_at.ensures.no refl)))))
 
 pub returns-in_default : goal.returns-in_default
 returns-in_default c =
@@ -16,7 +17,11 @@ returns-in_default c =
     (x.0, node_none (none_second_mark (x.1)))
 
 pub returns-in_err-node : goal.returns-in_err-node
-returns-in_err-node c = parsed_err _ _ _ _ c.from_residual-in_err-node.result c.from_residual-in_err-node.ensures.0 (leaves_both (leaves_read (rw c.in-Some.is at c.in_ok-next.ensures)) (leaves_same c.in_err-node.ensures.memory))
+returns-in_err-node c =
+    parsed_err _ _ _ _ c.from_residual-in_err-node.result c.from_residual-in_err-node.ensures.0
+    (leaves_both (leaves_read (rw c.in-Some.is at c.in_ok-next.ensures)) (leaves_same c.in_err-node.ensures.memory))
 
 pub returns : goal.returns
-returns c = made (mark_and (passed equal symbol.Equal refl _ (c.if-not-is_at.ensures.yes refl)) (c.if-not-is_at.ensures.inside refl refl) ((rw c.in-Some.is at c.in_ok-next.ensures)) refl refl) c.checkpoint-start.ensures c.in_ok-node.ensures.read
+returns c =
+    made (mark_and (passed equal terminal.Equal refl _ (c.if-not-is_at.ensures.yes refl)) (c.if-not-is_at.ensures.inside refl refl)
+    ((rw c.in-Some.is at c.in_ok-next.ensures)) refl refl) c.checkpoint-start.ensures c.in_ok-node.ensures.read

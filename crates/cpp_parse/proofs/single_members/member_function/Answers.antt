@@ -1,5 +1,4 @@
 use Rattle.std.proofs.Common.{refl}
-use Rattle.cpp_syntax.specs.declared.symbol.Symbol.TheVariants as symbol
 use Rattle.cpp_syntax.proofs.Readers.{reads_seq, none_seq}
 use Rattle.cpp_parse.proofs.single_members.member_function.Goals as goal
 

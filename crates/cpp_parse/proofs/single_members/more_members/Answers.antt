@@ -1,16 +1,17 @@
 use Rattle.std.proofs.Common.{ℕ, Option, None, refl, ap}
-use Rattle.cpp_syntax.specs.declared.symbol.Symbol.TheVariants as symbol
-use Rattle.cpp_syntax.specs.Symbols.{comma}
-use Rattle.cpp_syntax.specs.Texts.{first_or}
-use Rattle.cpp_syntax.proofs.Alone.{passed, refused}
-use Rattle.cpp_syntax.proofs.Longest.{word_none, seq_none}
+use Rattle.cpp_syntax.specs.declared.terminal.Terminal.TheVariants as terminal
+use Rattle.cpp_syntax.specs.Terminals.{comma}
+use Rattle.cpp_syntax.specs.Derivations.{first_or}
+use Rattle.cpp_syntax.proofs.SingleTerminals.{passed, refused}
+use Rattle.cpp_syntax.proofs.LongestMatches.{word_none, seq_none}
 use Rattle.cpp_syntax.proofs.Readers.{leaves_same, leaves_both}
-use Rattle.cpp_syntax.proofs.Loops.{loop_begins, loop_more}
-use Rattle.cpp_parse_expr.proofs.Answering.{parsed_err, word_and, none_second, leaves_chain, chain_done}
+use Rattle.cpp_syntax.proofs.ReaderLoops.{loop_begins, loop_more}
+use Rattle.cpp_parse_expr.proofs.ReaderAnswers.{parsed_err, word_and, none_second, leaves_chain, chain_done}
 use Rattle.cpp_parse.proofs.single_members.more_members.Goals as goal
 
 pub returns-then-not-is_at : goal.returns-then-not-is_at
-returns-then-not-is_at c = (leaves_same c.refuse.ensures, seq_none (seq_none (word_none (refused comma symbol.Comma refl _ (c.if-not-is_at.ensures.no refl)))))
+returns-then-not-is_at c =
+    (leaves_same c.expected_at.ensures, seq_none (seq_none (word_none (refused comma terminal.Comma refl _ (c.if-not-is_at.ensures.no refl)))))
 
 pub returns-in_default : goal.returns-in_default
 returns-in_default c =
@@ -18,10 +19,16 @@ returns-in_default c =
     (x.0, seq_none (none_second x.1))
 
 pub items-init : goal.items-init
-items-init c = (loop_begins (word_and (passed comma symbol.Comma refl _ (c.if-not-is_at.ensures.yes refl)) (c.if-not-is_at.ensures.inside refl refl) (rw c.in-Some.is at c.in_ok-first.ensures) refl refl) refl, refl)
+items-init c = (
+  loop_begins (word_and (passed comma terminal.Comma refl _ (c.if-not-is_at.ensures.yes refl)) (c.if-not-is_at.ensures.inside refl refl)
+      (rw c.in-Some.is at c.in_ok-first.ensures) refl refl) refl,
+  refl,
+)
 
 pub returns-in_err-behind : goal.returns-in_err-behind
-returns-in_err-behind c = parsed_err _ _ _ _ c.from_residual-in_err-behind.result c.from_residual-in_err-behind.ensures.0 (leaves_both (leaves_chain c.items.invariant.0) c.in_err-behind.ensures)
+returns-in_err-behind c =
+    parsed_err _ _ _ _ c.from_residual-in_err-behind.result c.from_residual-in_err-behind.ensures.0
+    (leaves_both (leaves_chain c.items.invariant.0) c.in_err-behind.ensures)
 
 pub returns-in_default-2 : goal.returns-in_default-2
 returns-in_default-2 c =
@@ -29,7 +36,14 @@ returns-in_default-2 c =
     chain_done c.items.invariant.0 c.items.invariant.1 (none_second y.1) refl (c.cut.ensures _ _ c.checkpoint-mark.ensures (y.0).gained)
 
 pub items-preserved : goal.items-preserved
-items-preserved c = (loop_more c.items.invariant.0 (word_and (passed comma symbol.Comma refl _ (c.items-test.ensures.yes refl)) (c.items-test.ensures.inside refl refl) (rw c.in-Some-2.is at c.in_ok-behind.ensures) refl refl) refl refl refl, ap (λ (k : Option ℕ). first_or k None) c.items.invariant.1)
+items-preserved c = (
+  loop_more c.items.invariant.0 (word_and (passed comma terminal.Comma refl _ (c.items-test.ensures.yes refl))
+      (c.items-test.ensures.inside refl refl) (rw c.in-Some-2.is at c.in_ok-behind.ensures) refl refl) refl refl refl,
+  ap
+      (λ (k : Option ℕ). first_or k None) c.items.invariant.1,
+)
 
 pub returns : goal.returns
-returns c = chain_done c.items.invariant.0 c.items.invariant.1 (seq_none (word_none (refused comma symbol.Comma refl _ (c.items-test.ensures.no refl)))) refl refl
+returns c =
+    chain_done c.items.invariant.0 c.items.invariant.1 (seq_none (word_none (refused comma terminal.Comma refl _ (c.items-test.ensures.no refl))))
+    refl refl

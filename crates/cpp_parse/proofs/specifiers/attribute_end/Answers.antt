@@ -1,4 +1,4 @@
-use Rattle.cpp_parse.proofs.Specified.{attribute_taken, attribute_left_out}
+use Rattle.cpp_parse.proofs.SpecifierReaders.{attribute_taken, attribute_left_out}
 use Rattle.cpp_parse.proofs.specifiers.attribute_end.Goals as goal
 
 pub returns-in-Some : goal.returns-in-Some

@@ -1,14 +1,15 @@
 use Rattle.std.proofs.Common.{refl, arith}
-use Rattle.cpp_syntax.specs.declared.symbol.Symbol.TheVariants as symbol
-use Rattle.cpp_syntax.specs.Symbols.{open_paren, close_paren}
-use Rattle.cpp_syntax.proofs.Alone.{passed, refused}
-use Rattle.cpp_syntax.proofs.Longest.{word_none}
+use Rattle.cpp_syntax.specs.declared.terminal.Terminal.TheVariants as terminal
+use Rattle.cpp_syntax.specs.Terminals.{open_paren, close_paren}
+use Rattle.cpp_syntax.proofs.SingleTerminals.{passed, refused}
+use Rattle.cpp_syntax.proofs.LongestMatches.{word_none}
 use Rattle.cpp_syntax.proofs.Readers.{leaves_same, leaves_both, leaves_read, reads_seq, reads_word, none_behind, none_seq}
-use Rattle.cpp_parse_expr.proofs.Answering.{word_and, none_second}
+use Rattle.cpp_parse_expr.proofs.ReaderAnswers.{word_and, none_second}
 use Rattle.cpp_parse.proofs.statements.condition.Goals as goal
 
 pub returns-then-not-is_at : goal.returns-then-not-is_at
-returns-then-not-is_at c = (leaves_same c.refuse.ensures, none_seq (word_none (refused open_paren symbol.OpenParen refl _ (c.if-not-is_at.ensures.no refl))))
+returns-then-not-is_at c =
+    (leaves_same c.expected_at.ensures, none_seq (word_none (refused open_paren terminal.OpenParen refl _ (c.if-not-is_at.ensures.no refl))))
 
 pub expression-requires : goal.expression-requires
 expression-requires c = let i = c.if-not-is_at.ensures.inside refl refl in omega (arith, i)
@@ -21,12 +22,13 @@ returns-in_default c =
 pub returns-then-not-is_at-2 : goal.returns-then-not-is_at-2
 returns-then-not-is_at-2 c =
     let x = rw c.in-Some.is at c.in_ok-close.ensures in (
-      leaves_both (leaves_read x) (leaves_same c.refuse-then-not-is_at-2.ensures),
-      none_second (none_behind x (word_none (refused close_paren symbol.CloseParen refl _ (c.if-not-is_at-2.ensures.no refl))) refl refl refl),
+      leaves_both (leaves_read x) (leaves_same c.expected_at-then-not-is_at-2.ensures),
+      none_second (none_behind x (word_none (refused close_paren terminal.CloseParen refl _ (c.if-not-is_at-2.ensures.no refl))) refl refl refl),
     )
 
 pub returns : goal.returns
 returns c =
-    let u = passed open_paren symbol.OpenParen refl _ (c.if-not-is_at.ensures.yes refl) in
-    let v = passed close_paren symbol.CloseParen refl _ (c.if-not-is_at-2.ensures.yes refl) in
-    word_and u (c.if-not-is_at.ensures.inside refl refl) (reads_seq (rw c.in-Some.is at c.in_ok-close.ensures) (reads_word v (c.if-not-is_at-2.ensures.inside refl refl)) refl refl) refl refl
+    let u = passed open_paren terminal.OpenParen refl _ (c.if-not-is_at.ensures.yes refl) in
+    let v = passed close_paren terminal.CloseParen refl _ (c.if-not-is_at-2.ensures.yes refl) in
+    word_and u (c.if-not-is_at.ensures.inside refl refl) (reads_seq (rw c.in-Some.is at c.in_ok-close.ensures)
+    (reads_word v (c.if-not-is_at-2.ensures.inside refl refl)) refl refl) refl refl

@@ -1,15 +1,18 @@
 use Rattle.std.proofs.Common.{refl}
 use Rattle.cpp_ast.specs.declared.kinds.NodeKind.TheVariants.{CvQualifier}
-use Rattle.cpp_syntax.specs.declared.symbol.Symbol.TheVariants as symbol
-use Rattle.cpp_syntax.specs.Symbols.{const_word}
-use Rattle.cpp_syntax.proofs.Alone.{refused, passed}
-use Rattle.cpp_syntax.proofs.Longest.{mark_none}
+use Rattle.cpp_syntax.specs.declared.terminal.Terminal.TheVariants as terminal
+use Rattle.cpp_syntax.specs.Terminals.{const_word}
+use Rattle.cpp_syntax.proofs.SingleTerminals.{refused, passed}
+use Rattle.cpp_syntax.proofs.LongestMatches.{mark_none}
 use Rattle.cpp_syntax.proofs.Readers.{reads_left_out, none_node}
-use Rattle.cpp_syntax.proofs.Leaves.{always_leaf, always_taken}
+use Rattle.cpp_syntax.proofs.LeafReaders.{always_leaf, always_taken}
 use Rattle.cpp_parse_expr.proofs.declarators.optional_const.Goals as goal
 
 pub returns-then-not-is_at : goal.returns-then-not-is_at
-returns-then-not-is_at c = reads_left_out (none_node (mark_none (refused const_word symbol.Const refl _ (c.if-not-is_at.ensures.no refl)))) c.requires.here refl
+returns-then-not-is_at c =
+    reads_left_out (none_node (mark_none (refused const_word terminal.Const refl _ (c.if-not-is_at.ensures.no refl)))) c.requires.here refl
 
 pub returns : goal.returns
-returns c = always_taken _ _ _ _ _ _ _ refl (always_leaf _ CvQualifier const_word _ _ _ _ (passed const_word symbol.Const refl _ (c.if-not-is_at.ensures.yes refl)) (c.if-not-is_at.ensures.inside refl refl) c.leaf.ensures)
+returns c =
+    always_taken _ _ _ _ _ _ _ refl (always_leaf _ CvQualifier const_word _ _ _ _ (passed const_word terminal.Const refl _
+    (c.if-not-is_at.ensures.yes refl)) (c.if-not-is_at.ensures.inside refl refl) c.leaf.ensures)

@@ -1,5 +1,5 @@
 use Rattle.cpp_ast.specs.Trees.{Trees, ShowsAll}
-use Rattle.cpp_parse_expr.proofs.Deeper.{Passing}
+use Rattle.cpp_parse_expr.proofs.FirstTooDeep.{Passing}
 use Rattle.cpp_parse_expr.proofs.depth.deeper_kid.Given as goal
 
 abbrev pub invariant-kids : goal.invariant-kids

@@ -1,4 +1,4 @@
-use Rattle.cpp_parse_expr.proofs.Paths.{Handed}
+use Rattle.cpp_parse_expr.proofs.DepthPaths.{Handed}
 use Rattle.cpp_parse_expr.proofs.depth.depths.Given as goal
 
 abbrev pub invariant-nodes : goal.invariant-nodes

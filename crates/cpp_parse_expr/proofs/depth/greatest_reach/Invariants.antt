@@ -1,6 +1,6 @@
 use Rattle.std.proofs.Common.{◌≤◌, length}
 use Rattle.cpp_ast.specs.Trees.{Trees, ShowsAll}
-use Rattle.cpp_parse_expr.proofs.Heights.{Reaching}
+use Rattle.cpp_parse_expr.proofs.TreeHeights.{Reaching}
 use Rattle.cpp_parse_expr.proofs.depth.greatest_reach.Given as goal
 
 abbrev pub invariant-kids : goal.invariant-kids

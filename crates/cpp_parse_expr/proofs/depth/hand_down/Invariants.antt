@@ -1,4 +1,4 @@
-use Rattle.cpp_parse_expr.proofs.Paths.{Handing}
+use Rattle.cpp_parse_expr.proofs.DepthPaths.{Handing}
 use Rattle.cpp_parse_expr.proofs.depth.hand_down.Given as goal
 
 abbrev pub invariant-kids : goal.invariant-kids

@@ -1,6 +1,6 @@
 use Rattle.std.proofs.Common.{◌≡◌, ◌+◌, length}
 use Rattle.cpp_parse_expr.specs.Depths.{AreHeights}
-use Rattle.cpp_parse_expr.proofs.Paths.{LowerUpTo}
+use Rattle.cpp_parse_expr.proofs.DepthPaths.{LowerUpTo}
 use Rattle.cpp_parse_expr.proofs.depth.heights.Given as goal
 
 abbrev pub invariant-nodes : goal.invariant-nodes

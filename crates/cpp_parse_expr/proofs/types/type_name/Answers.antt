@@ -1,8 +1,8 @@
 use Rattle.std.proofs.Common.{refl}
 use Rattle.cpp_ast.specs.declared.kinds.NodeKind.TheVariants.{TypeName}
-use Rattle.cpp_syntax.specs.Symbols.{is_type_name}
-use Rattle.cpp_syntax.proofs.Loops.{within}
-use Rattle.cpp_syntax.proofs.Leaves.{always_leaf}
+use Rattle.cpp_syntax.specs.Terminals.{is_type_name}
+use Rattle.cpp_syntax.proofs.ReaderLoops.{within}
+use Rattle.cpp_syntax.proofs.LeafReaders.{always_leaf}
 use Rattle.cpp_parse_expr.proofs.types.type_name.Goals as goal
 
 pub returns : goal.returns

@@ -1,5 +1,5 @@
 use Rattle.cpp_ast.specs.Trees.{Trees, ShowsAll}
-use Rattle.cpp_syntax.proofs.Named.{Behind}
+use Rattle.cpp_syntax.proofs.DeclaredNames.{Behind}
 use Rattle.cpp_syntax.proofs.arena.first_of_declarator.Given as goal
 
 abbrev pub invariant-loop-id : goal.invariant-loop-id

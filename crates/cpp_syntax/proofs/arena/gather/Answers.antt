@@ -2,7 +2,7 @@ use Rattle.std.proofs.Common.{rules, ◌≡◌, ◌∷◌, ◌++◌, [], length,
 use Rattle.cpp_ast.specs.Orders.{are_below}
 use Rattle.cpp_ast.specs.declared.arena.Node.{Node}
 use Rattle.cpp_ast.specs.declared.arena.NodeId.{NodeId}
-use Rattle.cpp_syntax.proofs.Values.{below_drop}
+use Rattle.cpp_syntax.proofs.NodeValues.{below_drop}
 use Rattle.cpp_syntax.proofs.arena.gather.Goals as goal
 
 pub add-requires-clause-kids : goal.add-requires-clause-kids
@@ -18,6 +18,6 @@ returns-clause-gathered c = record {
   at_is = refl;
   token_is = refl;
   kids = search rules;
-  place = search rules;
+  index = search rules;
   pending = search rules;
 }

@@ -1,5 +1,5 @@
 use Rattle.std.proofs.Common.{sym}
-use Rattle.cpp_syntax.proofs.Lasts.{last_get}
+use Rattle.cpp_syntax.proofs.LastNumber.{last_get}
 use Rattle.cpp_syntax.proofs.arena.last_or_none.Goals as goal
 
 pub returns-in-Some : goal.returns-in-Some

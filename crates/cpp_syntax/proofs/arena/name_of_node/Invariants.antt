@@ -1,7 +1,7 @@
 use Rattle.std.proofs.Common.{◌≡◌, ◌<◌, length, true}
 use Rattle.cpp_ast.specs.Trees.{Tree, Shows}
-use Rattle.cpp_syntax.specs.Texts.{is_of_declarator}
-use Rattle.cpp_syntax.proofs.Named.{LeadsTo}
+use Rattle.cpp_syntax.specs.Derivations.{is_of_declarator}
+use Rattle.cpp_syntax.proofs.DeclaredNames.{LeadsTo}
 use Rattle.cpp_syntax.proofs.arena.name_of_node.Given as goal
 
 abbrev pub invariant-names : goal.invariant-names

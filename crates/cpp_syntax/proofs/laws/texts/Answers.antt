@@ -1,7 +1,7 @@
-use Rattle.cpp_syntax.proofs.Firsts.{ends_behind, not_empty}
+use Rattle.cpp_syntax.proofs.FirstTerminals.{ends_behind, not_empty}
 use Rattle.cpp_syntax.proofs.DeclaratorForms.{begins_form}
-use Rattle.cpp_syntax.proofs.Even.{form_balanced}
-use Rattle.cpp_syntax.proofs.Inside.{inside}
+use Rattle.cpp_syntax.proofs.BalancedDerivations.{form_balanced}
+use Rattle.cpp_syntax.proofs.WithinTokens.{inside}
 use Rattle.std.proofs.Common.{refl}
 use Rattle.cpp_syntax.proofs.laws.texts.Goals as goal
 

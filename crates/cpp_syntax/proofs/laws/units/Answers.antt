@@ -1,4 +1,4 @@
-use Rattle.cpp_syntax.proofs.Wholes.{unit_of, unit_only}
+use Rattle.cpp_syntax.proofs.UnitBodies.{unit_of, unit_only}
 use Rattle.cpp_syntax.proofs.laws.units.Goals as goal
 
 pub returns : goal.returns

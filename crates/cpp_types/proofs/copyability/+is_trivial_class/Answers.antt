@@ -2,7 +2,7 @@ use Rattle.std.proofs.Common.{◌≡◌, ◌∙◌, ◌<◌, IsTrue, false, Some
 use Rattle.std.proofs.lemmas.Bool.{cases_lt}
 use Rattle.cpp_types.specs.Class.{classes_of, class_of, member_of, Member, held}
 use Rattle.cpp_types.specs.Trivial.{IsTrivialClass}
-use Rattle.cpp_types.proofs.Parts.{missing, hindered, lower_member, lower_base, member_found, member_not, base_of_whole, trivial_whole, member_within, same_held, same_place}
+use Rattle.cpp_types.proofs.Parts.{missing, hindered, lower_member, lower_base, member_found, member_not, base_of_whole, trivial_whole, member_within, same_held, same_index}
 use Rattle.cpp_types.proofs.copyability.+is_trivial_class.Goals as goal
 use Rattle.cpp_types.proofs.copyability.+is_trivial_class.Goals.{in_default-via-in-None-1, in_default-via-in-Some-held_class+else-not-is_trivial_class}
 
@@ -26,7 +26,7 @@ loop-member-preserved t c j m e h f g = elim (cases_lt j c.loop-member.member-in
   | inl a ↦ c.loop-member.invariant j m e a f g
   | inr a ↦
       let l : j ≡ c.loop-member.member-index = omega arith in
-      let s : member_of c.member-item.result ≡ m = same_place c.in-Some.found.now.members.items c.loop-member.member-index j (member_of c.member-item.result) m (member_found c.deref-member-items.result.now c.in-Some.found.now.members.items c.loop-member.member-index c.member-item.result c.deref-member-items.ensures.value c.loop-member-test.true c.member-item.is) f l in
+      let s : member_of c.member-item.result ≡ m = same_index c.in-Some.found.now.members.items c.loop-member.member-index j (member_of c.member-item.result) m (member_found c.deref-member-items.result.now c.in-Some.found.now.members.items c.loop-member.member-index c.member-item.result c.deref-member-items.ensures.value c.loop-member-test.true c.member-item.is) f l in
       let o : held (member_of c.member-item.result).typ ≡ Some e = ap (λ (z : Member). held z.typ) s ∙ g in
       elim c.in_default.branch [
         | in_default-via-in-None-1 w ↦ absurd cc

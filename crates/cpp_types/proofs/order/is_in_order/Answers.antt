@@ -3,4 +3,4 @@ use Rattle.cpp_types.proofs.OrderTests.{order_is}
 use Rattle.cpp_types.proofs.order.is_in_order.Goals as goal
 
 pub returns : goal.returns
-returns c = order_is c.are_placed.result (classes_of c.args.classes.now) c.are_placed.ensures
+returns c = order_is c.are_consistent.result (classes_of c.args.classes.now) c.are_consistent.ensures

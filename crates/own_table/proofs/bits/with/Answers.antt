@@ -1,6 +1,6 @@
 use Rattle.std.proofs.Common.{ap, ◌∙◌, bit_or}
 use Rattle.own_table.specs.Bits.{has_bit}
-use Rattle.own_table.proofs.Sets.{has_bit_with}
+use Rattle.own_table.proofs.ThreadSets.{has_bit_with}
 use Rattle.own_table.proofs.bits.with.Goals as goal
 
 pub returns : goal.returns

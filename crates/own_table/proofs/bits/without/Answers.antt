@@ -1,6 +1,6 @@
 use Rattle.std.proofs.Common.{◌-◌, ◌^◌, ap, ◌∙◌, bit_and}
 use Rattle.own_table.specs.Bits.{has_bit}
-use Rattle.own_table.proofs.Sets.{has_bit_without}
+use Rattle.own_table.proofs.ThreadSets.{has_bit_without}
 use Rattle.own_table.proofs.bits.without.Goals as goal
 
 pub returns : goal.returns

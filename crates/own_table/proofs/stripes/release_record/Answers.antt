@@ -1,7 +1,7 @@
 use Rattle.std.proofs.Common.{ℕ, ◌≡◌, ◌==◌, Some, None, cond, cond, refl, ap, sym, ◌∙◌, arith}
 use Rattle.own_table.specs.Records.{mode_of, mode_in, record_of, stripe_of}
 use Rattle.own_table.specs.Stripes.{hold_at}
-use Rattle.own_table.proofs.Tables.{stripe_there, holds_changed, free_says_none, none_at, left_at}
+use Rattle.own_table.proofs.TableLemmas.{stripe_there, holds_changed, free_says_none, none_at, left_at}
 use Rattle.own_table.proofs.stripes.release_record.Goals as goal
 
 pub returns-then-is_free-clause-released : goal.returns-then-is_free-clause-released

@@ -1,7 +1,7 @@
 use Rattle.std.proofs.Common.{ℕ, ◌≡◌, ◌==◌, Some, cond, is_none, ap, sym, ◌∙◌, arith}
 use Rattle.own_table.specs.Records.{mode_of, mode_in, record_of, raised, stripe_of}
 use Rattle.own_table.specs.Stripes.{hold_at}
-use Rattle.own_table.proofs.Tables.{stripe_there, holds_changed, answered}
+use Rattle.own_table.proofs.TableLemmas.{stripe_there, holds_changed, answered}
 use Rattle.own_table.proofs.stripes.take_record.Goals as goal
 
 pub returns-clause-taken : goal.returns-clause-taken

@@ -1,7 +1,7 @@
 use Rattle.std.proofs.Common.{ap, sym, ◌∙◌}
 use Rattle.own_table.specs.Records.{blocks}
 use Rattle.own_table.specs.Table.{hold_of}
-use Rattle.own_table.proofs.Sets.{unblocked}
+use Rattle.own_table.proofs.ThreadSets.{unblocked}
 use Rattle.own_table.proofs.tests.hold.Goals as goal
 
 pub take-requires-clause-unblocked : goal.take-requires-clause-unblocked

@@ -2,7 +2,7 @@ use Rattle.std.proofs.Common.{◌≡◌, Option, refl, arith}
 use Rattle.own_table.specs.declared.held.HeldWords.{HeldWords}
 use Rattle.own_table.specs.Words.{times_in}
 use Rattle.own_table.specs.Stripes.{words_in}
-use Rattle.own_table.proofs.Tables.{each_get-push}
+use Rattle.own_table.proofs.TableLemmas.{each_get-push}
 use Rattle.own_table.proofs.words.no_words.Goals as goal
 
 pub loop-thread-preserved : goal.loop-thread-preserved

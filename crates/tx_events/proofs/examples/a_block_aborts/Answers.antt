@@ -1,4 +1,4 @@
-use Rattle.tx_events.proofs.Worlds.{aborts, fails}
+use Rattle.tx_events.proofs.WorkedWorlds.{aborts, fails}
 use Rattle.tx_events.proofs.examples.a_block_aborts.Goals as goal
 
 pub returns-clause-noexcept : goal.returns-clause-noexcept

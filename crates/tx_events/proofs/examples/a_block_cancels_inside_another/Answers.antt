@@ -1,4 +1,4 @@
-use Rattle.tx_events.proofs.Worlds.{cancels}
+use Rattle.tx_events.proofs.WorkedWorlds.{cancels}
 use Rattle.tx_events.proofs.examples.a_block_cancels_inside_another.Goals as goal
 
 pub returns : goal.returns

@@ -1,4 +1,4 @@
-use Rattle.tx_events.proofs.Worlds.{shares, waits_block, waits_lock, waits_nested, waits_join, waits_ended}
+use Rattle.tx_events.proofs.WorkedWorlds.{shares, waits_block, waits_lock, waits_nested, waits_join, waits_ended}
 use Rattle.tx_events.proofs.examples.a_synchronized_block_beside_a_thread.Goals as goal
 
 pub returns-clause-leads : goal.returns-clause-leads

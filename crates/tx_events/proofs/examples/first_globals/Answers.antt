@@ -1,4 +1,4 @@
-use Rattle.tx_events.proofs.Worlds.{globals}
+use Rattle.tx_events.proofs.WorkedWorlds.{globals}
 use Rattle.tx_events.proofs.examples.first_globals.Goals as goal
 
 pub returns : goal.returns

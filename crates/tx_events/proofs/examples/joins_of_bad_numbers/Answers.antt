@@ -1,4 +1,4 @@
-use Rattle.tx_events.proofs.Worlds.{joins_first, joins_negative, joins_unstarted, joins_own}
+use Rattle.tx_events.proofs.WorkedWorlds.{joins_first, joins_negative, joins_unstarted, joins_own}
 use Rattle.tx_events.proofs.examples.joins_of_bad_numbers.Goals as goal
 
 pub returns-clause-first : goal.returns-clause-first

@@ -1,4 +1,4 @@
-use Rattle.tx_events.proofs.Worlds.{talks}
+use Rattle.tx_events.proofs.WorkedWorlds.{talks}
 use Rattle.tx_events.proofs.examples.output_and_input_in_order.Goals as goal
 
 pub returns : goal.returns

@@ -1,4 +1,4 @@
-use Rattle.tx_events.proofs.Worlds.{hears_outside, hears_inside}
+use Rattle.tx_events.proofs.WorkedWorlds.{hears_outside, hears_inside}
 use Rattle.tx_events.proofs.examples.replies.Goals as goal
 
 pub returns-clause-outside : goal.returns-clause-outside

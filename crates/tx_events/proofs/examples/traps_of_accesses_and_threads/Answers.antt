@@ -1,4 +1,4 @@
-use Rattle.tx_events.proofs.Worlds.{traps_below, traps_above, traps_misaligned, reads_stack, traps_between, traps_beyond, traps_many}
+use Rattle.tx_events.proofs.WorkedWorlds.{traps_below, traps_above, traps_misaligned, reads_stack, traps_between, traps_beyond, traps_many}
 use Rattle.tx_events.proofs.examples.traps_of_accesses_and_threads.Goals as goal
 
 pub returns-clause-below : goal.returns-clause-below

@@ -1,4 +1,4 @@
-use Rattle.tx_events.proofs.Bytes.{store_bytes, store_others, store_fits}
+use Rattle.tx_events.proofs.ByteLemmas.{store_bytes, store_others, store_fits}
 use Rattle.tx_events.proofs.laws.a_store_writes_bytes.Goals as goal
 
 pub returns-clause-written : goal.returns-clause-written

@@ -1,4 +1,4 @@
-use Rattle.tx_events.proofs.Compose.{bounds_compose}
+use Rattle.tx_events.proofs.Composition.{bounds_compose}
 use Rattle.tx_events.proofs.laws.bounds_compose.Goals as goal
 
 pub returns : goal.returns

@@ -1,4 +1,4 @@
-use Rattle.tx_events.proofs.Lift.{starts_lift}
+use Rattle.tx_events.proofs.Lifting.{starts_lift}
 use Rattle.tx_events.proofs.laws.lifting.Goals as goal
 
 pub returns : goal.returns

@@ -1,4 +1,4 @@
-use Rattle.tx_events.proofs.Local.{runs_alike}
+use Rattle.tx_events.proofs.Locality.{runs_alike}
 use Rattle.tx_events.proofs.laws.locality.Goals as goal
 
 pub returns : goal.returns

@@ -1,4 +1,4 @@
-use Rattle.tx_events.proofs.Unique.{ended_no_step}
+use Rattle.tx_events.proofs.OneReplay.{ended_no_step}
 use Rattle.tx_events.proofs.laws.no_step_after_end.Goals as goal
 
 pub returns : goal.returns

@@ -1,4 +1,4 @@
-use Rattle.tx_events.proofs.Unique.{same_replays}
+use Rattle.tx_events.proofs.OneReplay.{same_replays}
 use Rattle.tx_events.proofs.laws.one_replay.Goals as goal
 
 pub returns : goal.returns

@@ -1,4 +1,4 @@
-use Rattle.tx_events.proofs.Compose.{same_events_compose}
+use Rattle.tx_events.proofs.Composition.{same_events_compose}
 use Rattle.tx_events.proofs.laws.same_events_compose.Goals as goal
 
 pub returns : goal.returns

@@ -1,4 +1,4 @@
-use Rattle.tx_events.proofs.Compose.{same_events_turn, same_children_turn}
+use Rattle.tx_events.proofs.Composition.{same_events_turn, same_children_turn}
 use Rattle.tx_events.proofs.laws.same_events_turn.Goals as goal
 
 pub returns-clause-events : goal.returns-clause-events

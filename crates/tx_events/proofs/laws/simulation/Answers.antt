@@ -1,4 +1,4 @@
-use Rattle.tx_events.proofs.Agree.{simulated, simulated_within}
+use Rattle.tx_events.proofs.SimulationLemmas.{simulated, simulated_within}
 use Rattle.tx_events.proofs.laws.simulation.Goals as goal
 
 pub returns-clause-same : goal.returns-clause-same

@@ -1,4 +1,4 @@
-use Rattle.tx_events.proofs.Local.{rest_kept, stored_accessed}
+use Rattle.tx_events.proofs.Locality.{rest_kept, stored_accessed}
 use Rattle.tx_events.proofs.laws.stores_only.Goals as goal
 
 pub returns-clause-rest : goal.returns-clause-rest

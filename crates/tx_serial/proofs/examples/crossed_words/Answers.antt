@@ -1,4 +1,4 @@
-use Rattle.tx_serial.proofs.Worked.{crossed_is}
+use Rattle.tx_serial.proofs.WorkedRuns.{crossed_is}
 use Rattle.tx_serial.proofs.examples.crossed_words.Goals as goal
 
 pub returns : goal.returns

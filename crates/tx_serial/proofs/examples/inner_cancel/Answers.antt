@@ -1,4 +1,4 @@
-use Rattle.tx_serial.proofs.Worked.{inner_cancelled_is}
+use Rattle.tx_serial.proofs.WorkedRuns.{inner_cancelled_is}
 use Rattle.tx_serial.proofs.examples.inner_cancel.Goals as goal
 
 pub returns : goal.returns

@@ -1,4 +1,4 @@
-use Rattle.tx_serial.proofs.Worked.{outer_cancelled_is}
+use Rattle.tx_serial.proofs.WorkedRuns.{outer_cancelled_is}
 use Rattle.tx_serial.proofs.examples.outer_cancel.Goals as goal
 
 pub returns : goal.returns

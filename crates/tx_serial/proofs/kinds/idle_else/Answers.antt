@@ -1,4 +1,4 @@
-use Rattle.tx_serial.proofs.Exact.{idle_exact}
+use Rattle.tx_serial.proofs.KindConditions.{idle_exact}
 use Rattle.tx_serial.proofs.kinds.idle_else.Goals as goal
 
 pub returns : goal.returns

@@ -1,4 +1,4 @@
-use Rattle.tx_serial.proofs.Tidy.{kind_of_turn}
+use Rattle.tx_serial.proofs.SoundKept.{kind_of_turn}
 use Rattle.tx_serial.proofs.kinds.kind_comes.Goals as goal
 
 pub returns : goal.returns

@@ -1,4 +1,4 @@
-use Rattle.tx_serial.proofs.Exact.{kind_exact}
+use Rattle.tx_serial.proofs.KindConditions.{kind_exact}
 use Rattle.tx_serial.proofs.kinds.kind_exactly.Goals as goal
 
 pub returns : goal.returns

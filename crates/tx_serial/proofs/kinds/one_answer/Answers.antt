@@ -1,4 +1,4 @@
-use Rattle.tx_serial.proofs.Asked.{turn_same}
+use Rattle.tx_serial.proofs.PolicyAnswers.{turn_same}
 use Rattle.tx_serial.proofs.kinds.one_answer.Goals as goal
 
 pub returns : goal.returns

@@ -1,4 +1,4 @@
-use Rattle.tx_serial.proofs.Grows.{order_grows}
+use Rattle.tx_serial.proofs.OrderGains.{order_grows}
 use Rattle.tx_serial.proofs.order.order_grows.Goals as goal
 
 pub returns : goal.returns

@@ -1,4 +1,4 @@
-use Rattle.tx_serial.proofs.Shown.{turns_shown}
+use Rattle.tx_serial.proofs.OrderReplays.{turns_shown}
 use Rattle.tx_serial.proofs.order.order_replays.Goals as goal
 
 pub returns : goal.returns

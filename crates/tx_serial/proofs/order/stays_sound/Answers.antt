@@ -1,8 +1,8 @@
 use Rattle.tx_events.specs.World.{first_world}
 use Rattle.tx_serial.specs.Turn.{first_machine}
-use Rattle.tx_serial.proofs.Kept.{turns_kept, start_shown}
-use Rattle.tx_serial.proofs.Tidy.{turns_sound, start_sound}
-use Rattle.tx_serial.proofs.Rests.{turns_rest, start_rests}
+use Rattle.tx_serial.proofs.WorldKept.{turns_kept, start_shown}
+use Rattle.tx_serial.proofs.SoundKept.{turns_sound, start_sound}
+use Rattle.tx_serial.proofs.IdleWaits.{turns_rest, start_rests}
 use Rattle.tx_serial.proofs.order.stays_sound.Goals as goal
 
 pub returns-clause-sound : goal.returns-clause-sound

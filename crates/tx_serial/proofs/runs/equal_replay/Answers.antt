@@ -1,4 +1,4 @@
-use Rattle.tx_serial.proofs.Picks.{again}
+use Rattle.tx_serial.proofs.RecordedPicks.{again}
 use Rattle.tx_serial.proofs.runs.equal_replay.Goals as goal
 
 pub returns : goal.returns

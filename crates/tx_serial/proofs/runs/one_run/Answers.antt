@@ -1,4 +1,4 @@
-use Rattle.tx_serial.proofs.Picks.{has_run, one_run}
+use Rattle.tx_serial.proofs.RecordedPicks.{has_run, one_run}
 use Rattle.tx_serial.proofs.runs.one_run.Goals as goal
 
 pub returns-clause-exists : goal.returns-clause-exists

@@ -1,7 +1,7 @@
 use Rattle.tx_events.specs.World.{first_world}
 use Rattle.tx_serial.specs.Turn.{first_machine}
-use Rattle.tx_serial.proofs.Shown.{turns_shown}
-use Rattle.tx_serial.proofs.Picks.{run_replayed}
+use Rattle.tx_serial.proofs.OrderReplays.{turns_shown}
+use Rattle.tx_serial.proofs.RecordedPicks.{run_replayed}
 use Rattle.tx_serial.proofs.runs.run_replays.Goals as goal
 
 pub returns : goal.returns

@@ -1,4 +1,4 @@
-use Rattle.tx_serial.proofs.Picks.{run_counted}
+use Rattle.tx_serial.proofs.RecordedPicks.{run_counted}
 use Rattle.tx_serial.proofs.runs.turns_counted.Goals as goal
 
 pub returns : goal.returns

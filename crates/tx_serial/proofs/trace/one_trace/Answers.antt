@@ -1,4 +1,4 @@
-use Rattle.tx_serial.proofs.TraceOnce.{one_trace}
+use Rattle.tx_serial.proofs.OneTrace.{one_trace}
 use Rattle.std.proofs.Common.{refl}
 use Rattle.tx_serial.specs.Trace.{items_of}
 use Rattle.tx_serial.proofs.trace.one_trace.Goals as goal

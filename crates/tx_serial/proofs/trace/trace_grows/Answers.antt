@@ -1,4 +1,4 @@
-use Rattle.tx_serial.proofs.TraceOnce.{trace_grows}
+use Rattle.tx_serial.proofs.OneTrace.{trace_grows}
 use Rattle.tx_serial.proofs.trace.trace_grows.Goals as goal
 
 pub returns : goal.returns

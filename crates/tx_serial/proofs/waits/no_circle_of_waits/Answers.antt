@@ -1,4 +1,4 @@
-use Rattle.tx_serial.proofs.Circle.{eldest_stays, youngest_goes, no_circle}
+use Rattle.tx_serial.proofs.WaitCircles.{eldest_stays, youngest_goes, no_circle}
 use Rattle.tx_serial.proofs.waits.no_circle_of_waits.Goals as goal
 
 pub returns-clause-eldest : goal.returns-clause-eldest

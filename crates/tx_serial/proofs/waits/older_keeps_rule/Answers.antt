@@ -1,4 +1,4 @@
-use Rattle.tx_serial.proofs.Circle.{older_answers}
+use Rattle.tx_serial.proofs.WaitCircles.{older_answers}
 use Rattle.tx_serial.proofs.waits.older_keeps_rule.Goals as goal
 
 pub returns : goal.returns

@@ -1,4 +1,4 @@
-use Rattle.tx_serial.proofs.Circle.{rolled_by, waited_by}
+use Rattle.tx_serial.proofs.WaitCircles.{rolled_by, waited_by}
 use Rattle.tx_serial.proofs.waits.older_waits.Goals as goal
 
 pub returns-clause-rolled : goal.returns-clause-rolled

@@ -1,7 +1,7 @@
 use Rattle.std.proofs.Common.{◌+◌, length, take, subst, sym, arith}
 use Rattle.std.proofs.Math.ListN.{set}
 use Rattle.undo_log.specs.Notes.{others}
-use Rattle.undo_log.proofs.Lists.{Maps, maps_more}
+use Rattle.undo_log.proofs.NoteLists.{Maps, maps_more}
 use Rattle.undo_log.proofs.notes.move_marks.Goals as goal
 
 pub loop-i-preserved : goal.loop-i-preserved

@@ -1,7 +1,7 @@
 use Rattle.std.proofs.Common.{rules}
-use Rattle.cpp_syntax.proofs.Marks.{mark_behind}
-use Rattle.cpp_syntax.proofs.Views.{since}
-use Rattle.cpp_syntax.proofs.Gathering.{all_of_each}
+use Rattle.cpp_syntax.proofs.BuilderMarks.{mark_behind}
+use Rattle.cpp_syntax.proofs.BuilderViews.{since}
+use Rattle.cpp_syntax.proofs.GatheredNodes.{all_of_each}
 use Rattle.cpp_syntax.proofs.builder.Builder.checkpoint.Goals as goal
 
 pub returns : goal.returns

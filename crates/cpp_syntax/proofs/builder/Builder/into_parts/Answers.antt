@@ -1,4 +1,4 @@
-use Rattle.cpp_syntax.proofs.IntoParts.{parts_built, parts_grown, parts_shown}
+use Rattle.cpp_syntax.proofs.BuilderParts.{parts_built, parts_grown, parts_shown}
 use Rattle.cpp_syntax.proofs.builder.Builder.into_parts.Goals as goal
 
 pub returns-clause-built : goal.returns-clause-built

@@ -6,4 +6,4 @@ abbrev pub invariant-steps : goal.invariant-steps
 invariant-steps l = SameOperand l.self l.at l.next
 
 abbrev pub decreases-steps : goal.decreases-steps
-decreases-steps l = length l.self.symbols - l.next
+decreases-steps l = length l.self.terminals - l.next

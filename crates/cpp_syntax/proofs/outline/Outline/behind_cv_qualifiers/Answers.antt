@@ -1,6 +1,6 @@
 use Rattle.std.proofs.Common.{◌≡◌, refl, sym}
-use Rattle.cpp_syntax.proofs.Longest.{mark_none, node_none}
-use Rattle.cpp_syntax.proofs.Spans.{many_starts, many_goes, many_stops, spans_leaf, behind_any}
+use Rattle.cpp_syntax.proofs.LongestMatches.{mark_none, node_none}
+use Rattle.cpp_syntax.proofs.Recognisers.{many_starts, many_goes, many_stops, spans_leaf, behind_any}
 use Rattle.cpp_syntax.proofs.outline.Outline.behind_cv_qualifiers.Goals as goal
 
 pub words-init : goal.words-init

@@ -6,4 +6,4 @@ abbrev pub invariant-words : goal.invariant-words
 invariant-words l = Tallied l.self l.at l.next l.words
 
 abbrev pub decreases-words : goal.decreases-words
-decreases-words l = length l.self.symbols - l.next
+decreases-words l = length l.self.terminals - l.next

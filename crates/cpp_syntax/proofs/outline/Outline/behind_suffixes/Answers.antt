@@ -1,7 +1,7 @@
 use Rattle.std.proofs.Common.{◌≡◌, ◌<◌, ℕ, length, arith}
 use Rattle.cpp_syntax.specs.Rules.{unnamed}
-use Rattle.cpp_syntax.specs.Texts.{no_read}
-use Rattle.cpp_syntax.proofs.Spans.{many_starts, many_ahead, known_later}
+use Rattle.cpp_syntax.specs.Derivations.{no_read}
+use Rattle.cpp_syntax.proofs.Recognisers.{many_starts, many_ahead, known_later}
 use Rattle.cpp_syntax.proofs.DeclaratorShapes.{suffix_starts, suffixes_more, suffixes_end}
 use Rattle.cpp_syntax.proofs.outline.Outline.behind_suffixes.Goals as goal
 
@@ -9,7 +9,11 @@ pub suffixes-init : goal.suffixes-init
 suffixes-init c = λ n r. many_starts
 
 pub behind_suffix-requires : goal.behind_suffix-requires
-behind_suffix-requires c = record { known = known_later c.args.self.now c.args.parameters.now.items c.args.at c.suffixes.next (many_ahead (c.suffixes.invariant unnamed no_read)) c.requires.known }
+behind_suffix-requires c =
+    record {
+      known = known_later c.args.self.now c.args.parameters.now.items c.args.at c.suffixes.next
+          (many_ahead (c.suffixes.invariant unnamed no_read)) c.requires.known;
+    }
 
 pub suffixes-preserved : goal.suffixes-preserved
 suffixes-preserved c = suffixes_more c.suffixes.invariant c.in-Some.ensures

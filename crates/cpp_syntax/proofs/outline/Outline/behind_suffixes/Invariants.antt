@@ -6,4 +6,4 @@ abbrev pub invariant-suffixes : goal.invariant-suffixes
 invariant-suffixes l = SuffixesSoFar l.self l.at l.next
 
 abbrev pub decreases-suffixes : goal.decreases-suffixes
-decreases-suffixes l = length l.self.symbols - l.next
+decreases-suffixes l = length l.self.terminals - l.next

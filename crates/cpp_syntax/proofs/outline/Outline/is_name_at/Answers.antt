@@ -1,7 +1,7 @@
 use Rattle.std.proofs.Common.{◌≡◌, true, refl, sym, ◌∙◌}
-use Rattle.cpp_syntax.specs.Symbols.{is_name}
-use Rattle.cpp_syntax.proofs.Alone.{token_by}
+use Rattle.cpp_syntax.specs.Terminals.{is_name}
+use Rattle.cpp_syntax.proofs.SingleTerminals.{token_by}
 use Rattle.cpp_syntax.proofs.outline.Outline.is_name_at.Goals as goal
 
 pub returns-clause-inside : goal.returns-clause-inside
-returns-clause-inside c h = c.symbol.ensures.inside (token_by is_name refl _ (sym c.is_name.ensures ∙ h))
+returns-clause-inside c h = c.terminal.ensures.inside (token_by is_name refl _ (sym c.is_name.ensures ∙ h))

@@ -1,7 +1,7 @@
 use Rattle.std.proofs.Common.{◌≡◌, true, refl, sym, ◌∙◌}
-use Rattle.cpp_syntax.specs.Symbols.{is_unseparated}
-use Rattle.cpp_syntax.proofs.Alone.{token_by}
+use Rattle.cpp_syntax.specs.Terminals.{is_unseparated}
+use Rattle.cpp_syntax.proofs.SingleTerminals.{token_by}
 use Rattle.cpp_syntax.proofs.outline.Outline.is_unseparated_at.Goals as goal
 
 pub returns-clause-inside : goal.returns-clause-inside
-returns-clause-inside c h = c.symbol.ensures.inside (token_by is_unseparated refl _ (sym c.is_unseparated.ensures ∙ h))
+returns-clause-inside c h = c.terminal.ensures.inside (token_by is_unseparated refl _ (sym c.is_unseparated.ensures ∙ h))

@@ -2,7 +2,7 @@ use Rattle.std.proofs.Common.{ℕ, ◌≡◌, ◌==◌, false, cond, ap, sym, �
 use Rattle.std.specs.declared.cmp.Reverse.{Reverse}
 use Rattle.std.proofs.lemmas.Bool.{ne_eqb}
 use Rattle.std.proofs.lemmas.List.Sorted.{sum_by_popped}
-use Rattle.own_table.proofs.Heaps.{none_below, one}
+use Rattle.own_table.proofs.LeastWord.{none_below, one}
 use Rattle.own_table.proofs.held.HeldWords.take_least.Goals as goal
 
 pub returns-clause-one : goal.returns-clause-one

@@ -1,7 +1,7 @@
 use Rattle.std.proofs.Common.{◌==◌, ◌∙◌, refl}
 use Rattle.std.proofs.lemmas.Bool.{eq-eqb, or_right}
 use Rattle.own_table.specs.Bits.{has_bit}
-use Rattle.own_table.proofs.Sets.{not_zero_from_bit}
+use Rattle.own_table.proofs.ThreadSets.{not_zero_from_bit}
 use Rattle.own_table.proofs.hold.HoldRec.with_hold.Goals as goal
 
 pub returns-clause-held : goal.returns-clause-held

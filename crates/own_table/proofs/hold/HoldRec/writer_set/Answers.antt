@@ -1,7 +1,7 @@
 use Rattle.std.proofs.Common.{ap, sym, ◌∙◌}
 use Rattle.own_table.specs.Bits.{has_bit}
 use Rattle.own_table.specs.Records.{is_writer}
-use Rattle.own_table.proofs.Sets.{has_bit_alone}
+use Rattle.own_table.proofs.ThreadSets.{has_bit_alone}
 use Rattle.own_table.proofs.hold.HoldRec.writer_set.Goals as goal
 
 pub returns-in-Some : goal.returns-in-Some

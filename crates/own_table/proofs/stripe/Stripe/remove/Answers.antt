@@ -2,7 +2,7 @@ use Rattle.std.proofs.Common.{◌==◌, not, ap, ◌∙◌, arith, rules, List}
 use Rattle.std.proofs.lemmas.Fn.{filter_same}
 use Rattle.own_table.specs.declared.hold.HoldRec.{HoldRec}
 use Rattle.own_table.specs.Records.{is_sound, record_of}
-use Rattle.own_table.proofs.Lists.{record_of-filter, list_all-filter, records_of-filter}
+use Rattle.own_table.proofs.RecordLists.{record_of-filter, list_all-filter, records_of-filter}
 use Rattle.own_table.proofs.stripe.Stripe.remove.Goals as goal
 
 pub invariant_of-self : goal.invariant_of-self

@@ -2,8 +2,8 @@ use Rattle.std.proofs.Common.{ℕ, ◌≡◌, ap, sym, ◌∙◌, arith, length}
 use Rattle.std.specs.BinaryHeap.{heap_items}
 use Rattle.own_table.specs.Words.{times_in}
 use Rattle.own_table.specs.Stripes.{hold_at}
-use Rattle.own_table.proofs.Tables.{held_once, words_there}
-use Rattle.own_table.proofs.Counts.{count_none, count_one, count_some, count_more}
+use Rattle.own_table.proofs.TableLemmas.{held_once, words_there}
+use Rattle.own_table.proofs.HoldCounts.{count_none, count_one, count_some, count_more}
 use Rattle.own_table.proofs.table.Holders.count.Goals as goal
 
 pub returns-clause-none : goal.returns-clause-none

@@ -1,11 +1,12 @@
-use Rattle.std.proofs.Common.{ℕ, ◌≡◌, ◌==◌, refl, ap, sym, ◌∙◌, arith}
+use Rattle.std.proofs.Common.{ℕ, ◌≡◌, ◌==◌, length, refl, ap, sym, ◌∙◌, arith}
 use Rattle.std.proofs.Math.ListN.{length-set}
 use Rattle.std.proofs.lemmas.Bool.{eq-eqb}
 use Rattle.std.specs.BinaryHeap.{heap_items}
 use Rattle.own_table.specs.Words.{times_in}
 use Rattle.own_table.specs.Stripes.{hold_at}
-use Rattle.own_table.proofs.Heaps.{one}
-use Rattle.own_table.proofs.Tables.{counts_released, held_once, none_from_count, some_from_count, words_there}
+use Rattle.std.proofs.lemmas.Option.{slice_get_read}
+use Rattle.own_table.proofs.LeastWord.{one}
+use Rattle.own_table.proofs.TableLemmas.{counts_released, held_once, none_from_count, some_from_count, words_there, spare_set}
 use Rattle.own_table.proofs.table.Holders.release_one.Goals as goal
 
 pub returns-in_err-word-clause-none : goal.returns-in_err-word-clause-none
@@ -23,6 +24,10 @@ invariant_of-self-2 c =
         threads = omega (arith, length-set self.held.items c.args.t c.take_least.new.self, self.table.threads);
         placed = c.release_record.ensures.placed;
         kept = counts_released self.held.items c.index_mut-words.result.now c.take_least.new.self c.args.t c.in_ok-word.word (hold_at self.stripes.items) (hold_at c.release_record.new.stripes.items) (omega arith) c.index_mut-words.ensures.value self.table.kept c.release_record.ensures.released c.in_ok-word.ensures.one;
+        spare =
+            let before = slice_get_read self.held.items (length self.held.items) c.args.t c.index_mut-words.result.now refl (omega arith) c.index_mut-words.ensures.value in
+            let room = self.table.spare c.args.t c.index_mut-words.result.now before in
+            spare_set self.held.items c.args.t c.take_least.new.self self.spare self.spare (omega arith) (omega arith) self.table.spare (omega (arith, room, c.take_least.ensures.len, c.take_least.ensures.kept));
       };
     }
 

@@ -1,5 +1,5 @@
 use Rattle.std.proofs.Common.{arith}
-use Rattle.own_table.proofs.Tables.{own_reads, own_writes, own_words}
+use Rattle.own_table.proofs.TableLemmas.{own_reads, own_writes, own_words}
 use Rattle.own_table.proofs.table.Holders.stripe.Goals as goal
 
 pub returns-clause-once : goal.returns-clause-once

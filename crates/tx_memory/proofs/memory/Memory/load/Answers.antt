@@ -1,26 +1,26 @@
 use Rattle.std.proofs.Common.{sym, ap, ◌∙◌, ◌≡◌, ◌%◌, cond, Some, None, Option, ℕ, arith}
 use Rattle.std.proofs.lemmas.Bool.{false≢true}
 use Rattle.tx_events.specs.Memory.{load}
-use Rattle.tx_memory.specs.View.{place_of, words_of}
+use Rattle.tx_memory.specs.View.{layout_of, words_of}
 use Rattle.tx_memory.proofs.BitParts.{within}
-use Rattle.tx_memory.proofs.Slots.{accessed, not_accessed, access_aligned, slot_within}
-use Rattle.tx_memory.proofs.Memories.{loaded, own_word}
+use Rattle.tx_memory.proofs.WordSlots.{accessed, not_accessed, access_aligned, slot_within}
+use Rattle.tx_memory.proofs.MemoryLemmas.{loaded, own_word}
 use Rattle.tx_memory.proofs.memory.Memory.load.Goals as goal
 
 pub returns-in_err-slot-clause-value : goal.returns-in_err-slot-clause-value
 returns-in_err-slot-clause-value c =
-    let no = not_accessed (place_of c.args.self.now) c.args.addr c.args.size (sym c.in_err-slot.was ∙ c.slot.ensures) in
+    let no = not_accessed (layout_of c.args.self.now) c.args.addr c.args.size (sym c.in_err-slot.was ∙ c.slot.ensures) in
     c.from_residual.ensures ∙ sym (ap (λ b. cond {A = Option ℕ} b (Some (load (words_of c.args.self.now) c.args.addr c.args.size)) None) no)
 
 pub part-requires : goal.part-requires
 part-requires c =
-    let yes = accessed (place_of c.args.self.now) c.args.addr c.args.size c.in_ok-slot.slot (sym c.in_ok-slot.was ∙ c.slot.ensures) in
-    omega (arith, within c.args.addr c.args.size c.requires (access_aligned (place_of c.args.self.now) c.args.addr c.args.size yes.0))
+    let yes = accessed (layout_of c.args.self.now) c.args.addr c.args.size c.in_ok-slot.slot (sym c.in_ok-slot.was ∙ c.slot.ensures) in
+    omega (arith, within c.args.addr c.args.size c.requires (access_aligned (layout_of c.args.self.now) c.args.addr c.args.size yes.0))
 
 pub returns-clause-value : goal.returns-clause-value
 unfolding words_of
 returns-clause-value c =
-    let p = place_of c.args.self.now in
+    let p = layout_of c.args.self.now in
     let words = c.args.self.now.words.items in
     let yes = accessed p c.args.addr c.args.size c.in_ok-slot.slot (sym c.in_ok-slot.was ∙ c.slot.ensures) in
     let below = slot_within p c.args.addr c.in_ok-slot.slot c.args.self.now.whole yes.1 in
@@ -28,12 +28,12 @@ returns-clause-value c =
     ap Some read ∙ sym (ap (λ b. cond {A = Option ℕ} b (Some (load (words_of c.args.self.now) c.args.addr c.args.size)) None) yes.0)
 
 pub returns-in_err-slot-clause-word : goal.returns-in_err-slot-clause-word
-returns-in_err-slot-clause-word c = λ e can. absurd (false≢true (sym (not_accessed (place_of c.args.self.now) c.args.addr c.args.size (sym c.in_err-slot.was ∙ c.slot.ensures)) ∙ can))
+returns-in_err-slot-clause-word c = λ e can. absurd (false≢true (sym (not_accessed (layout_of c.args.self.now) c.args.addr c.args.size (sym c.in_err-slot.was ∙ c.slot.ensures)) ∙ can))
 
 pub returns-clause-word : goal.returns-clause-word
 unfolding words_of
 returns-clause-word c = λ e can.
-    let p = place_of c.args.self.now in
+    let p = layout_of c.args.self.now in
     let words = c.args.self.now.words.items in
     let yes = accessed p c.args.addr c.args.size c.in_ok-slot.slot (sym c.in_ok-slot.was ∙ c.slot.ensures) in
     let below = slot_within p c.args.addr c.in_ok-slot.slot c.args.self.now.whole yes.1 in

@@ -2,7 +2,7 @@ use Rattle.std.proofs.Common.{ℕ, subst}
 use Rattle.tx_serial.specs.Machine.{birth_of}
 use Rattle.tx_runtime.specs.Blocks.{Sums}
 use Rattle.tx_runtime.specs.View.{machine_in}
-use Rattle.tx_runtime.proofs.Blocking.{birth_at}
+use Rattle.tx_runtime.proofs.ConflictingThreads.{birth_at}
 use Rattle.tx_runtime.proofs.access.Engine+A+A+Saved.and_blocker.Goals as goal
 
 pub returns-in-Some : goal.returns-in-Some

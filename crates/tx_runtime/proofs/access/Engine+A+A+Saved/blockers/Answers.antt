@@ -2,7 +2,7 @@ use Rattle.std.proofs.Common.{ℕ, sym, subst, length}
 use Rattle.tx_serial.specs.Machine.{birth_of}
 use Rattle.tx_runtime.specs.Blocks.{Sums}
 use Rattle.tx_runtime.specs.View.{machine_in}
-use Rattle.tx_runtime.proofs.Blocking.{keeps_is}
+use Rattle.tx_runtime.proofs.ConflictingThreads.{keeps_is}
 use Rattle.tx_runtime.proofs.access.Engine+A+A+Saved.blockers.Goals as goal
 
 pub returns : goal.returns

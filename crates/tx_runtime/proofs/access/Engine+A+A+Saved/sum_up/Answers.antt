@@ -1,10 +1,10 @@
 use Rattle.std.proofs.Common.{ℕ, ◌≡◌, ap, ◌∙◌, subst, length, arith}
 use Rattle.own_table.specs.Bits.{has_bit}
-use Rattle.own_table.proofs.Sets.{has_bit_none}
+use Rattle.own_table.proofs.ThreadSets.{has_bit_none}
 use Rattle.tx_serial.specs.Machine.{birth_of}
 use Rattle.tx_runtime.specs.Blocks.{Sums}
 use Rattle.tx_runtime.specs.View.{machine_in}
-use Rattle.tx_runtime.proofs.Blocking.{few_of, none_at_all}
+use Rattle.tx_runtime.proofs.ConflictingThreads.{few_of, none_at_all}
 use Rattle.tx_runtime.proofs.access.Engine+A+A+Saved.sum_up.Goals as goal
 
 pub returns-then-threads-eq0 : goal.returns-then-threads-eq0

@@ -1,9 +1,9 @@
 use Rattle.std.proofs.Common.{◌∙◌, refl}
-use Rattle.tx_memory.specs.View.{place_of}
+use Rattle.tx_memory.specs.View.{layout_of}
 use Rattle.tx_serial.specs.Machine.{Local}
 use Rattle.tx_runtime.specs.Threads.{local_of}
 use Rattle.tx_runtime.specs.View.{machine_in}
-use Rattle.tx_runtime.proofs.Engines.{thread_at, whole_set, whole_sound, stepped, same_holds}
+use Rattle.tx_runtime.proofs.ThreadTables.{thread_at, whole_set, whole_sound, stepped, same_holds}
 use Rattle.tx_runtime.proofs.engine.Engine+A+A+Saved.step.Goals as goal
 
 pub go_on-requires-clause-answers : goal.go_on-requires-clause-answers
@@ -15,7 +15,7 @@ go_on-requires-clause-answers g c =
 pub invariant_of-self : goal.invariant_of-self
 invariant_of-self g c =
     let self = c.args.self.now in
-    let p = place_of self.memory in
+    let p = layout_of self.memory in
     record { whole = whole_set p self.limit self.holders self.threads.items c.args.t c.go_on.new.self self.whole (c.go_on.ensures.sound p ∙ whole_sound p self.limit self.holders self.threads.items c.args.t c.index_mut-thread.result.now self.whole c.requires.started c.index_mut-thread.ensures.value) }
 
 pub returns-clause-done : goal.returns-clause-done

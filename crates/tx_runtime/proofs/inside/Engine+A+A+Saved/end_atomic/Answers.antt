@@ -1,5 +1,5 @@
 use Rattle.tx_events.specs.declared.Event.TheVariants.{EndAtomic}
-use Rattle.tx_runtime.proofs.Turned.{inside_row, if_ok}
+use Rattle.tx_runtime.proofs.AppliedRow.{inside_row, if_ok}
 use Rattle.tx_runtime.proofs.inside.Engine+A+A+Saved.end_atomic.Goals as goal
 
 pub returns-clause-turned : goal.returns-clause-turned

@@ -1,13 +1,13 @@
 use Rattle.std.proofs.Common.{ap, sym, ◌∙◌, refl, true, inl, inr}
 use Rattle.tx_events.specs.declared.Event.TheVariants.{Store}
 use Rattle.tx_serial.specs.Machine.{blocker}
-use Rattle.tx_runtime.specs.View.{machine_in, place_in}
-use Rattle.tx_runtime.proofs.Engines.{started_thread}
-use Rattle.tx_runtime.proofs.Fits.{store_fits}
-use Rattle.tx_runtime.proofs.InRows.{store_traps_in}
-use Rattle.tx_runtime.proofs.OutRows.{loaded_none, loaded_some}
-use Rattle.tx_runtime.proofs.Turned.{inside_row, if_ok}
-use Rattle.tx_runtime.proofs.Asked.{store_free, unasked}
+use Rattle.tx_runtime.specs.View.{machine_in, layout_in}
+use Rattle.tx_runtime.proofs.ThreadTables.{started_thread}
+use Rattle.tx_runtime.proofs.AccessSizes.{store_fits}
+use Rattle.tx_runtime.proofs.InsideRows.{store_traps_in}
+use Rattle.tx_runtime.proofs.OutsideRows.{loaded_none, loaded_some}
+use Rattle.tx_runtime.proofs.AppliedRow.{inside_row, if_ok}
+use Rattle.tx_runtime.proofs.PolicyAnswers.{store_free, unasked}
 use Rattle.tx_runtime.proofs.inside.Engine+A+A+Saved.store_inside.Goals as goal
 
 pub load-requires : goal.load-requires
@@ -25,8 +25,8 @@ returns-in_default-clause-chosen g c = if_ok c.halt.result (λ kind done.
     let there = started_thread g.A.Actor.state g.A.Actor.saved_state self c.args.t c.requires.here.1.started in
     let is = c.requires.here.1.at there.0 there.1 in
     let none = loaded_none _ _ _ c.load.ensures.value c.in_default.is in
-    unasked g.A.Actor.thread (place_in self) c.args.t m _ _ kind _ (store_free g.A.Actor.thread (place_in self) c.args.t m there.0 c.args.addr c.args.size c.args.value c.requires.here.0 there.1 is.next (inl none))
-    (λ answer. inside_row g.A.Actor.state g.A.Actor.saved_state g.A.Actor.is_reached g.A.Actor.thread c.args.self.now answer c.args.t (Store c.args.addr c.args.size c.args.value c.requires.here.0) _ c.requires.here.1 (λ l at i. done ∙ store_traps_in g.A.Actor.thread (place_in c.args.self.now) answer c.args.t (machine_in g.A.Actor.state g.A.Actor.saved_state c.args.self.now) l i.birth i.kept i.saves c.args.addr c.args.size c.args.value c.requires.here.0 none))) c.halt.ensures.done
+    unasked g.A.Actor.thread (layout_in self) c.args.t m _ _ kind _ (store_free g.A.Actor.thread (layout_in self) c.args.t m there.0 c.args.addr c.args.size c.args.value c.requires.here.0 there.1 is.next (inl none))
+    (λ answer. inside_row g.A.Actor.state g.A.Actor.saved_state g.A.Actor.is_reached g.A.Actor.thread c.args.self.now answer c.args.t (Store c.args.addr c.args.size c.args.value c.requires.here.0) _ c.requires.here.1 (λ l at i. done ∙ store_traps_in g.A.Actor.thread (layout_in c.args.self.now) answer c.args.t (machine_in g.A.Actor.state g.A.Actor.saved_state c.args.self.now) l i.birth i.kept i.saves c.args.addr c.args.size c.args.value c.requires.here.0 none))) c.halt.ensures.done
 
 pub returns-in-None-clause-chosen : goal.returns-in-None-clause-chosen
 returns-in-None-clause-chosen g c = if_ok c.write_inside.result (λ kind turned.
@@ -35,7 +35,7 @@ returns-in-None-clause-chosen g c = if_ok c.write_inside.result (λ kind turned.
     let there = started_thread g.A.Actor.state g.A.Actor.saved_state self c.args.t c.requires.here.1.started in
     let is = c.requires.here.1.at there.0 there.1 in
     let free = ap (λ x. blocker c.args.t true x m) (sym c.word_of-word.ensures) ∙ c.in-None.ensures.eldest in
-    unasked g.A.Actor.thread (place_in self) c.args.t m _ _ kind _ (store_free g.A.Actor.thread (place_in self) c.args.t m there.0 c.args.addr c.args.size c.args.value c.requires.here.0 there.1 is.next (inr free)) turned) c.write_inside.ensures.turned
+    unasked g.A.Actor.thread (layout_in self) c.args.t m _ _ kind _ (store_free g.A.Actor.thread (layout_in self) c.args.t m there.0 c.args.addr c.args.size c.args.value c.requires.here.0 there.1 is.next (inr free)) turned) c.write_inside.ensures.turned
 
 pub write_inside-requires-clause-access : goal.write_inside-requires-clause-access
 write_inside-requires-clause-access g c = (loaded_some _ _ _ _ c.load.ensures.value c.in-Some.is).0

@@ -7,25 +7,25 @@ use Rattle.own_table.specs.Records.{blocks}
 use Rattle.tx_events.specs.declared.Event.TheVariants.{Store}
 use Rattle.tx_events.specs.declared.Reply.TheVariants.{Nothing}
 use Rattle.tx_events.specs.Memory.{update, can_access, store, word_of}
-use Rattle.tx_memory.specs.View.{place_of, words_of}
+use Rattle.tx_memory.specs.View.{layout_of, words_of}
 use Rattle.tx_serial.specs.Machine.{Local, OpenTx, note, blocker, birth_of}
 use Rattle.tx_runtime.specs.Saves.{saves_of}
 use Rattle.tx_runtime.specs.Threads.{local_of, held_in, wrote_in, IsWhole}
-use Rattle.tx_runtime.specs.View.{machine_in, place_in}
-use Rattle.tx_runtime.proofs.Blocking.{unblocked}
-use Rattle.tx_runtime.proofs.Engines.{read_at, started_thread, stepped, same_threads, whole_set, whole_sound, on_err}
-use Rattle.tx_runtime.proofs.Fits.{store_fits}
-use Rattle.tx_runtime.proofs.Holding.{access_word, one_after, others_same, taken_held, taken_write, whole_hold, write_local}
-use Rattle.tx_runtime.proofs.Txs.{open_parts, open_with, open_live}
-use Rattle.tx_runtime.proofs.InRows.{store_done_in}
-use Rattle.tx_runtime.proofs.OutRows.{loaded_none}
-use Rattle.tx_runtime.proofs.Turned.{inside_row, started_in, at_in, answers_at}
-use Rattle.tx_runtime.proofs.Rows.{memory_row}
+use Rattle.tx_runtime.specs.View.{machine_in, layout_in}
+use Rattle.tx_runtime.proofs.ConflictingThreads.{unblocked}
+use Rattle.tx_runtime.proofs.ThreadTables.{read_at, started_thread, stepped, same_threads, whole_set, whole_sound, on_err}
+use Rattle.tx_runtime.proofs.AccessSizes.{store_fits}
+use Rattle.tx_runtime.proofs.HoldLemmas.{access_word, one_after, others_same, taken_held, taken_write, whole_hold, write_local}
+use Rattle.tx_runtime.proofs.TransactionParts.{open_parts, open_with, open_live}
+use Rattle.tx_runtime.proofs.InsideRows.{store_done_in}
+use Rattle.tx_runtime.proofs.OutsideRows.{loaded_none}
+use Rattle.tx_runtime.proofs.AppliedRow.{inside_row, started_in, at_in, answers_at}
+use Rattle.tx_runtime.proofs.RowMachines.{memory_row}
 use Rattle.tx_runtime.proofs.inside.Engine+A+A+Saved.write_inside.Goals as goal
 
 pub unreachable-requires : goal.unreachable-requires
 unreachable-requires g c =
-    let access_r : can_access (place_in c.args.self.now) c.word_of-word.result 8 ≡ true = ap (λ x. can_access (place_in c.args.self.now) x 8) c.word_of-word.ensures ∙ access_word (place_in c.args.self.now) c.args.addr c.args.size c.requires.access in
+    let access_r : can_access (layout_in c.args.self.now) c.word_of-word.result 8 ≡ true = ap (λ x. can_access (layout_in c.args.self.now) x 8) c.word_of-word.ensures ∙ access_word (layout_in c.args.self.now) c.args.addr c.args.size c.requires.access in
     true≢false (sym access_r ∙ loaded_none _ _ _ c.load.ensures.value c.in_default.is)
 
 pub returns-in_err-reserve-clause-same : goal.returns-in_err-reserve-clause-same
@@ -70,12 +70,12 @@ write-requires-clause-actor g c =
     let its = at_in g.A.Actor.state g.A.Actor.saved_state q m t s same h c.index_mut-thread.ensures.value in
     let is = c.requires.here.1.at (local_of g.A.Actor.state g.A.Actor.saved_state q.holders t s) its in
     let parts = open_parts g.A.Actor.saved_state s.tx (saves_of s.log) is.saves is.birth is.kept is.tx in
-    let p = place_of q.memory in
+    let p = layout_of q.memory in
     let sound = whole_sound p q.limit q.holders q.threads.items t s q.whole h c.index_mut-thread.ensures.value in
-    (c.in_ok-ready_to_note.ensures.room s (read_at q.threads.items t s h c.index_mut-thread.ensures.value)).0
+    (c.in_ok-ready_to_note.ensures.capacity s (read_at q.threads.items t s h c.index_mut-thread.ensures.value)).0
 
-pub write-requires-clause-room : goal.write-requires-clause-room
-write-requires-clause-room g c =
+pub write-requires-clause-capacity : goal.write-requires-clause-capacity
+write-requires-clause-capacity g c =
     let r = c.args.self.now in
     let q = c.ready_to_note.new.self in
     let m = machine_in g.A.Actor.state g.A.Actor.saved_state r in
@@ -87,9 +87,9 @@ write-requires-clause-room g c =
     let its = at_in g.A.Actor.state g.A.Actor.saved_state q m t s same h c.index_mut-thread.ensures.value in
     let is = c.requires.here.1.at (local_of g.A.Actor.state g.A.Actor.saved_state q.holders t s) its in
     let parts = open_parts g.A.Actor.saved_state s.tx (saves_of s.log) is.saves is.birth is.kept is.tx in
-    let p = place_of q.memory in
+    let p = layout_of q.memory in
     let sound = whole_sound p q.limit q.holders q.threads.items t s q.whole h c.index_mut-thread.ensures.value in
-    (c.in_ok-ready_to_note.ensures.room s (read_at q.threads.items t s h c.index_mut-thread.ensures.value)).1
+    (c.in_ok-ready_to_note.ensures.capacity s (read_at q.threads.items t s h c.index_mut-thread.ensures.value)).1
 
 pub write-requires-clause-answers : goal.write-requires-clause-answers
 write-requires-clause-answers g c =
@@ -104,7 +104,7 @@ write-requires-clause-answers g c =
     let its = at_in g.A.Actor.state g.A.Actor.saved_state q m t s same h c.index_mut-thread.ensures.value in
     let is = c.requires.here.1.at (local_of g.A.Actor.state g.A.Actor.saved_state q.holders t s) its in
     let parts = open_parts g.A.Actor.saved_state s.tx (saves_of s.log) is.saves is.birth is.kept is.tx in
-    let p = place_of q.memory in
+    let p = layout_of q.memory in
     let sound = whole_sound p q.limit q.holders q.threads.items t s q.whole h c.index_mut-thread.ensures.value in
     answers_at g.A.Actor.thread (g.A.Actor.state s.actor) (Store c.args.addr c.args.size c.args.value c.requires.here.0) Nothing is.next refl
 
@@ -121,7 +121,7 @@ write-requires-clause-live g c =
     let its = at_in g.A.Actor.state g.A.Actor.saved_state q m t s same h c.index_mut-thread.ensures.value in
     let is = c.requires.here.1.at (local_of g.A.Actor.state g.A.Actor.saved_state q.holders t s) its in
     let parts = open_parts g.A.Actor.saved_state s.tx (saves_of s.log) is.saves is.birth is.kept is.tx in
-    let p = place_of q.memory in
+    let p = layout_of q.memory in
     let sound = whole_sound p q.limit q.holders q.threads.items t s q.whole h c.index_mut-thread.ensures.value in
     open_live g.A.Actor.saved_state s.tx is.birth is.kept parts.0
 
@@ -138,17 +138,17 @@ invariant_of-self-2 g c =
     let its = at_in g.A.Actor.state g.A.Actor.saved_state q m t s same h c.index_mut-thread.ensures.value in
     let is = c.requires.here.1.at (local_of g.A.Actor.state g.A.Actor.saved_state q.holders t s) its in
     let parts = open_parts g.A.Actor.saved_state s.tx (saves_of s.log) is.saves is.birth is.kept is.tx in
-    let p = place_of q.memory in
+    let p = layout_of q.memory in
     let sound = whole_sound p q.limit q.holders q.threads.items t s q.whole h c.index_mut-thread.ensures.value in
     let mid = c.reserve.new.self in
     let new = c.take.new.self in
     let word = c.word_of-word.result in
     let we = c.word_of-word.ensures in
     let one = one_after t word Write q.holders mid new c.reserve.ensures.same c.take.ensures.taken in
-    let access_r : can_access (place_in c.args.self.now) c.word_of-word.result 8 ≡ true = ap (λ x. can_access (place_in c.args.self.now) x 8) c.word_of-word.ensures ∙ access_word (place_in c.args.self.now) c.args.addr c.args.size c.requires.access in
-    let access : can_access p word 8 ≡ true = ap (λ z. can_access z word 8) c.in_ok-ready_to_note.ensures.place ∙ access_r in
+    let access_r : can_access (layout_in c.args.self.now) c.word_of-word.result 8 ≡ true = ap (λ x. can_access (layout_in c.args.self.now) x 8) c.word_of-word.ensures ∙ access_word (layout_in c.args.self.now) c.args.addr c.args.size c.requires.access in
+    let access : can_access p word 8 ≡ true = ap (λ z. can_access z word 8) c.in_ok-ready_to_note.ensures.layout ∙ access_r in
     record {
-      whole = subst (λ z. IsWhole z q.limit new (set q.threads.items t c.write.new.self)) (sym c.store.ensures.place)
+      whole = subst (λ z. IsWhole z q.limit new (set q.threads.items t c.write.new.self)) (sym c.store.ensures.layout)
           (whole_set p q.limit new q.threads.items t c.write.new.self (whole_hold p q.limit q.holders new q.threads.items t word _ q.whole h one (c.take.ensures.limit ∙ c.reserve.ensures.limit) (λ e. access)) (c.write.ensures.sound p access sound));
     }
 
@@ -165,14 +165,14 @@ returns-clause-turned g c = λ answer. inside_row g.A.Actor.state g.A.Actor.save
     let its = at_in g.A.Actor.state g.A.Actor.saved_state q m t s same h c.index_mut-thread.ensures.value in
     let is = c.requires.here.1.at (local_of g.A.Actor.state g.A.Actor.saved_state q.holders t s) its in
     let parts = open_parts g.A.Actor.saved_state s.tx (saves_of s.log) is.saves is.birth is.kept is.tx in
-    let p = place_of q.memory in
+    let p = layout_of q.memory in
     let sound = whole_sound p q.limit q.holders q.threads.items t s q.whole h c.index_mut-thread.ensures.value in
     let mid = c.reserve.new.self in
     let new = c.take.new.self in
     let word = c.word_of-word.result in
     let we = c.word_of-word.ensures in
     let one = one_after t word Write q.holders mid new c.reserve.ensures.same c.take.ensures.taken in
-    let access_r : can_access (place_in c.args.self.now) c.word_of-word.result 8 ≡ true = ap (λ x. can_access (place_in c.args.self.now) x 8) c.word_of-word.ensures ∙ access_word (place_in c.args.self.now) c.args.addr c.args.size c.requires.access in
+    let access_r : can_access (layout_in c.args.self.now) c.word_of-word.result 8 ≡ true = ap (λ x. can_access (layout_in c.args.self.now) x 8) c.word_of-word.ensures ∙ access_word (layout_in c.args.self.now) c.args.addr c.args.size c.requires.access in
     let x = word_of c.args.addr in
     let same_l : local_of g.A.Actor.state g.A.Actor.saved_state q.holders t s ≡ l = same_Some _ l (sym its ∙ at) in
     let mine = open_parts g.A.Actor.saved_state s.tx (saves_of s.log) i.saves i.birth i.kept (ap (λ (v : Local g.A.Actor.State). v.tx) same_l ∙ i.tx) in
@@ -181,7 +181,7 @@ returns-clause-turned g c = λ answer. inside_row g.A.Actor.state g.A.Actor.save
     let memory = words_of c.store.new.self in
     let mem : memory ≡ store m.memory c.args.addr c.args.size c.args.value =
     c.store.ensures.words
-    ∙ (ap (λ b. cond b (store n.memory c.args.addr c.args.size c.args.value) n.memory) (ap (λ z. can_access z c.args.addr c.args.size) c.in_ok-ready_to_note.ensures.place ∙ c.requires.access)
+    ∙ (ap (λ b. cond b (store n.memory c.args.addr c.args.size c.args.value) n.memory) (ap (λ z. can_access z c.args.addr c.args.size) c.in_ok-ready_to_note.ensures.layout ∙ c.requires.access)
     ∙ ap (λ z. store z.memory c.args.addr c.args.size c.args.value) same) in
     memory_row t n m _ (f l) memory (store m.memory c.args.addr c.args.size c.args.value) same mem
     (stepped g.A.Actor.state g.A.Actor.saved_state (record n { memory = memory }) q.holders new q.threads.items t s c.write.new.self l f refl refl refl h c.index_mut-thread.ensures.value (ap (λ z. z.threads t) same ∙ at) (others_same t word _ q.holders new one)
@@ -191,4 +191,4 @@ returns-clause-turned g c = λ answer. inside_row g.A.Actor.state g.A.Actor.save
     ∙ (ap (λ z. OpenTx i.birth i.kept (note z word c.in-Some.old)) mine.1
     ∙ (ap (λ z. OpenTx i.birth i.kept (note i.saves z c.in-Some.old)) we ∙ ap (λ z. OpenTx i.birth i.kept (note i.saves x z)) old))))
     c.write.ensures.waits)
-    ∙ store_done_in g.A.Actor.thread (place_in c.args.self.now) answer c.args.t (machine_in g.A.Actor.state g.A.Actor.saved_state c.args.self.now) l i.birth i.kept i.saves c.args.addr c.args.size c.args.value c.requires.here.0 c.requires.access c.requires.free)
+    ∙ store_done_in g.A.Actor.thread (layout_in c.args.self.now) answer c.args.t (machine_in g.A.Actor.state g.A.Actor.saved_state c.args.self.now) l i.birth i.kept i.saves c.args.addr c.args.size c.args.value c.requires.here.0 c.requires.access c.requires.free)

@@ -3,7 +3,7 @@ use Rattle.std.specs.Prelude.{◌&&◌}
 use Rattle.std.proofs.lemmas.Bool.{eq-eqb, ne_eqb}
 use Rattle.tx_serial.specs.Machine.{live_in}
 use Rattle.tx_runtime.specs.View.{machine_in}
-use Rattle.tx_runtime.proofs.Blocking.{live_at, first_least, no_least}
+use Rattle.tx_runtime.proofs.ConflictingThreads.{live_at, first_least, no_least}
 use Rattle.tx_runtime.proofs.outside.Engine+A+A+Saved.busy.Goals as goal
 use Rattle.tx_runtime.proofs.outside.Engine+A+A+Saved.busy.Goals.{else-u-t-via-then-u-t+else-is_live, else-u-t-via-else-u-t}
 

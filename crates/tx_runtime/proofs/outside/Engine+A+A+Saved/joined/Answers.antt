@@ -5,8 +5,8 @@ use Rattle.std.proofs.Math.IntN.{nat_abs}
 use Rattle.std.proofs.lemmas.Bool.{cases_lt}
 use Rattle.tx_events.specs.World.{target}
 use Rattle.tx_runtime.specs.View.{machine_in}
-use Rattle.tx_runtime.proofs.Engines.{no_thread}
-use Rattle.tx_runtime.proofs.OutRows.{no_target}
+use Rattle.tx_runtime.proofs.ThreadTables.{no_thread}
+use Rattle.tx_runtime.proofs.OutsideRows.{no_target}
 use Rattle.tx_runtime.proofs.outside.Engine+A+A+Saved.joined.Goals as goal
 
 natural : (z : ℤ) (n : ℕ) → FitsUnsignedBits 8 z → n ≡ nat_abs z → z ≡ pos n

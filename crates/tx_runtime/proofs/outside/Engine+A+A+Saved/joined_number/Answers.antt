@@ -1,7 +1,7 @@
 use Rattle.std.proofs.Common.{pos, ◌≡◌, arith}
 use Rattle.tx_runtime.specs.View.{machine_in}
-use Rattle.tx_runtime.proofs.Engines.{no_thread}
-use Rattle.tx_runtime.proofs.OutRows.{no_target}
+use Rattle.tx_runtime.proofs.ThreadTables.{no_thread}
+use Rattle.tx_runtime.proofs.OutsideRows.{no_target}
 use Rattle.tx_runtime.proofs.outside.Engine+A+A+Saved.joined_number.Goals as goal
 
 pub returns-else-number-len-clause-none : goal.returns-else-number-len-clause-none

@@ -2,8 +2,8 @@ use Rattle.std.proofs.Common.{◌++◌, ◌∷◌, [], ap, ◌∙◌}
 use Rattle.tx_events.specs.declared.Event.TheVariants.{Out}
 use Rattle.tx_events.specs.declared.Reply.TheVariants.{Nothing}
 use Rattle.tx_runtime.specs.View.{machine_in}
-use Rattle.tx_runtime.proofs.Turned.{outside_row}
-use Rattle.tx_runtime.proofs.Rows.{out_row}
+use Rattle.tx_runtime.proofs.AppliedRow.{outside_row}
+use Rattle.tx_runtime.proofs.RowMachines.{out_row}
 use Rattle.tx_runtime.proofs.outside.Engine+A+A+Saved.output.Goals as goal
 
 pub returns-clause-turned : goal.returns-clause-turned

@@ -1,5 +1,5 @@
 use Rattle.tx_events.specs.declared.Event.TheVariants.{Silent}
-use Rattle.tx_runtime.proofs.Turned.{outside_row, if_ok}
+use Rattle.tx_runtime.proofs.AppliedRow.{outside_row, if_ok}
 use Rattle.tx_runtime.proofs.outside.Engine+A+A+Saved.silent.Goals as goal
 
 pub returns-clause-turned : goal.returns-clause-turned

@@ -3,21 +3,21 @@ use Rattle.std.proofs.lemmas.Int.{to_z-of_z}
 use Rattle.std.proofs.lemmas.Option.{same_Some}
 use Rattle.tx_events.specs.declared.Event.TheVariants.{Spawn}
 use Rattle.tx_events.specs.declared.Reply.TheVariants.{Id}
-use Rattle.tx_memory.specs.View.{place_of}
+use Rattle.tx_memory.specs.View.{layout_of}
 use Rattle.tx_serial.specs.Machine.{Local}
 use Rattle.tx_runtime.specs.Threads.{local_of, threads_of, waits_by}
-use Rattle.tx_runtime.specs.View.{machine_in, place_in}
-use Rattle.tx_runtime.proofs.Engines.{whole_push, ready_push, threads_push, waits_push, length_pushed, not_less, less, push_at}
+use Rattle.tx_runtime.specs.View.{machine_in, layout_in}
+use Rattle.tx_runtime.proofs.ThreadTables.{whole_push, ready_push, threads_push, waits_push, length_pushed, not_less, less, push_at}
 use Rattle.tx_events.specs.Thread.{IsInt}
-use Rattle.tx_runtime.proofs.OutRows.{spawn_full, spawn_done}
-use Rattle.tx_runtime.proofs.Turned.{outside_row, if_ok, started_in, at_in, answers_at}
-use Rattle.tx_runtime.proofs.Rows.{spawn_row}
+use Rattle.tx_runtime.proofs.OutsideRows.{spawn_full, spawn_done}
+use Rattle.tx_runtime.proofs.AppliedRow.{outside_row, if_ok, started_in, at_in, answers_at}
+use Rattle.tx_runtime.proofs.RowMachines.{spawn_row}
 use Rattle.tx_runtime.proofs.outside.Engine+A+A+Saved.spawn.Goals as goal
 
 pub returns-then-number-self-clause-turned : goal.returns-then-number-self-clause-turned
 returns-then-number-self-clause-turned g c = if_ok c.halt.result (λ kind done answer. outside_row g.A.Actor.state g.A.Actor.saved_state g.A.Actor.is_reached g.A.Actor.thread c.args.self.now answer c.args.t (Spawn c.args.func c.args.arg) _ c.requires.here (λ l at is.
     let self = c.args.self.now in
-    done ∙ spawn_full g.A.Actor.thread (place_in c.args.self.now) c.args.t (machine_in g.A.Actor.state g.A.Actor.saved_state c.args.self.now) l c.args.func c.args.arg (not_less (length self.threads.items) (place_in self).limit (omega (arith, c.if-number-self.true, c.len-number.ensures, self.whole.fits))))) c.halt.ensures.done
+    done ∙ spawn_full g.A.Actor.thread (layout_in c.args.self.now) c.args.t (machine_in g.A.Actor.state g.A.Actor.saved_state c.args.self.now) l c.args.func c.args.arg (not_less (length self.threads.items) (layout_in self).limit (omega (arith, c.if-number-self.true, c.len-number.ensures, self.whole.fits))))) c.halt.ensures.done
 
 pub start-requires : goal.start-requires
 start-requires g c =
@@ -48,12 +48,12 @@ invariant_of-self-2 g c =
     let is = c.requires.here.at (local_of g.A.Actor.state g.A.Actor.saved_state q.holders c.args.t s) its in
     let started : length q.threads.items ≡ length r.threads.items = ap (λ z. z.started) same in
     let pushed : c.push_reserved-2.new.self.items ≡ q.threads.items ++ c.new.result ∷ [] = c.push_reserved-2.ensures.items ∙ ap (λ xs. xs ++ c.new.result ∷ []) items in
-    let p = place_of q.memory in
-    let limit = ap (λ z. z.limit) c.in_ok-ready.ensures.place in
+    let p = layout_of q.memory in
+    let limit = ap (λ z. z.limit) c.in_ok-ready.ensures.layout in
     record { whole = whole_push p q.limit q.holders q.threads.items c.push_reserved-2.new.self.items c.new.result pushed q.whole (omega (arith, c.if-number-self.false, c.len-number.ensures, started, q.whole.fits, r.whole.fits, limit)) (c.new.ensures.sound p) }
 
-pub step-requires-clause-room : goal.step-requires-clause-room
-step-requires-clause-room g c =
+pub step-requires-clause-capacity : goal.step-requires-clause-capacity
+step-requires-clause-capacity g c =
     let r = c.args.self.now in
     let q = c.ready.new.self in
     let m = machine_in g.A.Actor.state g.A.Actor.saved_state r in
@@ -66,7 +66,7 @@ step-requires-clause-room g c =
     let is = c.requires.here.at (local_of g.A.Actor.state g.A.Actor.saved_state q.holders c.args.t s) its in
     let started : length q.threads.items ≡ length r.threads.items = ap (λ z. z.started) same in
     let pushed : c.push_reserved-2.new.self.items ≡ q.threads.items ++ c.new.result ∷ [] = c.push_reserved-2.ensures.items ∙ ap (λ xs. xs ++ c.new.result ∷ []) items in
-    ready_push g.A.Actor.has_room q.threads.items c.push_reserved-2.new.self.items c.new.result c.args.t pushed h c.in_ok-ready.ensures.room
+    ready_push g.A.Actor.has_capacity q.threads.items c.push_reserved-2.new.self.items c.new.result c.args.t pushed h c.in_ok-ready.ensures.capacity
 
 pub step-requires-clause-answers : goal.step-requires-clause-answers
 step-requires-clause-answers g c = λ l at.
@@ -115,6 +115,6 @@ returns-clause-turned g c = λ answer. outside_row g.A.Actor.state g.A.Actor.sav
     (waits_push q.threads.items c.push_reserved-2.new.self.items c.new.result pushed c.new.ensures.waits)
     (length_pushed q.threads.items c.push_reserved-2.new.self.items c.new.result pushed)
     (c.step.ensures.done l (push_at g.A.Actor.state g.A.Actor.saved_state q.holders q.threads.items c.push_reserved-2.new.self.items c.new.result c.args.t pushed h ∙ (ap (λ z. z.threads c.args.t) same ∙ at)))
-    ∙ spawn_done g.A.Actor.thread (place_in c.args.self.now) c.args.t (machine_in g.A.Actor.state g.A.Actor.saved_state c.args.self.now) l c.args.func number c.args.arg i child (less (length r.threads.items) (place_in r).limit (omega (arith, c.if-number-self.false, c.len-number.ensures, r.whole.fits)))
+    ∙ spawn_done g.A.Actor.thread (layout_in c.args.self.now) c.args.t (machine_in g.A.Actor.state g.A.Actor.saved_state c.args.self.now) l c.args.func number c.args.arg i child (less (length r.threads.items) (layout_in r).limit (omega (arith, c.if-number-self.false, c.len-number.ensures, r.whole.fits)))
     (to_z-of_z w32 c.from.result (record { sfits = c.from.type_inv }) ∙ (c.from.ensures ∙ ap pos counted))
     (c.in_ok-child.ensures ∙ (ap (λ z. g.A.Actor.thread.child z number c.args.func (to_z w64 (of_z w64 c.args.arg))) (ap (λ (z : Local g.A.Actor.State). z.state) one) ∙ (ap (λ z. g.A.Actor.thread.child l.state z c.args.func (to_z w64 (of_z w64 c.args.arg))) counted ∙ ap (g.A.Actor.thread.child l.state (length r.threads.items) c.args.func) (to_z-of_z w64 c.args.arg c.ranges.arg)))))

@@ -1,5 +1,5 @@
-use Rattle.tx_runtime.proofs.Engines.{started_thread}
-use Rattle.tx_runtime.proofs.Fits.{store_fits}
+use Rattle.tx_runtime.proofs.ThreadTables.{started_thread}
+use Rattle.tx_runtime.proofs.AccessSizes.{store_fits}
 use Rattle.tx_runtime.proofs.outside.Engine+A+A+Saved.write_outside.Goals as goal
 
 pub store-requires-clause-size : goal.store-requires-clause-size

@@ -1,5 +1,5 @@
 use Rattle.std.proofs.Common.{arith}
-use Rattle.tx_runtime.proofs.Whole.{actor_past, actor_at}
+use Rattle.tx_runtime.proofs.RuntimeViews.{actor_past, actor_at}
 use Rattle.tx_runtime.proofs.runtime.Runtime.actor.Goals as goal
 
 pub returns-then-t-len : goal.returns-then-t-len

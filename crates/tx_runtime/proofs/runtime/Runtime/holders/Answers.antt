@@ -1,4 +1,4 @@
-use Rattle.tx_runtime.proofs.Whole.{holds_of}
+use Rattle.tx_runtime.proofs.RuntimeViews.{holds_of}
 use Rattle.tx_runtime.proofs.runtime.Runtime.holders.Goals as goal
 
 pub returns : goal.returns

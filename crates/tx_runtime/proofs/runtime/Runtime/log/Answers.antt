@@ -1,6 +1,6 @@
 use Rattle.std.proofs.Common.{arith}
-use Rattle.tx_runtime.proofs.Whole.{log_past, log_at, marks_shown}
-use Rattle.tx_runtime.proofs.Levels.{levels_shown}
+use Rattle.tx_runtime.proofs.RuntimeViews.{log_past, log_at, marks_shown}
+use Rattle.tx_runtime.proofs.SavepointLevels.{levels_shown}
 use Rattle.tx_runtime.proofs.runtime.Runtime.log.Goals as goal
 
 pub returns-then-t-len-clause-saves : goal.returns-then-t-len-clause-saves

@@ -1,13 +1,13 @@
 use Rattle.std.proofs.Common.{◌++◌, ◌∷◌, [], length, ap, ◌∙◌}
-use Rattle.tx_memory.specs.View.{place_of, words_of}
-use Rattle.tx_runtime.proofs.Whole.{first_whole, first_threads, first_waits, first_parts, no_flags}
+use Rattle.tx_memory.specs.View.{layout_of, words_of}
+use Rattle.tx_runtime.proofs.RuntimeViews.{first_whole, first_threads, first_waits, first_parts, no_flags}
 use Rattle.tx_runtime.proofs.runtime.Runtime.new.Goals as goal
 
 pub invariant_of-engine : goal.invariant_of-engine
 invariant_of-engine g c = record {
-  whole = first_whole (place_of c.args.memory) c.args.threads c.in_ok-holders.holders c.push.new.self.items c.new-2.result
+  whole = first_whole (layout_of c.args.memory) c.args.threads c.in_ok-holders.holders c.push.new.self.items c.new-2.result
       (c.in_ok-push.ensures.items ∙ ap (λ z. z ++ c.new-2.result ∷ []) c.new-slots.ensures.items) c.requires.memory c.requires.some c.requires.limit
-      c.in_ok-holders.ensures.limit c.in_ok-holders.ensures.free (c.new-2.ensures.sound (place_of c.args.memory));
+      c.in_ok-holders.ensures.limit c.in_ok-holders.ensures.free (c.new-2.ensures.sound (layout_of c.args.memory));
 }
 
 pub returns-clause-first : goal.returns-clause-first

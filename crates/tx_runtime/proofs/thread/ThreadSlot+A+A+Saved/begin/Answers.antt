@@ -3,7 +3,7 @@ use Rattle.tx_events.specs.declared.Reply.TheVariants.{Nothing}
 use Rattle.tx_runtime.specs.Saves.{saves_of}
 use Rattle.tx_runtime.specs.Threads.{local_of}
 use Rattle.tx_serial.specs.Machine.{OpenTx, no_save}
-use Rattle.tx_runtime.proofs.Logs.{log_marked, no_saves}
+use Rattle.tx_runtime.proofs.LogSavepoints.{log_marked, no_saves}
 use Rattle.tx_runtime.proofs.thread.ThreadSlot+A+A+Saved.begin.Goals as goal
 
 pub returns-in-Ok-clause-local : goal.returns-in-Ok-clause-local

@@ -1,6 +1,6 @@
 use Rattle.std.proofs.Common.{◌-◌, length, ap, arith}
-use Rattle.tx_runtime.proofs.Slots.{relog}
-use Rattle.tx_runtime.proofs.Logs.{log_dropped}
+use Rattle.tx_runtime.proofs.SlotLemmas.{relog}
+use Rattle.tx_runtime.proofs.LogSavepoints.{log_dropped}
 use Rattle.tx_runtime.proofs.thread.ThreadSlot+A+A+Saved.drop_savepoint.Goals as goal
 
 pub returns-clause-local : goal.returns-clause-local

@@ -1,5 +1,5 @@
-use Rattle.tx_runtime.proofs.Slots.{relog}
-use Rattle.tx_runtime.proofs.Logs.{log_marked}
+use Rattle.tx_runtime.proofs.SlotLemmas.{relog}
+use Rattle.tx_runtime.proofs.LogSavepoints.{log_marked}
 use Rattle.tx_runtime.proofs.thread.ThreadSlot+A+A+Saved.mark.Goals as goal
 
 pub returns-clause-local : goal.returns-clause-local

@@ -1,6 +1,6 @@
 use Rattle.std.proofs.Common.{length, ap, arith}
-use Rattle.tx_runtime.proofs.Slots.{relog}
-use Rattle.tx_runtime.proofs.Logs.{log_noted, unmarked}
+use Rattle.tx_runtime.proofs.SlotLemmas.{relog}
+use Rattle.tx_runtime.proofs.LogSavepoints.{log_noted, unmarked}
 use Rattle.tx_runtime.proofs.thread.ThreadSlot+A+A+Saved.note.Goals as goal
 
 pub returns-then-marks-gt0-clause-local : goal.returns-then-marks-gt0-clause-local

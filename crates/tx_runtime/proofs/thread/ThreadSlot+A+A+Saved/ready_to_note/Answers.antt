@@ -1,5 +1,5 @@
 use Rattle.std.proofs.Common.{refl}
-use Rattle.tx_runtime.proofs.Slots.{ready_local}
+use Rattle.tx_runtime.proofs.SlotLemmas.{ready_local}
 use Rattle.tx_runtime.proofs.thread.ThreadSlot+A+A+Saved.ready_to_note.Goals as goal
 
 pub returns-clause-local : goal.returns-clause-local

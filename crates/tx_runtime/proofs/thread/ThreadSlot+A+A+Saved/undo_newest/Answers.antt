@@ -1,32 +1,20 @@
-use Rattle.std.proofs.Common.{refl}
-use Rattle.tx_memory.specs.View.{place_of, words_of}
-use Rattle.tx_runtime.proofs.Slots.{relog, log_same, sound_forgot, newest_back, newest_none, newest_noted, newest_least, newest_access, newest_words}
-use Rattle.tx_runtime.proofs.Logs.{log_forgot}
+use Rattle.std.proofs.Common.{ap, ◌∙◌}
+use Rattle.std.proofs.lemmas.Option.{IfSome_then}
+use Rattle.tx_serial.specs.Machine.{Local}
+use Rattle.tx_runtime.specs.Saves.{saves_of, newest_without}
+use Rattle.tx_runtime.specs.Threads.{local_of, tx_of}
+use Rattle.tx_runtime.proofs.SlotLemmas.{none_then}
 use Rattle.tx_runtime.proofs.thread.ThreadSlot+A+A+Saved.undo_newest.Goals as goal
 
-pub undo_newest-requires-clause-words : goal.undo_newest-requires-clause-words
-undo_newest-requires-clause-words g c = newest_back (place_of c.args.memory.now) c.args.self.now c.requires.sound
-
-pub returns-clause-noted : goal.returns-clause-noted
-returns-clause-noted g c = newest_noted c.args.self.now.log c.in-Some.word c.requires.mark c.in-Some.ensures.noted
-
-pub returns-clause-least : goal.returns-clause-least
-returns-clause-least g c = newest_least c.args.self.now.log c.in-Some.word c.requires.mark c.in-Some.ensures.least
-
-pub returns-clause-access : goal.returns-clause-access
-returns-clause-access g c = newest_access (place_of c.args.memory.now) c.args.self.now c.in-Some.word c.requires.sound c.in-Some.ensures.noted
-
-pub returns-clause-words : goal.returns-clause-words
-returns-clause-words g c = newest_words c.args.self.now.log c.in-Some.word (words_of c.args.memory.now) _ c.requires.mark c.in-Some.ensures.words
-
 pub returns-clause-local : goal.returns-clause-local
-returns-clause-local g c = λ holders t. relog g.A.Actor.state g.A.Actor.saved_state holders t c.args.self.now _ _ (log_forgot c.args.self.now.log _ c.in-Some.word c.requires.mark c.in-Some.ensures.notes c.undo_newest.ensures.marks)
+returns-clause-local g c = IfSome_then c.undo_least.result c.undo_least.ensures.local (λ w f holders t.
+    let self = c.args.self.now in
+    let ordered = c.order.new.self in
+    let l = local_of g.A.Actor.state g.A.Actor.saved_state holders t self in
+    f holders t
+    ∙ (ap (λ (v : Local g.A.Actor.State). record v { tx = tx_of g.A.Actor.saved_state ordered.tx (newest_without w (saves_of ordered.log)) }) (c.order.ensures.local holders t)
+    ∙ (ap (λ o. record l { tx = tx_of g.A.Actor.saved_state o (newest_without w (saves_of ordered.log)) }) c.order.ensures.tx
+    ∙ ap (λ ss. record l { tx = tx_of g.A.Actor.saved_state self.tx (newest_without w ss) }) c.order.ensures.saves)))
 
-pub returns-clause-sound : goal.returns-clause-sound
-returns-clause-sound g c = sound_forgot (place_of c.args.memory.now) c.args.self.now c.undo_newest.new.self c.in-Some.word c.requires.mark c.requires.sound c.in-Some.ensures.notes c.undo_newest.ensures.marks
-
-pub returns-in_default-clause-none : goal.returns-in_default-clause-none
-returns-in_default-clause-none g c = newest_none c.args.self.now.log c.requires.mark (c.in_default.ensures.none.0 refl)
-
-pub returns-in_default-clause-same : goal.returns-in_default-clause-same
-returns-in_default-clause-same g c = λ holders t. relog g.A.Actor.state g.A.Actor.saved_state holders t c.args.self.now c.undo_newest.new.self _ (log_same c.args.self.now.log c.undo_newest.new.self c.in_default.ensures.same_notes c.undo_newest.ensures.marks)
+pub returns-clause-same : goal.returns-clause-same
+returns-clause-same g c = none_then c.undo_least.result c.undo_least.ensures.same (λ f holders t. f holders t ∙ c.order.ensures.local holders t)

@@ -1,5 +1,5 @@
 use Rattle.std.proofs.Common.{ap, sym, ◌∙◌, arith, Some}
-use Rattle.tx_runtime.proofs.Stands.{accesses_past, accesses_open, accesses_undoing, accesses_releasing, accesses_bare}
+use Rattle.tx_runtime.proofs.StandingThreads.{accesses_past, accesses_open, accesses_undoing, accesses_releasing, accesses_bare}
 use Rattle.tx_runtime.proofs.turn.Engine+A+A+Saved.accesses_inside.Goals as goal
 
 pub returns-then-t-len : goal.returns-then-t-len

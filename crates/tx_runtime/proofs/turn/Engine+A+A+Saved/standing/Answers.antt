@@ -1,5 +1,5 @@
 use Rattle.std.proofs.Common.{ap, sym, ◌∙◌, arith, Some}
-use Rattle.tx_runtime.proofs.Stands.{still_past, still_ended, stands_outside, stands_inside, stands_undoing, stands_releasing}
+use Rattle.tx_runtime.proofs.StandingThreads.{still_past, still_ended, stands_outside, stands_inside, stands_undoing, stands_releasing}
 use Rattle.tx_runtime.proofs.turn.Engine+A+A+Saved.standing.Goals as goal
 
 pub returns-then-t-len : goal.returns-then-t-len

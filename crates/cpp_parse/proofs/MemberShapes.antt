@@ -1,0 +1,161 @@
+-- What a member can be whose type begins at an index, by what stands behind its first declarator. Below, m is the index behind
+-- the longest declarator, and e that behind the longest initializer, if = stands at m.
+use Rattle.std.proofs.Common.{◌≡◌, ℕ, zero, suc, ◌+◌, inl, inr, nat_eq, true, false, not, ◌&&◌, refl, sym as back, ◌∙◌, ap, subst, arith, Option, None, true≢false}
+use Rattle.std.proofs.lemmas.Bool.{not-true, and_from, and_parts, cases_Bool}
+use Rattle.cpp_syntax.specs.declared.terminal.Terminal.{Terminal}
+use Rattle.cpp_syntax.specs.Source.{Source, terminal_at}
+use Rattle.cpp_ast.specs.declared.kinds.NodeKind.TheVariants.{EqualInitializer}
+use Rattle.cpp_syntax.specs.Terminals.{is_zero, is_integer, semicolon, comma, equal, open_paren}
+use Rattle.cpp_syntax.specs.Types.{is_not_zero}
+use Rattle.cpp_syntax.specs.Rules.{Nonterminal, cast_expression, binary_expression, assignment_expression, compound_statement, a_cast, Rule, word, ◌·◌, form, node, where_, optional}
+use Rattle.cpp_syntax.specs.Grammar.{virt_specifiers}
+use Rattle.cpp_syntax.specs.Derivations.{Read, no_read, kept_apart, Derives, is_nothing, is_word, is_mark, is_both, is_left, is_right, is_last, is_form, is_node, is_where, is_unless}
+use Rattle.cpp_syntax.specs.Lookahead.{lookahead}
+use Rattle.cpp_syntax.specs.Parsed.{NoneOf}
+use Rattle.cpp_syntax.proofs.TerminalTables.{at_each, implies, implied}
+use Rattle.cpp_syntax.proofs.DisjointFirstSets.{never_both}
+use Rattle.cpp_syntax.proofs.FirstTerminals.{not_empty}
+use Rattle.cpp_syntax.proofs.DeclaratorForms.{differ}
+use Rattle.cpp_syntax.proofs.LongestMatches.{carry, seq, seq_none, seq_ends, taken, mark_long, node_long, word_none, mark_none, node_none, where_refused}
+use Rattle.cpp_parse_expr.proofs.ReaderAnswers.{none_unlike, none_second_mark}
+use Rattle.cpp_parse.specs.Alternatives.{types, named_declarator, single, initialized, listed, with_function_body, more_members, pure_specifier, value, value_but_zero}
+use Rattle.cpp_parse.specs.Answers.{Reaches}
+use Rattle.cpp_parse.proofs.LongestAlone.{none_reached, none_skipped, many_none}
+use Rattle.cpp_parse.proofs.NamedDeclarators.{none_formed, none_member, none_grouped}
+
+-- what stands behind the declarator of one member, and of the first of several
+abbrev pub rest_single : Rule
+rest_single = (virt_specifiers · optional pure_specifier) · word semicolon
+
+abbrev pub rest_initialized : Rule
+rest_initialized = node EqualInitializer value_but_zero · word semicolon
+
+abbrev pub rest_listed : Rule
+rest_listed = optional (node EqualInitializer value) · more_members · word semicolon
+
+abbrev pub rest_function : Rule
+rest_function = virt_specifiers · form compound_statement
+
+pub no_single : {s : Source} {a h m : ℕ} → Reaches s types a h → Reaches s named_declarator h m → NoneOf s rest_single m → NoneOf s single a
+no_single x y n = none_reached x (none_formed (none_member y n refl refl refl refl) refl) refl refl refl
+
+pub no_initialized : {s : Source} {a h m : ℕ} → Reaches s types a h → Reaches s named_declarator h m → NoneOf s rest_initialized m → NoneOf s initialized a
+no_initialized x y n = none_reached x (none_formed (none_member y n refl refl refl refl) refl) refl refl refl
+
+pub no_listed : {s : Source} {a h m : ℕ} → Reaches s types a h → Reaches s named_declarator h m → NoneOf s rest_listed m → NoneOf s listed a
+no_listed x y n = none_reached x (none_formed (none_member y n refl refl refl refl) refl) refl refl refl
+
+pub no_function_body : {s : Source} {a h m : ℕ} → Reaches s types a h → Reaches s named_declarator h m → NoneOf s rest_function m
+    → NoneOf s with_function_body a
+no_function_body x y n = none_reached x (none_reached y n refl refl refl) refl refl refl
+
+-- 0 is an expression.
+
+record ZeroText (s : Source) (f : Nonterminal) (a : ℕ) : Type 0 where
+  got : Read
+  text : Derives (lookahead s) kept_apart s (form f) no_read a (a + 1) None got
+
+zero_is_integer : (z : Terminal) → is_zero z ≡ true → is_integer z ≡ true
+zero_is_integer z t = implied (is_zero z) (is_integer z) (at_each (λ y. implies (is_zero y) (is_integer y)) refl z) t
+
+zero_cast : (s : Source) (a : ℕ) → is_zero (terminal_at s a) ≡ true → ZeroText s cast_expression a
+zero_cast s a t = record {
+  got = _;
+  text = is_form (is_left (is_unless no_cast (is_form (is_left
+      (is_form (is_both (is_form (is_left (is_left (is_node (is_mark (zero_is_integer (terminal_at s a) t) refl refl refl) refl refl))) refl refl)
+      (is_last refl refl refl) refl) refl refl))
+      refl refl))) refl refl;
+}
+  where
+    no_cast : lookahead s a_cast a → ⊥
+    no_cast h = differ is_zero open_paren refl (terminal_at s a) t (h.1).opened
+
+zero_binary : (s : Source) (a n : ℕ) → is_zero (terminal_at s a) ≡ true → ZeroText s (binary_expression n) a
+zero_binary s a zero t = record { got = _; text = is_form (zero_cast s a t).text refl refl }
+zero_binary s a (suc n) t = record { got = _; text = is_form (is_both (zero_binary s a n t).text (is_last refl refl refl) refl) refl refl }
+
+zero_text : (s : Source) (a : ℕ) → is_zero (terminal_at s a) ≡ true → ZeroText s assignment_expression a
+zero_text s a t = record { got = _; text = is_form (is_left (is_both (zero_binary s a 10 t).text (is_right (is_nothing refl refl refl)) refl)) refl refl }
+
+-- 0 before ; is all of an initializer
+zero_ends : (s : Source) (a e : ℕ) → Reaches s (form assignment_expression) a e → is_zero (terminal_at s a) ≡ true
+    → semicolon (terminal_at s (a + 1)) ≡ true → e ≡ a + 1
+zero_ends s a e x t u = let z = zero_text s a t in elim ((x.long).longest (a + 1) None z.got z.text) [
+  | inl h ↦ absurd (never_both (lookahead s) s (form assignment_expression) (word semicolon) (a + 1) refl h.1 (λ seen w. u))
+  | inr h ↦ back h.0
+]
+
+-- Behind = .
+
+-- one member alone is pure, or has no =
+pub not_pure : {s : Source} {m : ℕ} → equal (terminal_at s m) ≡ true
+    → (is_zero (terminal_at s (m + 1)) ≡ true → semicolon (terminal_at s (m + 1 + 1)) ≡ true → ⊥) → NoneOf s rest_single m
+not_pure {s = s} {m = m} t f = none_grouped (seq_ends (many_none (none_unlike equal t refl refl)) only refl refl)
+  where
+    only : NoneOf s (optional pure_specifier · word semicolon) m
+    only b k o (is_both (is_left (is_node (is_both (is_mark g h i j) (is_node (is_mark g' h' i' j') e1 e2) e3) e4 e5)) (is_word u h'' i'' j'') e6) = f
+        (subst (λ (n : ℕ). is_zero (terminal_at s n) ≡ true) h g')
+        (subst (λ (n : ℕ). semicolon (terminal_at s n) ≡ true) (h' ∙ ap (λ (n : ℕ). n + 1) h) u)
+    only b k o (is_both (is_right (is_nothing g h i)) (is_word u h'' i'' j'') e6) =
+        differ equal semicolon refl (terminal_at s m) t (subst (λ (n : ℕ). semicolon (terminal_at s n) ≡ true) g u)
+
+-- what an initializer and ; behind it are
+initializer_closed : {s : Source} {m e b : ℕ} {k : Option ℕ} {o : Read} → Reaches s (form assignment_expression) (m + 1) e
+    → Derives (lookahead s) kept_apart s rest_initialized no_read m b k o → (semicolon (terminal_at s e) ≡ true) × (is_not_zero s (m + 1) e ≡ true)
+initializer_closed {s = s} {m = m} {e = e} x (is_both (is_node (is_both {m = m'} (is_mark g h i j) (is_where {s = o'} {b = c} {k = k'} u z) e3) e4
+    e5) (is_word t h' i' j') e6) = elim ((x.long).longest c k' o' (carry h j u)) [
+      | inl d ↦ absurd (never_both (lookahead s) s (form assignment_expression) (word semicolon) c refl d.1 (λ seen w. t))
+      | inr d ↦ (
+        subst (λ (n : ℕ). semicolon (terminal_at s n) ≡ true) d.0 t,
+        subst (λ (n : ℕ). is_not_zero s n e ≡ true) h
+            (subst (λ (n : ℕ). is_not_zero s m' n ≡ true) d.0 z),
+      )
+    ]
+
+pub not_closed : {s : Source} {m e : ℕ} → Reaches s (form assignment_expression) (m + 1) e → semicolon (terminal_at s e) ≡ false → NoneOf s rest_initialized m
+not_closed x f b k o u = true≢false (back (initializer_closed x u).0 ∙ f)
+
+zero_refused : (s : Source) (a e : ℕ) → is_zero (terminal_at s a) ≡ true → e ≡ a + 1 → is_not_zero s a e ≡ false
+zero_refused s a e t h = ap not (and_from (is_zero (terminal_at s a)) (nat_eq e (a + 1)) t (grind (arith, h)))
+
+pub zero_alone : {s : Source} {m e : ℕ} → Reaches s (form assignment_expression) (m + 1) e → is_zero (terminal_at s (m + 1)) ≡ true
+    → semicolon (terminal_at s (m + 1 + 1)) ≡ true → NoneOf s rest_initialized m
+zero_alone {s = s} {m = m} {e = e} x t u b k o v = true≢false (back (initializer_closed x v).1 ∙ zero_refused s (m + 1) e t (zero_ends s (m + 1) e x t u))
+
+-- , behind an initializer is not ; behind 0
+pub comma_behind : {s : Source} (m : ℕ) {e : ℕ} → Reaches s (form assignment_expression) (m + 1) e → comma (terminal_at s e) ≡ true
+    → is_zero (terminal_at s (m + 1)) ≡ true → semicolon (terminal_at s (m + 1 + 1)) ≡ true → ⊥
+comma_behind {s = s} m {e = e} x c t u =
+    differ comma semicolon refl (terminal_at s e) c (subst (λ (n : ℕ). semicolon (terminal_at s n) ≡ true) (back (zero_ends s (m + 1) e x t u)) u)
+
+pub comma_open : (z : Terminal) → comma z ≡ true → semicolon z ≡ false
+comma_open z t = not-true (semicolon z) (implied (comma z) (not (semicolon z)) (at_each (λ y. implies (comma y) (not (semicolon y))) refl z) t)
+
+pub no_more : {s : Source} {m e : ℕ} → equal (terminal_at s m) ≡ true → Reaches s (form assignment_expression) (m + 1) e
+    → comma (terminal_at s e) ≡ false → NoneOf s rest_listed m
+no_more t x f = seq_ends (taken (node_long (seq (mark_long t) x.long refl)) refl) (seq_none (seq_none (seq_none (word_none f)))) refl refl
+
+-- no initializer stands behind =
+pub no_value : {s : Source} {m : ℕ} → equal (terminal_at s m) ≡ true → NoneOf s (form assignment_expression) (m + 1) → NoneOf s rest_listed m
+no_value t n = none_skipped (node_none (none_second_mark n)) (none_unlike equal t refl refl) refl refl
+
+-- Where neither = nor , stands behind the declarator.
+pub no_equal_listed : {s : Source} {m : ℕ} → equal (terminal_at s m) ≡ false → comma (terminal_at s m) ≡ false → NoneOf s rest_listed m
+no_equal_listed f g = none_skipped (node_none (seq_none (mark_none f))) (seq_none (seq_none (seq_none (word_none g)))) refl refl
+
+-- 0 alone is refused where an initializer may not be 0.
+zero_parts : (s : Source) (a e : ℕ) → is_not_zero s a e ≡ false → e ≡ a + 1
+zero_parts s a e f = elim (cases_Bool (is_zero (terminal_at s a) && nat_eq e (a + 1))) [
+  | inl h ↦ let i = (and_parts (is_zero (terminal_at s a)) (nat_eq e (a + 1)) h).1 in grind (arith, i)
+  | inr h ↦ absurd (true≢false (back (ap not h) ∙ f))
+]
+
+pub none_but_zero : {s : Source} {a e : ℕ} → Reaches s (form assignment_expression) a e → is_not_zero s a e ≡ false
+    → NoneOf s (where_ is_not_zero (form assignment_expression)) a
+none_but_zero {s = s} {a = a} {e = e} x f = where_refused only
+  where
+    only : (c : ℕ) (k : Option ℕ) (o : Read) → Derives (lookahead s) kept_apart s (form assignment_expression) no_read a c k o → is_not_zero s a c ≡ false
+    only c k o u = elim ((x.long).longest c k o u) [
+      | inl h ↦ let lt = h.0 in let n = not_empty u refl in let at = zero_parts s a e f in absurd (omega (arith, lt, n, at))
+      | inr h ↦ ap (λ (n : ℕ). is_not_zero s a n) h.0 ∙ f
+    ]

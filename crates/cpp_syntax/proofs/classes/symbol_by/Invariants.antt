@@ -1,7 +1,0 @@
-use Rattle.std.proofs.Common.{◌≡◌, map, drop}
-use Rattle.cpp_syntax.specs.Classes.{symbol_by}
-use Rattle.cpp_syntax.specs.Rows.{spelled_of}
-use Rattle.cpp_syntax.proofs.classes.symbol_by.Given as goal
-
-abbrev pub invariant-loop-row : goal.invariant-loop-row
-invariant-loop-row l = symbol_by (map spelled_of (drop l.row-index l.rows)) l.word l.otherwise ≡ symbol_by (map spelled_of l.rows) l.word l.otherwise

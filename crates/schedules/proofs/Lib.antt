@@ -1,0 +1,4 @@
+mod Lines
+mod Numbers
+mod Reading
+mod Runs

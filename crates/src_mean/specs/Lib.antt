@@ -1,0 +1,12 @@
+pub mod Linked
+pub mod Exceptions
+pub mod Frames
+pub mod Source
+pub mod Links
+pub mod Laws
+pub mod Cost
+pub mod Notation
+pub mod Runs
+pub mod Blocks
+pub mod Objects
+pub mod Exits

@@ -1,0 +1,6 @@
+mod Commands
+mod Numbers
+mod Simple
+mod Slots
+mod Tops
+mod Walks

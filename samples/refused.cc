@@ -1,0 +1,5 @@
+// Not in the language that runs today: a variable without a type.
+int main() {
+    x = 1;
+    return 0;
+}
