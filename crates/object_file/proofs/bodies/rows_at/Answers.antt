@@ -1,0 +1,18 @@
+use Rattle.std.proofs.lemmas.Result.{err_from_is_err_and}
+use Rattle.object_file.specs.Fields.{row}
+use Rattle.object_file.proofs.Loop.{each_begins, each_goes_on, each_ends, each_is_done}
+use Rattle.object_file.proofs.bodies.rows_at.Goals as goal
+
+pub loop-init : goal.loop-init
+loop-init c = rw c.new-rows.ensures.items (each_begins (row c.args.names) _ _ _ c.in_ok-count.ensures)
+
+pub returns-in_err-row : goal.returns-in_err-row
+returns-in_err-row c =
+    let p = err_from_is_err_and c.from_residual-in_err-row.result c.from_residual-in_err-row.ensures.1 in
+    rw (p.1, p.2) (each_ends (row c.args.names) c.in_err-row.field-0.0 _ _ _ _ _ c.loop-test.true c.in_err-row.ensures c.loop.invariant)
+
+pub loop-preserved : goal.loop-preserved
+loop-preserved c = rw c.in_ok-push.ensures.items (each_goes_on (row c.args.names) _ _ _ _ _ _ _ c.loop-test.true c.in_ok-row.ensures c.loop.invariant)
+
+pub returns : goal.returns
+returns c = each_is_done (row c.args.names) _ _ _ _ _ c.loop-test.false c.loop.invariant
