@@ -1,16 +1,15 @@
 -- Classes by their names.
-use Rattle.std.proofs.Common.{◌≡◌, ℕ, zero, suc, ◌+◌, ◌-◌, ◌<◌, ◌≤◌, nat_eq, nat_lt, arith, Bool, true, false, not, List, [], ◌∷◌, length, map, get_or, Option, Some, None, refl, sym, ap, subst, ◌∙◌, inl, inr}
+use Rattle.std.proofs.Common.{◌≡◌, ℕ, zero, suc, ◌+◌, ◌<◌, ◌≤◌, nat_eq, nat_lt, arith, Bool, true, false, List, [], ◌∷◌, length, map, get_or, Option, Some, None, refl, sym, ap, subst, ◌∙◌, inl, inr}
 use Rattle.std.specs.List.{slice_get}
 use Rattle.std.specs.Option.{option_map}
-use Rattle.std.proofs.lemmas.Bool.{and_parts, ltb-true, eq-eqb, ne_eqb, cases_lt, not_from_false}
+use Rattle.std.proofs.lemmas.Bool.{and_parts, ltb-true, eq-eqb, ne_eqb, cases_lt}
 use Rattle.std.proofs.lemmas.Option.{slice_get-get_or, slice_get_within, slice_get-map}
 use Rattle.tx_code.specs.declared.object.ObjClass.{ObjClass}
 use Rattle.tx_code.specs.Objects.{ClassView, class_view}
 use Rattle.tx_code.specs.WellFormed.{ascends, ascends_from, class_named}
-use Rattle.object_file.specs.Objects.{goes_on}
-use Rattle.object_file.specs.Chains.{HasName, HasBase, IsIndex, AreBounds}
+use Rattle.object_file.specs.Chains.{HasName, IsIndex, AreBounds}
 
-abbrev by_name : ClassView → ClassView → Bool
+abbrev pub by_name : ClassView → ClassView → Bool
 by_name a b = nat_lt a.name b.name
 
 class_above : (a : ClassView) (cs : List ClassView) (i : ℕ) (c : ClassView) → ascends_from by_name a cs ≡ true → slice_get cs i ≡ Some c → a.name < c.name
@@ -69,7 +68,7 @@ found_there cs name i h n = record { class = n.class; at = n.at; named = named_a
 some_is : (c d : ClassView) → Path (Option ClassView) (Some c) (Some d) → c ≡ d
 some_is c d e = cc
 
-same_class : (cs : List ClassView) (i : ℕ) (c d : ClassView) → slice_get cs i ≡ Some c → slice_get cs i ≡ Some d → c ≡ d
+pub same_class : (cs : List ClassView) (i : ℕ) (c d : ClassView) → slice_get cs i ≡ Some c → slice_get cs i ≡ Some d → c ≡ d
 same_class cs i c d e f = some_is c d (sym e ∙ f)
 
 below_middle : (cs : List ClassView) (name middle found : ℕ) → ascends by_name cs ≡ true → HasName cs middle found → found < name → (k : ℕ) (c : ClassView) → k ≤ middle → slice_get cs k ≡ Some c → c.name < name
@@ -123,41 +122,3 @@ class_there xs i x lt e =
 
 pub found_as : (cs : List ClassView) (name found i : ℕ) → ascends by_name cs ≡ true → HasName cs i found → found ≡ name → IsIndex cs name i
 found_as cs name found i h n e = subst (λ (z : ℕ). IsIndex cs z i) e (found_there cs found i h n)
-
--- ---- chains
-
--- the chain from a base, after k steps, is that from another
-abbrev pub Walks : List ClassView → (base k at : ℕ) → Type 0
-Walks cs base k at = (m : ℕ) → goes_on cs (k + m) base ≡ goes_on cs m at
-
-before_one : (n : ℕ) → (n ≡ 0 → ⊥) → n ≡ suc (n - 1)
-before_one zero h = absurd (h refl)
-before_one (suc n) h = omega arith
-
-pub walk_ends : (cs : List ClassView) (n base k at : ℕ) → k ≤ n → Walks cs base k at → at ≡ 0 → false ≡ goes_on cs n base
-walk_ends cs n base k at le walks e =
-    let n-is : k + (n - k) ≡ n = omega arith in
-    sym (ap (λ (z : ℕ). goes_on cs z base) (sym n-is) ∙ walks (n - k) ∙ ap (goes_on cs (n - k)) e)
-
-pub walk_leaves : (cs : List ClassView) (n base k at : ℕ) → k < n → Walks cs base k at → (at ≡ 0 → ⊥) → class_named cs (at - 1) ≡ None → false ≡ goes_on cs n base
-walk_leaves cs n base k at lt walks ne none =
-    let n-is : k + suc (n - k - 1) ≡ n = omega arith in
-    let gone : goes_on cs (suc (n - k - 1)) (suc (at - 1)) ≡ false = rw none refl in
-    sym (ap (λ (z : ℕ). goes_on cs z base) (sym n-is) ∙ walks (suc (n - k - 1)) ∙ ap (goes_on cs (suc (n - k - 1))) (before_one at ne) ∙ gone)
-
-pub walk_more : (cs : List ClassView) (base k at i next : ℕ) → Walks cs base k at → (at ≡ 0 → ⊥) → IsIndex cs (at - 1) i → HasBase cs i next → Walks cs base (k + 1) next
-walk_more cs base k at i next walks ne found has = λ m.
-    let k-is : k + 1 + m ≡ k + suc m = omega arith in
-    let same : found.class ≡ has.class = same_class cs i found.class has.class found.at has.at in
-    let next-is : found.class.base ≡ next = ap (λ (z : ClassView). z.base) same ∙ has.base_is in
-    let one : goes_on cs (suc m) (suc (at - 1)) ≡ goes_on cs m found.class.base = rw found.named refl in
-    ap (λ (z : ℕ). goes_on cs z base) k-is ∙ walks (suc m) ∙ ap (goes_on cs (suc m)) (before_one at ne) ∙ one ∙ ap (goes_on cs m) next-is
-
-walk_last : (cs : List ClassView) (at : ℕ) → goes_on cs 0 at ≡ not (nat_eq at 0)
-walk_last cs zero = refl
-walk_last cs (suc at) = sym (not_from_false (nat_eq (suc at) 0) (ne_eqb (suc at) 0 (λ e. absurd (omega arith))))
-
-pub walk_goes_on : (cs : List ClassView) (n base k at : ℕ) → k ≤ n → n ≤ k → Walks cs base k at → not (nat_eq at 0) ≡ goes_on cs n base
-walk_goes_on cs n base k at le ge walks =
-    let n-is : k + 0 ≡ n = omega arith in
-    sym (ap (λ (z : ℕ). goes_on cs z base) (sym n-is) ∙ walks 0 ∙ walk_last cs at)

@@ -9,6 +9,7 @@ pub mod ObjectLaws
 pub mod Sources
 pub mod WholeLaws
 pub mod ByName
+pub mod ChainSteps
 pub mod Positions
 pub mod Puts
 pub mod ReadLaws

@@ -1,5 +1,5 @@
 -- Classes by their names, and how far their chains of bases go.
-use Rattle.std.specs.Prelude.{Bool, false, ◌≡◌, ◌<◌, ◌≤◌, ℕ, List, length, get_or, nat_eq, Option, Some, slice_get}
+use Rattle.std.specs.Prelude.{Bool, true, false, ◌≡◌, ◌<◌, ◌≤◌, ℕ, List, length, get_or, nat_eq, Option, Some, slice_get}
 use Rattle.std.specs.List.{list_any}
 use Rattle.tx_code.specs.Objects.{ClassView}
 use Rattle.tx_code.specs.WellFormed.{class_named}
@@ -30,10 +30,16 @@ pub record AreBounds (cs : List ClassView) (name low high : ℕ) : Type 0 where
   pub below : (k : ℕ) (c : ClassView) → k < low → slice_get cs k ≡ Some c → c.name < name
   pub above : (k : ℕ) (c : ClassView) → high ≤ k → slice_get cs k ≡ Some c → name < c.name
 
--- the chain of each class that has a number here ends in so many steps
+-- the chain of bases from this one ends after just so many steps, which are no more than there are classes
+pub record EndsIn (cs : List ClassView) (base steps : ℕ) : Type 0 where
+  pub before : (m : ℕ) → m < steps → goes_on cs m base ≡ true
+  pub from : (m : ℕ) → steps ≤ m → goes_on cs m base ≡ false
+  pub within : steps ≤ length cs
+
+-- the chain of each class that has a number here ends after so many steps
 pub record AreSteps (cs : List ClassView) (steps : List (Option ℕ)) : Type 0 where
   pub as_many : length steps ≡ length cs
-  pub end : (i k : ℕ) (c : ClassView) → slice_get cs i ≡ Some c → slice_get steps i ≡ Some (Some k) → goes_on cs k c.base ≡ false
+  pub each : (i k base : ℕ) → HasBase cs i base → slice_get steps i ≡ Some (Some k) → EndsIn cs base k
 
 -- of so many names, whether each is among those used
 pub record AreMarks (count : ℕ) (used : List ℕ) (marks : List Bool) : Type 0 where

@@ -1,12 +1,13 @@
 //! Bases of classes.
-ghost use Rattle.std.specs.Prelude.{◌≡◌, ◌<◌, ◌≤◌, ◌+◌, ◌^◌, ℕ, Bool, true, false, not, None, Some, map, length, slice_get, MatchOption};
+ghost use Rattle.std.specs.Prelude.{◌≡◌, ◌<◌, ◌≤◌, ◌+◌, ◌^◌, ℕ, Bool, true, false, not, None, Some, map, length, slice_get, MatchOption, IfOk};
 ghost use Rattle.std.specs.List.{flat_map};
 ghost use Rattle.tx_code.specs.Objects.{ClassView, class_view};
 ghost use Rattle.tx_code.specs.WellFormed.{ascends_by, class_named};
 ghost use Rattle.object_file.specs.Spelling.{class_bytes};
 ghost use Rattle.object_file.specs.Objects.{is_unknown, goes_on, base_is_wrong, wrong_base_from};
-ghost use Rattle.object_file.specs.Chains.{HasName, HasBase, IsIndex, AreBounds};
+ghost use Rattle.object_file.specs.Chains.{HasName, HasBase, IsIndex, AreBounds, EndsIn, AreSteps};
 
+use std::alloc::{AllocError, Global};
 use tx_code::{ObjClass, ObjMember};
 
 fn class_name(classes: &[ObjClass], i: usize) -> u32
@@ -45,22 +46,60 @@ fn class_index(classes: &[ObjClass], name: u32) -> Option<usize>
     None
 }
 
-/// The chain from this base goes on after as many steps as there are classes.
-fn goes_round(classes: &[ObjClass], base: u32) -> bool
-    requires { ascends_by (λ (c : ClassView). c.name) (map class_view classes.now) ≡ true }
-    ensures { result ≡ goes_on (map class_view classes.now) (length classes.now) base }
+/// After how many steps the chain of a class ends, if that is known.
+fn known_at(known: &[Option<usize>], i: usize) -> Option<usize>
+    requires { i < length known.now }
+    ensures { slice_get known.now i ≡ Some result }
+{
+    known[i]
+}
+
+/// After how many steps the chain from this base ends, by what is known of the classes that it passes: none if it goes on
+/// after as many steps as there are classes.
+fn count_steps(classes: &[ObjClass], known: &[Option<usize>], base: u32) -> Option<usize>
+    requires ascend { ascends_by (λ (c : ClassView). c.name) (map class_view classes.now) ≡ true }
+    requires known { AreSteps (map class_view classes.now) known.now }
+    ensures { MatchOption result (goes_on (map class_view classes.now) (length classes.now) base ≡ true) (λ k. EndsIn (map class_view classes.now) base k) }
 {
     let mut at = base;
-    for _ in 0..classes.len() {
+    for walked in 0..classes.len() {
         if at == 0 {
-            return false;
+            return Some(walked);
         }
         let Some(i) = class_index(classes, at - 1) else {
-            return false;
+            return Some(walked + 1);
         };
+        if let Some(left) = known_at(known, i) {
+            if left < classes.len() - walked {
+                return Some(walked + 1 + left);
+            }
+            return None;
+        }
         at = class_base(classes, i);
     }
-    at != 0
+    if at == 0 { Some(classes.len()) } else { None }
+}
+
+/// Keeps after how many steps the chain of each class ends that the chain from this base passes, up to one where it is known.
+fn keep_steps(classes: &[ObjClass], known: &mut Vec<Option<usize>>, base: u32, steps: usize)
+    requires ascend { ascends_by (λ (c : ClassView). c.name) (map class_view classes.now) ≡ true }
+    requires known { AreSteps (map class_view classes.now) known.old.items }
+    requires ends { EndsIn (map class_view classes.now) base steps }
+    ensures { AreSteps (map class_view classes.now) known.new.items }
+{
+    let mut at = base;
+    let mut left = steps;
+    while left > 0 {
+        let Some(i) = class_index(classes, at - 1) else {
+            return;
+        };
+        if known_at(known, i).is_some() {
+            return;
+        }
+        left -= 1;
+        at = class_base(classes, i);
+        known[i] = Some(left);
+    }
 }
 
 fn is_class_or_none(classes: &[ObjClass], base: u32) -> bool
@@ -76,14 +115,30 @@ fn is_class_or_none(classes: &[ObjClass], base: u32) -> bool
     }
 }
 
-fn is_wrong(classes: &[ObjClass], base: u32) -> bool
-    requires { ascends_by (λ (c : ClassView). c.name) (map class_view classes.now) ≡ true }
-    ensures { result ≡ base_is_wrong (map class_view classes.now) base }
+/// Whether the base is wrong. What its chain tells of the classes that it passes is kept, so that no class is passed twice.
+fn is_wrong(classes: &[ObjClass], known: &mut Vec<Option<usize>>, base: u32) -> bool
+    requires ascend { ascends_by (λ (c : ClassView). c.name) (map class_view classes.now) ≡ true }
+    requires known { AreSteps (map class_view classes.now) known.old.items }
+    ensures wrong { result ≡ base_is_wrong (map class_view classes.now) base }
+    ensures known { AreSteps (map class_view classes.now) known.new.items }
 {
     if !is_class_or_none(classes, base) {
         return true;
     }
-    goes_round(classes, base)
+    match count_steps(classes, known, base) {
+        None => true,
+        Some(steps) => {
+            keep_steps(classes, known, base, steps);
+            false
+        }
+    }
+}
+
+/// Nothing is known yet.
+fn none_known(alloc: Global, classes: &[ObjClass]) -> Result<Vec<Option<usize>>, AllocError>
+    ensures { IfOk result (λ v. AreSteps (map class_view classes.now) v.items) }
+{
+    vec![in alloc; None; classes.len()]
 }
 
 fn count_members(members: &[ObjMember]) -> u64
@@ -107,17 +162,22 @@ fn class_size(class: &ObjClass) -> u64
 }
 
 /// Where the first wrong base stands, if the first class stands at `start`.
-pub(crate) fn first_wrong_base(classes: &[ObjClass], start: u64) -> Option<u64>
+pub(crate) fn first_wrong_base(
+    alloc: Global,
+    classes: &[ObjClass],
+    start: u64,
+) -> Result<Option<u64>, AllocError>
     requires ascend { ascends_by (λ (c : ClassView). c.name) (map class_view classes.now) ≡ true }
     requires few { start + length (flat_map class_bytes (map class_view classes.now)) < 2 ^ 63 }
-    ensures { result ≡ wrong_base_from (map class_view classes.now) start (map class_view classes.now) }
+    ensures { IfOk result (λ r. r ≡ wrong_base_from (map class_view classes.now) start (map class_view classes.now)) }
 {
+    let mut known = none_known(alloc, classes)?;
     let mut at = start;
     for class in classes {
-        if is_wrong(classes, class.base) {
-            return Some(at + 12);
+        if is_wrong(classes, &mut known, class.base) {
+            return Ok(Some(at + 12));
         }
         at += class_size(class);
     }
-    None
+    Ok(None)
 }

@@ -60,7 +60,7 @@ fn wrong_as_a_whole(alloc: Global, object: &Object) -> Result<Option<u64>, Alloc
     if let Some(at) = first_unused(alloc, &object.source, &used, &object.names, 12)? {
         return Ok(Some(at));
     }
-    Ok(first_wrong_base(&object.classes, first_class(object)))
+    first_wrong_base(alloc, &object.classes, first_class(object))
 }
 
 /// Where a field stands, if so many bytes are left from it on.

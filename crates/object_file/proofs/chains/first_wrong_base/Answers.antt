@@ -7,8 +7,9 @@ use Rattle.object_file.proofs.chains.first_wrong_base.Goals as goal
 pub loop-class-preserved : goal.loop-class-preserved
 loop-class-preserved c =
     let d = dropped class_view _ _ _ c.loop-class-test.true c.class-item.is in (
-      rw c.class_size-at.ensures (base_more _ _ _ _ (class_view c.class-item.result) _ d (sym c.if-is_wrong.ensures) c.loop-class.invariant.0),
+      rw c.class_size-at.ensures (base_more _ _ _ _ (class_view c.class-item.result) _ d (sym c.if-is_wrong.ensures.wrong) c.loop-class.invariant.0),
       rw c.class_size-at.ensures (size_more class_bytes _ _ (class_view c.class-item.result) _ _ d c.loop-class.invariant.1),
+      c.is_wrong.ensures.known,
     )
 
 pub returns : goal.returns
