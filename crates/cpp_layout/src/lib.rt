@@ -17,3 +17,4 @@ pub use addresses::{fn_addr, vtable_addr};
 pub use extents::SizeAlign;
 pub use frames::{FrameFault, FrameRec, frame};
 pub use objects::{TooLarge, offset, size_align};
+pub use pointers::has_pointer;

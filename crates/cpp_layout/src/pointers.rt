@@ -69,7 +69,8 @@ fn has_virtual_base(classes: &[ClassRec], class: u32, most: u32) -> bool
     false
 }
 
-// Whether the class is the first of its chain of bases with a virtual function.
+/// Whether the class is the first of its chain of bases with a virtual function: then its objects have a class pointer
+/// behind the base.
 pub fn has_pointer(classes: &[ClassRec], class: u32) -> bool
     ensures { result ≡ has_class_pointer (classes_of classes.now) class }
 {

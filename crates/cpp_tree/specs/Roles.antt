@@ -1,12 +1,12 @@
 -- Where nodes stand: what each kid of a node is for, and which kinds serve.
-use Rattle.std.specs.Prelude.{ℕ, Bool, true, false, not, ◌||◌, ◌==◌, List, [], ◌∷◌, slice_get, Option, Some, None, cond}
+use Rattle.std.specs.Prelude.{ℕ, Bool, true, false, not, ◌||◌, List, [], ◌∷◌, slice_get, Option, Some, None, cond}
 use Rattle.std.specs.Option.{option_or}
 use Rattle.cpp_types.specs.Typ.{Typ}
 use Rattle.cpp_types.specs.declared.ranks.Cat.{Cat}
 use Rattle.cpp_tree.specs.declared.kinds.TKind.{TKind}
 use Rattle.cpp_tree.specs.declared.kinds.TKind.TheVariants.{Literal, Local, Global, Function, ClassTable, Load, Convert, Retype, Binary, Conditional, Comma, Assign, Update, CopyAssign, Materialize, FullExpression, Call, VirtualCall, PointerCall, Builtin as CallBuiltin, Throw, Rethrow, Store, CopyScalar, Construct, CopyConstruct, CopyFrom, Pieces, Piece, Elements, Block, Init, Defer, Loop, Switch, Case, Default, Break, Continue, Return, Try, Handler, Atomic, Synchronized, Destroy, Field}
 use Rattle.cpp_tree.specs.declared.roles.Role.{Role}
-use Rattle.cpp_tree.specs.declared.roles.Role.TheVariants.{Value, Word, Initialiser, CopyInit, Zero, ZeroWord, ZeroPart, Statement, BlockItem, SwitchItem, Step, Part, CopiedPart, Catch, Destruction, Scalar}
+use Rattle.cpp_tree.specs.declared.roles.Role.TheVariants.{Value, Word, Initialiser, CopyInit, Zero, Statement, BlockItem, SwitchItem, Step, Part, CopiedPart, Catch, Destruction, Scalar}
 use Rattle.cpp_tree.specs.Typing.{is_argument, is_class_prvalue}
 
 -- Kinds
@@ -64,16 +64,6 @@ is_copy Pieces = true
 is_copy (Elements n s) = true
 is_copy kind = false
 
-abbrev pub is_zero_kind : TKind → Bool
-is_zero_kind (Store k v) = true
-is_zero_kind Pieces = true
-is_zero_kind (Elements n s) = true
-is_zero_kind kind = false
-
-abbrev pub is_zero_word : TKind → Bool
-is_zero_word (Literal w) = w == 0
-is_zero_word kind = false
-
 abbrev pub is_block : TKind → Bool
 is_block (Block subobjects) = true
 is_block kind = false
@@ -118,14 +108,13 @@ is_field kind = false
 
 -- Roles
 
+-- (zeros in an object of no type are told by their whole trees, not by their kinds)
 abbrev pub serves : Role → TKind → Bool
 serves Value kind = is_expression kind
 serves Word kind = is_argument kind || is_expression kind
 serves Initialiser kind = is_initialiser kind
 serves CopyInit kind = is_copy kind
-serves Zero kind = is_zero_kind kind
-serves ZeroWord kind = is_zero_word kind
-serves ZeroPart kind = is_piece kind
+serves Zero kind = false
 serves Statement kind = is_statement kind
 serves BlockItem kind = is_block_item kind
 serves SwitchItem kind = is_label kind || is_block_item kind
@@ -177,21 +166,14 @@ branch_role Step void_type = Value
 branch_role role true = Statement
 branch_role role false = Value
 
-abbrev pub stored_role : Role → Role
-stored_role Zero = ZeroWord
-stored_role role = Value
-
 abbrev pub part_role : Role → Role
 part_role CopyInit = CopiedPart
-part_role Zero = ZeroPart
 part_role role = Part
 
 -- what builds a part, or an element
 abbrev pub object_role : Role → Role
 object_role CopiedPart = CopyInit
 object_role CopyInit = CopyInit
-object_role ZeroPart = Zero
-object_role Zero = Zero
 object_role role = Initialiser
 
 -- the kids of a node that serves in this role; `void_type` says that its type is `void`, and `no_object` that the address in its first kid is one of no type
@@ -218,7 +200,7 @@ kids_for role PointerCall void_type no_object = and_any (Value ∷ []) Word
 kids_for role (CallBuiltin b) void_type no_object = and_any [] Value
 kids_for role Throw void_type no_object = and_any (Value ∷ []) Scalar
 kids_for role Rethrow void_type no_object = only []
-kids_for role (Store k v) void_type no_object = only (stored_role role ∷ [])
+kids_for role (Store k v) void_type no_object = only (Value ∷ [])
 kids_for role (CopyScalar k v) void_type no_object = only []
 kids_for role (Construct f) void_type no_object = and_any [] Word
 kids_for role (CopyConstruct f) void_type no_object = only []

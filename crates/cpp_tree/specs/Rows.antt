@@ -1,5 +1,5 @@
 -- What each node asks of its own numbers, type and category and of its kids' kinds, types and categories.
-use Rattle.std.specs.Prelude.{ℕ, ◌+◌, ◌==◌, nat_le, nat_lt, Bool, true, false, not, ◌&&◌, ◌||◌, List, [], ◌∷◌, ◌++◌, length, drop, slice_get, Option, Some, None, is_some, cond}
+use Rattle.std.specs.Prelude.{ℕ, ◌==◌, nat_lt, Bool, true, false, not, ◌&&◌, ◌||◌, List, [], ◌∷◌, ◌++◌, length, drop, slice_get, Option, Some, None, is_some, cond}
 use Rattle.std.specs.List.{list_all}
 use Rattle.tx_ints.specs.declared.kinds.IntKind.{IntKind}
 use Rattle.tx_ints.specs.declared.kinds.IntKind.TheVariants.{Int, Long, ULong}
@@ -21,7 +21,7 @@ use Rattle.cpp_tree.specs.declared.program.FuncKind.{FuncKind}
 use Rattle.cpp_tree.specs.declared.program.FuncKind.TheVariants.{Plain, Constructor, Destructor}
 use Rattle.cpp_tree.specs.Units.{Func, Global as GlobalRecord, SlotFunc}
 use Rattle.cpp_tree.specs.Typing.{Head, passes, form_in, is_volatile_typ, unqualified, is_void, is_class_typ, is_reference, is_class, without_exception, same_shape, kind_in, same_kind, scalar_of, is_scalar_value, word_kind, gives, is_promoted, gives_promoted, is_word_of, is_prvalue, is_statement_typ, is_bool, is_lvalue_of, is_prvalue_of, initialises, builds, is_result, Word, object, passed, are_words}
-use Rattle.cpp_tree.specs.Parts.{size_in, are_pieces, are_elements, are_destroyed, are_scalars}
+use Rattle.cpp_tree.specs.Parts.{has_pointer_at, are_pieces, are_elements, are_destroyed, are_scalars}
 use Rattle.cpp_tree.specs.Roles.{is_throw}
 
 -- what a node's numbers are indexes into: the classes and slots of the program, the functions and globals of the unit, and the frame of the function
@@ -82,10 +82,6 @@ is_slot_of n f slot = slot.class == n && name_eq slot.name f.name && form_eq (fu
 
 abbrev pub has_slot : List (List SlotFunc) → ℕ → ℕ → Function → Bool
 has_slot slots n slot f = passes (λ (list : List SlotFunc). passes (is_slot_of n f) (slice_get list slot)) (slice_get slots n)
-
--- a class pointer lies in objects of this type
-abbrev pub has_pointer_at : List Class → ℕ → Typ → Bool
-has_pointer_at classes at t = passes (λ (size : ℕ). nat_le (at + 8) size) (size_in classes t)
 
 abbrev pub is_virtual_call : Setting → ℕ → ℕ → Typ → Cat → Func → Bool
 is_virtual_call s n slot t cat f = is_member_of n f.class && f.declared.is_virtual && has_slot s.slots n slot f.declared && is_result (result_of f) t cat
@@ -182,12 +178,25 @@ is_copied_from t h = is_lvalue h.cat && (same_shape t h.typ || same_shape t (wit
 
 abbrev pub is_destruction : Setting → Typ → TKind → Bool
 is_destruction s t (Destroy f offset count stride) = passes (λ (g : Func). is_destructor g.kind
-    && passes (λ (n : ℕ). are_destroyed s.classes n offset count stride t) g.class) (slice_get s.funcs f)
+    && passes (λ (n : ℕ). are_destroyed s.classes (record { class = n; count = count; stride = stride }) offset t) g.class) (slice_get s.funcs f)
 is_destruction s t kind = false
+
+abbrev pub destroyed_at : TKind → ℕ
+destroyed_at (Destroy f offset count stride) = offset
+destroyed_at kind = 0
+
+-- what lies further on is destroyed first, and nothing twice
+abbrev pub fall_from : ℕ → List Head → Bool
+fall_from limit [] = true
+fall_from limit (h ∷ hs) = nat_lt (destroyed_at h.kind) limit && fall_from (destroyed_at h.kind) hs
+
+abbrev pub offsets_fall : List Head → Bool
+offsets_fall [] = true
+offsets_fall (h ∷ hs) = fall_from (destroyed_at h.kind) hs
 
 -- the destructions of an object of this type
 abbrev pub are_destructions : Setting → Typ → List Head → Bool
-are_destructions s t hs = list_all (λ (h : Head). is_destruction s t h.kind) hs
+are_destructions s t hs = list_all (λ (h : Head). is_destruction s t h.kind) hs && offsets_fall hs
 
 abbrev pub builtin_result : Builtin → Form
 builtin_result PutChar = int Int
@@ -270,7 +279,7 @@ row_fits s FullExpression t cat hs = kid 0 (same_value t cat) hs
 row_fits s (Call f) t cat hs = passes (λ (g : Func). not (is_special g.kind) && is_result (result_of g) t cat
     && are_words (words_of g) hs) (slice_get s.funcs f)
 row_fits s (VirtualCall f n slot pointer) t cat hs = passes (λ (g : Func). is_virtual_call s n slot t cat g
-    && are_words (words_of g) hs) (slice_get s.funcs f) && kid 0 (λ h. has_pointer_at s.classes pointer h.typ) hs
+    && are_words (words_of g) hs) (slice_get s.funcs f) && has_pointer_at s.classes pointer n
 row_fits s PointerCall t cat hs = kid 0 (λ h. is_prvalue h.cat && passes (λ (g : Signature). is_result (result_in Plain g) t cat
     && are_words (signature_words None g) (drop 1 hs)) (called_in (form_in h.typ))) hs
 row_fits s (CallBuiltin b) t cat hs = is_prvalue cat && typ_eq t (typ (builtin_result b) false false) && are_words (builtin_words b) hs

@@ -1,9 +1,11 @@
 -- Well-formed programs.
 use Rattle.std.specs.Prelude.{◌≡◌, ℕ, suc, ◌+◌, ◌<◌, ◌≤◌, ◌==◌, nat_lt, nat_le, nat_eq, Bool, true, false, not, ◌&&◌, ◌||◌, List, [], ◌∷◌, ◌++◌, map, length, slice_get, drop, count_by, Option, Some, None, is_some, unwrap_or, cond}
 use Rattle.std.specs.List.{list_all}
-use Rattle.cpp_types.specs.Typ.{Typ, typ, ptr}
-use Rattle.cpp_types.specs.Class.{InOrder, classes_of}
+use Rattle.cpp_types.specs.Typ.{Typ, typ, Form, void, int, ptr, ref, array, class, closure, tx_ex}
+use Rattle.cpp_types.specs.Class.{Class, InOrder, classes_of}
 use Rattle.cpp_types.specs.Equal.{flag_eq, typ_eq}
+use Rattle.tx_ints.specs.declared.kinds.IntKind.{IntKind}
+use Rattle.tx_ints.specs.declared.kinds.IntKind.TheVariants.{ULong}
 use Rattle.cpp_types.specs.declared.ranks.Cat.{Cat}
 use Rattle.cpp_tree.specs.declared.kinds.TKind.{TKind}
 use Rattle.cpp_tree.specs.declared.kinds.TKind.TheVariants.{Literal, Local, Conditional, Materialize, FullExpression, Store, Pieces, Piece, Elements, Block, Init, Defer, Loop, Switch, Break, Continue, Return, Handler}
@@ -11,7 +13,7 @@ use Rattle.cpp_tree.specs.declared.arena.TNode.{TNode}
 use Rattle.cpp_tree.specs.declared.arena.TNodeId.{TNodeId}
 use Rattle.cpp_tree.specs.declared.roles.Position.{Position}
 use Rattle.cpp_tree.specs.declared.roles.Role.{Role}
-use Rattle.cpp_tree.specs.declared.roles.Role.TheVariants.{Value, Zero, ZeroWord, ZeroPart, Statement, BlockItem, SwitchItem}
+use Rattle.cpp_tree.specs.declared.roles.Role.TheVariants.{Value, Zero, Statement, BlockItem, SwitchItem}
 use Rattle.cpp_tree.specs.declared.program.FuncKind.{FuncKind}
 use Rattle.cpp_tree.specs.declared.program.TFunc.{TFunc}
 use Rattle.cpp_tree.specs.declared.program.UnitTree.{UnitTree}
@@ -19,7 +21,8 @@ use Rattle.cpp_tree.specs.declared.program.Program.{Program}
 use Rattle.cpp_tree.specs.Trees.{Tree, node, Trees, none, more, kind_of, kids_of}
 use Rattle.cpp_tree.specs.Arena.{IsOrdered, IsForest, trees_of, trees_at, tree_at}
 use Rattle.cpp_tree.specs.Units.{Func, Param, func_of, global_of, slot_of}
-use Rattle.cpp_tree.specs.Typing.{Head, head_of, passes, form_in, is_void, is_class_typ, is_class, is_prvalue, is_statement_typ}
+use Rattle.cpp_tree.specs.Typing.{Head, head_of, passes, form_in, is_volatile_typ, is_void, is_class_typ, is_class, kind_in, is_kind, is_prvalue, is_statement_typ}
+use Rattle.cpp_tree.specs.Parts.{Part, sized_class, part_of, count_of_parts, has_size, holds_complete}
 use Rattle.cpp_tree.specs.Roles.{Kids, kids_for, role_at, serves, way_fits, is_throw, is_label}
 use Rattle.cpp_tree.specs.Rows.{Setting, row_fits, is_constructor, is_destructor, result_of, object_words, words_of}
 
@@ -72,6 +75,81 @@ abbrev mutual
   are_zero none = true
   are_zero (more t ts) = is_zero t && are_zero ts
 
+-- Zeros in an object of no type, that of a result: its whole tree is told by the type of the result. `volatile` says that the object is
+
+-- the number 0 of a scalar's type; an address of a reference is a number of 64 bits
+abbrev pub zero_typ : Form → Typ
+zero_typ (ref t) = typ (int ULong) false false
+zero_typ f = typ f false false
+
+abbrev pub is_zero_of : Form → Tree → Bool
+is_zero_of f (node (Literal w) t cat at none) = w == 0 && is_prvalue cat && typ_eq (zero_typ f) t
+is_zero_of f tree = false
+
+-- what a reference refers to has its own `volatile`
+abbrev pub joined_volatile : Bool → Bool → Form → Bool
+joined_volatile volatile own (ref t) = own
+joined_volatile volatile own f = volatile || own
+
+abbrev pub part_typ : Option Part → Typ
+part_typ None = typ void false false
+part_typ (Some p) = p.typ
+
+abbrev pub starts_at : ℕ → Option Part → Bool
+starts_at offset o = passes (λ (p : Part). p.offset == offset) o
+
+-- the form of the value in a `std::tx_exception`, else the form itself
+abbrev pub value_form : Form → Form
+value_form (tx_ex (typ f c v)) = f
+value_form f = f
+
+abbrev pub form_to_zero : Typ → Form
+form_to_zero t = value_form (form_in t)
+
+-- the object's `volatile` is that of what it is part of, or its own
+abbrev pub volatile_to_zero : Bool → Typ → Bool
+volatile_to_zero volatile t = joined_volatile volatile (is_volatile_typ t) (form_to_zero t)
+
+abbrev pub zero_scalar : Bool → Form → IntKind → Bool → Tree → Bool
+zero_scalar volatile f k marked word = is_kind k (kind_in f) && flag_eq marked volatile && is_zero_of f word
+
+abbrev pub class_in : Form → Option ℕ
+class_in (class n) = Some n
+class_in (closure n) = Some n
+class_in f = None
+
+abbrev pub element_in : Form → Typ
+element_in (array e many) = e
+element_in f = typ f false false
+
+-- so many elements, each of this size
+abbrev pub has_elements : List Class → (count stride : ℕ) → Form → Bool
+has_elements classes count stride (array e many) = count == many && nat_lt 0 count && has_size classes e stride
+has_elements classes count stride f = false
+
+abbrev pub is_sized_class : List Class → Option ℕ → Bool
+is_sized_class classes o = passes (λ (n : ℕ). is_some (sized_class classes n)) o
+
+abbrev mutual
+  pub zeroes : List Class → (volatile : Bool) → Typ → Tree → Bool
+  zeroes classes volatile t (node Pieces u cat at kids) = is_statement_typ u cat && is_sized_class classes (class_in (form_to_zero t))
+      && zero_parts classes (volatile_to_zero volatile t) (unwrap_or (class_in (form_to_zero t)) 0) 0 kids
+  zeroes classes volatile t (node (Elements count stride) u cat at (more kid none)) = is_statement_typ u cat && has_elements classes count stride (form_to_zero t)
+      && zeroes classes (volatile_to_zero volatile t) (element_in (form_to_zero t)) kid
+  zeroes classes volatile t (node (Store k marked) u cat at (more word none)) = is_statement_typ u cat
+      && zero_scalar (volatile_to_zero volatile t) (form_to_zero t) k marked word
+  zeroes classes volatile t tree = false
+
+  -- a piece for each part from one on
+  pub zero_parts : List Class → (volatile : Bool) → (class i : ℕ) → Trees → Bool
+  zero_parts classes volatile n i none = i == count_of_parts classes n
+  zero_parts classes volatile n i (more t ts) = zero_part classes volatile (part_of classes n i) t && zero_parts classes volatile n (suc i) ts
+
+  pub zero_part : List Class → (volatile : Bool) → Option Part → Tree → Bool
+  zero_part classes volatile part (node (Piece offset) u cat at (more kid none)) = is_statement_typ u cat && starts_at offset part
+      && zeroes classes volatile (part_typ part) kid
+  zero_part classes volatile part tree = false
+
 -- a declaration that no label may stand behind: one with an initialiser other than of zeros, or with a destruction (C++14 6.7/3)
 abbrev pub skips : Tree → Bool
 skips (node Init t cat at (more address (more init none))) = not (is_zero init)
@@ -91,8 +169,6 @@ is_switch kind = false
 
 abbrev pub is_zero_role : Role → Bool
 is_zero_role Zero = true
-is_zero_role ZeroWord = true
-is_zero_role ZeroPart = true
 is_zero_role role = false
 
 -- the address in the first kid is one of no type
@@ -102,10 +178,6 @@ no_object (h ∷ hs) = is_prvalue h.cat
 
 abbrev pub kids_in : Role → TKind → Typ → List Head → Kids
 kids_in role kind t hs = kids_for role kind (is_void t) (no_object hs)
-
--- zeros in an object of no type have no type; all other nodes meet their rows
-abbrev pub row_or_zero : Setting → Role → TKind → Typ → Cat → List Head → Bool
-row_or_zero s role kind t cat hs = cond (is_zero_role role) (is_statement_typ t cat) (row_fits s kind t cat hs)
 
 -- a conditional without a type has operands without one, but as a statement
 abbrev pub is_statement_role : Role → Bool
@@ -123,7 +195,7 @@ branches_fit role kind t hs = true
 
 abbrev pub stands : Setting → Position → Role → TKind → Typ → Cat → List Head → Bool
 stands s p role kind t cat hs = serves role kind && way_fits role kind t cat && may_stand s.function.kind p kind (length hs)
-    && branches_fit role kind t hs && row_or_zero s role kind t cat hs
+    && branches_fit role kind t hs && row_fits s kind t cat hs
 
 abbrev pub enough : Kids → ℕ → Bool
 enough kids many = nat_le (length kids.fixed) many
@@ -144,7 +216,8 @@ abbrev mutual
   -- the kids from a place on
   pub kids_fit : Setting → Position → Kids → ℕ → Trees → Bool
   kids_fit s p kids i none = true
-  kids_fit s p kids i (more t ts) = is_some (role_at kids i) && is_kid (kind_of t) && fits s p (unwrap_or (role_at kids i) Value) t
+  kids_fit s p kids i (more t ts) = is_some (role_at kids i) && is_kid (kind_of t)
+      && cond (is_zero_role (unwrap_or (role_at kids i) Value)) (zeroes s.classes false (result_of s.function) t) (fits s p (unwrap_or (role_at kids i) Value) t)
       && kids_fit s p kids (suc i) ts
 
 -- Bodies of functions
@@ -202,6 +275,10 @@ words_fit f = f.words == count_of_words f && count_of_words f == length (result_
 
 -- Places of the frame
 
+-- an item whose size is known: the class that it holds, if it holds one, is complete
+abbrev pub is_item : List Class → Typ → Bool
+is_item classes t = holds_complete classes (form_in t)
+
 abbrev pub local_place : TKind → List ℕ
 local_place (Local place) = place ∷ []
 local_place kind = []
@@ -228,13 +305,14 @@ is_free_place f place = nat_le f.words place && nat_lt place (length f.frame)
 abbrev pub times : ℕ → List ℕ → ℕ
 times n ns = count_by (λ (m : ℕ). nat_eq m n) ns
 
--- A body of a function: its nodes fit; it is the block that its function asks for and ends as that does; the words of a call are the first items of
--- the frame, and what is made in the body has the other items, each its own
+-- A body of a function: its nodes fit; it is the block that its function asks for and ends as that does; the items of its frame have sizes; the
+-- words of a call are the first of them, and what is made in the body has the others, each its own
 pub record WellFormedBody (s : Setting) (body : Tree) : Type 0 where
   pub nodes : fits s outermost Statement body ≡ true
   pub block : is_body_of s.function.kind (kind_of body) ≡ true
   pub end : ends_well (result_of s.function) body ≡ true
   pub words : words_fit s.function ≡ true
+  pub items : list_all (is_item s.classes) s.function.frame ≡ true
   pub within : list_all (is_free_place s.function) (places_of body) ≡ true
   pub once : (place : ℕ) → times place (places_of body) ≤ 1
 
@@ -245,7 +323,7 @@ are_distinct (n ∷ ns) = times n ns == 0 && are_distinct ns
 
 abbrev pub body_fits : Setting → Tree → Bool
 body_fits s body = fits s outermost Statement body && is_body_of s.function.kind (kind_of body) && ends_well (result_of s.function) body
-    && words_fit s.function && list_all (is_free_place s.function) (places_of body) && are_distinct (places_of body)
+    && words_fit s.function && list_all (is_item s.classes) s.function.frame && list_all (is_free_place s.function) (places_of body) && are_distinct (places_of body)
 
 abbrev pub setting_of : Program → UnitTree → TFunc → Setting
 setting_of p u f = record { classes = classes_of p.classes.items; slots = map (λ slots. map slot_of slots.items) p.slots.items; funcs = map (func_of (trees_of u.nodes.items)) u.funcs.items; globals = map global_of u.globals.items; function = func_of (trees_of u.nodes.items) f }

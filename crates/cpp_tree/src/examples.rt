@@ -6,7 +6,7 @@ ghost use Rattle.tx_ints.specs.declared.kinds.BinOp.TheVariants.{Add};
 ghost use Rattle.cpp_types.specs.Typ.{int, array};
 ghost use Rattle.cpp_tree.specs.declared.kinds.TKind.TheVariants.{Literal, Local, Global, Load, Binary, Conditional, Comma, Assign, FullExpression, Call, Store, CopyScalar, Elements, Block, Init, Defer, Case, Default, Break, Continue, Return, Try, Handler, Destroy};
 ghost use Rattle.cpp_tree.specs.Notation.{plain, effect, prvalue, lvalue};
-ghost use Rattle.cpp_tree.specs.Examples.{item_fits, body, int_type, d, number, place, read, returned, block, build, destroy, variable, stored, temporary, member, argument, loop, switch, thrown, field, when};
+ghost use Rattle.cpp_tree.specs.Examples.{item_fits, body, int_type, d, number, place, read, returned, block, build, destroy, variable, stored, temporary, member, argument, loop, switch, thrown, field, when, virtual_call, thrown_object, lambda_variable, destroy_at, item_of_k_fits, no_result};
 
 /// `return p;`, `D d(1);`, `x = 1 + 2;`, `return D(1).v;`, `g(D(1), i);`, a loop, a `switch`, `throw 5;` and a `try`.
 #[tactic(auto, unfolding(tx_ints::specs::Integers::reduced, tx_ints::specs::Words::word_of))]
@@ -33,6 +33,10 @@ pub fn rows()
     ensures category { item_fits (returned (read (prvalue (Local 0) int_type []))) ≡ false }
     ensures branches { item_fits (effect Conditional (prvalue (Literal 1) (plain (int BoolKind)) [] ∷ number 1 ∷ number 2 ∷ [])) ≡ true }
     ensures void_branches { item_fits (prvalue Comma int_type (effect Conditional (prvalue (Literal 1) (plain (int BoolKind)) [] ∷ number 1 ∷ number 2 ∷ []) ∷ number 3 ∷ [])) ≡ false }
+    ensures pointer { item_fits (virtual_call 8) ≡ true }
+    ensures other_pointer { item_fits (virtual_call 0) ≡ false }
+    ensures no_result { item_of_k_fits (no_result 0) ≡ true }
+    ensures no_member { item_of_k_fits (no_result 4) ≡ false }
     ensures stride { item_fits (effect Init (lvalue (Local 1) d [] ∷ prvalue (Elements 1 4) d (build ∷ []) ∷ [])) ≡ false }
 {}
 
@@ -89,9 +93,15 @@ pub fn calls()
 {}
 
 /// Exceptions have the scalars of their type, and destructions name destructors.
+#[tactic(auto, unfolding(tx_ints::specs::Integers::reduced, tx_ints::specs::Words::word_of))]
 pub fn exceptions()
     ensures no_field { item_fits (thrown []) ≡ false }
     ensures offset { item_fits (thrown (field 4 ∷ [])) ≡ false }
+    ensures object { item_fits (thrown_object (field 0 ∷ [])) ≡ true }
+    ensures left_out { item_fits (thrown_object []) ≡ false }
+    ensures captured { item_fits (lambda_variable (destroy_at 8 ∷ [])) ≡ true }
+    ensures no_capture { item_fits (lambda_variable (destroy_at 0 ∷ [])) ≡ false }
+    ensures twice { item_fits (lambda_variable (destroy_at 8 ∷ destroy_at 8 ∷ [])) ≡ false }
     ensures destructor { item_fits (effect Init (lvalue (Local 1) d [] ∷ build ∷ effect (Destroy 1 0 1 0) [] ∷ [])) ≡ false }
 {}
 

@@ -6,6 +6,8 @@ ghost use Rattle.cpp_tree.specs.declared.arena.TNode.{TNode};
 ghost use Rattle.cpp_tree.specs.declared.arena.TNodeId.{TNodeId};
 ghost use Rattle.cpp_tree.specs.Trees.{Tree, Trees, node};
 ghost use Rattle.cpp_tree.specs.Arena.{are_below, times_in, times_a_kid, IsOrdered, IsForest, trees_of, tree_of, tree_at, Shows, ShowsAll, Extends, Grows};
+ghost use Rattle.cpp_tree.specs.Rows.{Setting};
+ghost use Rattle.cpp_tree.specs.WellFormed.{WellFormedBody, body_fits};
 
 /// Lists of nodes grow in steps. What one shows, each list that it grows to shows; and it shows one tree at a place.
 /// A node that is added shows the trees of its kids under it. Kids that show trees stand in the list.
@@ -34,4 +36,10 @@ pub fn nodes()
     ensures ordered { (old : List TNode) (added : TNode) → IsOrdered old → are_below (length old) added.kids.items ≡ true → IsOrdered (old ++ added ∷ []) }
     ensures no_kids { IsForest [] }
     ensures forest { (old : List TNode) (added : TNode) → ((id : ℕ) → times_a_kid id old + times_in id added.kids.items ≤ 1) → IsForest (old ++ added ∷ []) }
+{}
+
+/// The test of bodies says what a well-formed body is, so that it holds of a written tree what a unit's bodies are held against.
+pub fn bodies()
+    ensures said { (s : Setting) (body : Tree) → body_fits s body ≡ true → WellFormedBody s body }
+    ensures tested { (s : Setting) (body : Tree) → WellFormedBody s body → body_fits s body ≡ true }
 {}

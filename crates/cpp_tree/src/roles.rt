@@ -13,8 +13,6 @@ pub enum Role {
     CopyInit,
     /// Zeros in an object of no type: the result of a function of class type that ends without a `return`.
     Zero,
-    ZeroWord,
-    ZeroPart,
     /// What it does: anything but a declaration.
     Statement,
     /// A statement right in a block: a declaration too.

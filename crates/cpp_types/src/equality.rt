@@ -68,29 +68,29 @@ fn same_all(a: &[Ty], b: &[Ty]) -> bool
     true
 }
 
-// The same as a test.
-pub(crate) fn equal_types(a: &Ty, b: &Ty) -> bool
+/// Whether two types are one, as a test that definitions cite.
+pub fn equal_types(a: &Ty, b: &Ty) -> bool
     ensures { result ≡ typ_eq (typ_of a.now) (typ_of b.now) }
 {
     same(a, b)
 }
 
-// The same as a test.
-pub(crate) fn equal_lists(a: &[Ty], b: &[Ty]) -> bool
+/// Whether two lists of types are one, as a test.
+pub fn equal_lists(a: &[Ty], b: &[Ty]) -> bool
     ensures { result ≡ typs_eq (typs_of a.now) (typs_of b.now) }
 {
     same_all(a, b)
 }
 
-// The same as a test.
-pub(crate) fn equal_shapes(a: &Shape, b: &Shape) -> bool
+/// Whether two types are one, their own `const` and `volatile` apart, as a test.
+pub fn equal_shapes(a: &Shape, b: &Shape) -> bool
     ensures { result ≡ form_eq (shape_form a.now) (shape_form b.now) }
 {
     same_shape(a, b)
 }
 
-// The same as a test.
-pub(crate) fn equal_kinds(a: IntKind, b: IntKind) -> bool
+/// Whether two kinds of integers are one, as a test.
+pub fn equal_kinds(a: IntKind, b: IntKind) -> bool
     ensures { result ≡ kind_eq a b }
 {
     a == b

@@ -21,7 +21,7 @@ pub use comparison::better;
 pub use conversions::{conversion_between, rank, steps_to_base};
 pub use copyability::trivially_copyable;
 pub use copying::{copy, copy_function};
-pub use equality::{same, same_function};
+pub use equality::{equal_kinds, equal_lists, equal_shapes, equal_types, same, same_function};
 pub use order::is_in_order;
 pub use ranks::{Binding, Cat, Conversion, Rank, Step};
 pub use spelling::spell;
