@@ -1,6 +1,7 @@
 -- A thread that is alone comes to its end.
 use Rattle.std.proofs.Common.{ℕ, suc, ◌≡◌, ◌==◌, ◌≤◌, ◌+◌, true, false, cond, refl, ap, sym, ◌∙◌, subst, List, [], ◌∷◌, Option, Some, None, arith}
 use Rattle.std.proofs.lemmas.Bool.{eqb-true, true≢false}
+use Rattle.tx_events.specs.declared.TheConstants.{THREAD_LIMIT}
 use Rattle.tx_events.specs.declared.End.{End}
 use Rattle.tx_events.specs.declared.TurnKind.{TurnKind}
 use Rattle.tx_events.specs.declared.TurnKind.TheVariants.{Ran, Idle, Undone, Released, Waited, Rolled, BlockWait, JoinWait}
@@ -22,7 +23,7 @@ use Rattle.tx_serial.proofs.ReleaseCounts.{turn_pays}
 use Rattle.tx_serial.proofs.AloneThread.{lone_turn}
 use Rattle.tx_serial.proofs.StateChanges.{ByKind, turn_moves}
 
-module _ {S : Type 0} (R : S → Type 0) (a : Thread S) (laws : Lawful S R a) (p : MemoryLayout) (small : p.limit ≤ 64) where
+module _ {S : Type 0} (R : S → Type 0) (a : Thread S) (laws : Lawful S R a) (p : MemoryLayout) (small : p.limit ≤ THREAD_LIMIT) where
   abbrev pub RC : S × Tally → Type 0
   RC s = R s.0
 

@@ -5,6 +5,7 @@ use Rattle.std.proofs.lemmas.Bool.{eqb-true, true≢false}
 use Rattle.choosers.specs.declared.Clash.{Clash}
 use Rattle.choosers.specs.declared.Choice.{Choice}
 use Rattle.choosers.specs.declared.Choice.TheVariants.{Wait, Yield}
+use Rattle.tx_events.specs.declared.TheConstants.{THREAD_LIMIT}
 use Rattle.tx_events.specs.declared.End.{End}
 use Rattle.tx_events.specs.declared.BlockKind.{BlockKind}
 use Rattle.tx_events.specs.declared.BlockKind.TheVariants.{NoExcept, Commit, Cancel}
@@ -157,7 +158,7 @@ module _ {S : Type 0} (a : Thread S) (p : MemoryLayout) (t : ℕ) (m : Machine S
   tx_rests answer (GivingUp b kk ss) = back_rests b kk ss (least l.held (word_bound p))
   tx_rests answer (Closing b) = go_rests b (least l.held (word_bound p))
 
-module _ {S : Type 0} (R : S → Type 0) (a : Thread S) (laws : Lawful S R a) (p : MemoryLayout) (small : p.limit ≤ 64) where
+module _ {S : Type 0} (R : S → Type 0) (a : Thread S) (laws : Lawful S R a) (p : MemoryLayout) (small : p.limit ≤ THREAD_LIMIT) where
   by_thread : (answer : Clash → Choice) (t : ℕ) (m : Machine S) → m.threads m.started ≡ None → Rests a m → (o : Option (Local S)) → m.threads t ≡ o → Rests a (turn_of a p answer t m o).machine
   by_thread answer t m fresh h None i = h
   by_thread answer t m fresh h (Some l) i = either a p t m l i fresh h l.ended _ _ h (tx_rests a p t m l i fresh h answer l.tx)
@@ -166,9 +167,12 @@ module _ {S : Type 0} (R : S → Type 0) (a : Thread S) (laws : Lawful S R a) (p
   by_end answer t m fresh h (Some e) = h
   by_end answer t m fresh h None = by_thread answer t m fresh h (m.threads t) refl
 
+  pub turn_rests : (answer : Clash → Choice) (t : ℕ) (m : Machine S) → Sound R a p m → Rests a m → Rests a (turn a p answer t m).machine
+  turn_rests answer t m sound h = by_end answer t m (sound.fresh m.started (omega arith)) h m.end
+
   pub turns_rest : (qs : List Slot) (m : Machine S) → Sound R a p m → Rests a m → Rests a (turns a p qs m)
   turns_rest [] m sound h = h
-  turns_rest (q ∷ qs) m sound h = turns_rest qs (turn a p q.answer q.thread m).machine (turn_sound R a laws p small q.answer q.thread m sound) (by_end q.answer q.thread m (sound.fresh m.started (omega arith)) h m.end)
+  turns_rest (q ∷ qs) m sound h = turns_rest qs (turn a p q.answer q.thread m).machine (turn_sound R a laws p small q.answer q.thread m sound) (turn_rests q.answer q.thread m sound h)
 
   pub start_rests : (memory : ℕ → ℕ) (input : List ℕ) (main : S) → Rests a (first_machine memory input main)
   start_rests memory input main zero = λ i. refl

@@ -1,6 +1,7 @@
 -- What a thread that is alone has run is less than its whole run.
 use Rattle.std.proofs.Common.{ℕ, zero, suc, ◌≡◌, ◌==◌, ◌≤◌, ◌+◌, ◌*◌, Bool, true, false, cond, refl, ap, sym, ◌∙◌, subst, List, [], ◌∷◌, Option, Some, None, arith}
 use Rattle.std.proofs.lemmas.Bool.{eqb-true, true≢false, false≢true}
+use Rattle.tx_events.specs.declared.TheConstants.{THREAD_LIMIT}
 use Rattle.tx_events.specs.declared.End.{End}
 use Rattle.tx_events.specs.declared.BlockKind.{BlockKind}
 use Rattle.tx_events.specs.declared.BlockKind.TheVariants.{NoExcept, Commit, Cancel}
@@ -245,7 +246,7 @@ module _ {S : Type 0} (a : Thread S) (p : MemoryLayout) where
           not_spawn : SilentSteps C g.1.from l.state → is_spawn (a.next l.state.0) ≡ false
           not_spawn z = not_true (is_spawn (a.next l.state.0)) (λ spawns. true≢false (sym spawns ∙ (ap (λ q. is_spawn (C.next q)) (same_before C p g.1.from l.state g.1.before z g.1.silents (spawn_loud (a.next l.state.0) spawns) heard) ∙ k.0)))
 
-module _ {S : Type 0} (R : S → Type 0) (a : Thread S) (laws : Lawful S R a) (p : MemoryLayout) (small : p.limit ≤ 64) (memory : ℕ → ℕ) (input : List ℕ) (main : S) (reached : R main) (free : a.blocks main ≡ []) where
+module _ {S : Type 0} (R : S → Type 0) (a : Thread S) (laws : Lawful S R a) (p : MemoryLayout) (small : p.limit ≤ THREAD_LIMIT) (memory : ℕ → ℕ) (input : List ℕ) (main : S) (reached : R main) (free : a.blocks main ≡ []) where
   abbrev world0 : World (S × Tally)
   world0 = first_world memory input (main, no_tally)
 

@@ -5,6 +5,7 @@ use Rattle.std.proofs.lemmas.Bool.{eqb-true, true≢false, false≢true, ltb-tru
 use Rattle.choosers.specs.declared.Clash.{Clash}
 use Rattle.choosers.specs.declared.Choice.{Choice}
 use Rattle.choosers.specs.declared.Choice.TheVariants.{Wait, Yield}
+use Rattle.tx_events.specs.declared.TheConstants.{THREAD_LIMIT}
 use Rattle.tx_events.specs.declared.End.{End}
 use Rattle.tx_events.specs.declared.End.TheVariants.{Trapped}
 use Rattle.tx_events.specs.declared.Trap.TheVariants.{BadJoin}
@@ -30,7 +31,7 @@ use Rattle.tx_serial.proofs.OpenBlocks.{keeps_blocks, rest_atomic, kind_atomic, 
 use Rattle.tx_serial.proofs.BirthLemmas.{sound_change, sound_same, grown}
 use Rattle.tx_serial.proofs.TurnContext.{not_true}
 
-module _ {S : Type 0} (R : S → Type 0) (a : Thread S) (laws : Lawful S R a) (p : MemoryLayout) (small : p.limit ≤ 64) (t : ℕ) (m : Machine S) (l : Local S) (h : Sound R a p m) (is : m.threads t ≡ Some l) (here : SoundLocal R a p l) where
+module _ {S : Type 0} (R : S → Type 0) (a : Thread S) (laws : Lawful S R a) (p : MemoryLayout) (small : p.limit ≤ THREAD_LIMIT) (t : ℕ) (m : Machine S) (l : Local S) (h : Sound R a p m) (is : m.threads t ≡ Some l) (here : SoundLocal R a p l) where
   reached_by : (e : Event) → a.next l.state ≡ e → (r : Reply) → Answers e r → R (a.after l.state r)
   reached_by e i r f = laws.goes_on l.state r here.reached (subst (λ z. Answers z r) (sym i) f)
 
@@ -334,7 +335,7 @@ module _ {S : Type 0} (R : S → Type 0) (a : Thread S) (laws : Lawful S R a) (p
   tx_right answer (GivingUp b kk ss) e f = back_right answer b kk ss e f
   tx_right answer (Closing b) e f = go_right answer b e f
 
-module _ {S : Type 0} (R : S → Type 0) (a : Thread S) (laws : Lawful S R a) (p : MemoryLayout) (small : p.limit ≤ 64) where
+module _ {S : Type 0} (R : S → Type 0) (a : Thread S) (laws : Lawful S R a) (p : MemoryLayout) (small : p.limit ≤ THREAD_LIMIT) where
   -- the kind of the turn of a thread that goes on
   pub kind_right : (answer : Clash → Choice) (t : ℕ) (m : Machine S) (l : Local S) → Sound R a p m → m.threads t ≡ Some l → Sound R a p (turn_in a p answer t m l l.tx).machine × KindBy a p answer t m l l.tx (turn_in a p answer t m l l.tx).kind
   kind_right answer t m l h is = let here = subst (SoundThread R a p) is (h.threads t) in tx_right R a laws p small t m l h is here answer l.tx refl here.tx

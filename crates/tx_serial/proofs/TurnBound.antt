@@ -3,6 +3,7 @@ use Rattle.std.proofs.Common.{ℕ, ◌≡◌, ◌==◌, ◌≤◌, ◌+◌, ◌*
 use Rattle.std.proofs.lemmas.Bool.{eqb-true}
 use Rattle.choosers.specs.declared.Clash.{Clash}
 use Rattle.choosers.specs.declared.Choice.{Choice}
+use Rattle.tx_events.specs.declared.TheConstants.{THREAD_LIMIT}
 use Rattle.tx_events.specs.declared.End.{End}
 use Rattle.tx_events.specs.Thread.{Thread, Lawful}
 use Rattle.tx_events.specs.Memory.{MemoryLayout}
@@ -16,7 +17,7 @@ use Rattle.tx_serial.proofs.AloneEnds.{Paid}
 use Rattle.tx_serial.proofs.PartialRuns.{turn_bound, paid, quiet, shown}
 use Rattle.tx_serial.proofs.HistoryErased.{erase, erase_tx, erase_local, erase_opt, turns_erased, first_erased}
 
-module _ {S : Type 0} (R : S → Type 0) (a : Thread S) (laws : Lawful S R a) (p : MemoryLayout) (small : p.limit ≤ 64) (memory : ℕ → ℕ) (input : List ℕ) (main : S) (reached : R main) (free : a.blocks main ≡ [])
+module _ {S : Type 0} (R : S → Type 0) (a : Thread S) (laws : Lawful S R a) (p : MemoryLayout) (small : p.limit ≤ THREAD_LIMIT) (memory : ℕ → ℕ) (input : List ℕ) (main : S) (reached : R main) (free : a.blocks main ≡ [])
     (steps accesses : ℕ) (order : List ℕ) (v : World (S × Tally)) (e : End) (h : Replays (tallied a) p (first_world memory input (main, no_tally)) order v)
     (k : AtMost a p steps accesses (first_world memory input (main, no_tally)) order v h) (f : v.end ≡ Some e) (qs : List Slot) where
   abbrev last : Machine (S × Tally)

@@ -34,6 +34,7 @@ module _ {S : Type 0} (a : Thread S) (p : MemoryLayout) (t : ℕ) (m : Machine S
     pub others : (u : ℕ) → (u == t) ≡ false → u < m.started → r.machine.threads u ≡ m.threads u
     pub executes : is_ran r.kind ≡ true → r.machine.end ≡ None → (n : Local S) × (r.machine.threads t ≡ Some n) × (n.state ≡ a.after l.state (reply_of m event))
     pub own : (e : End) → r.machine.end ≡ Some e → (is_own_end e ≡ true) ⊎ (event ≡ Stop e)
+    pub stands : (e : End) → r.machine.end ≡ Some e → r.machine.threads ≡ m.threads
     pub waits : r.machine.end ≡ None → r.machine.waits t ≡ waits_after m t r.kind
     pub waits_else : (u : ℕ) → (u == t) ≡ false → r.machine.waits u ≡ m.waits u
 
@@ -47,6 +48,7 @@ module _ {S : Type 0} (a : Thread S) (p : MemoryLayout) (t : ℕ) (m : Machine S
     others = λ u n h. ap (λ f. f u) ts;
     executes = λ h i. absurd (false≢true (sym k ∙ h));
     own = λ f h. no_end f (sym e ∙ h);
+    stands = λ f h. no_end f (sym e ∙ h);
     waits = λ h. w;
     waits_else = v;
   }
@@ -57,6 +59,7 @@ module _ {S : Type 0} (a : Thread S) (p : MemoryLayout) (t : ℕ) (m : Machine S
     others = λ u n h. refl;
     executes = λ h q. absurd (none-some e (sym q));
     own = λ f h. subst (λ z. (is_own_end z ≡ true) ⊎ (event ≡ Stop z)) (same_Some e f h) own;
+    stands = λ f h. refl;
     waits = λ h. absurd (none-some e (sym h));
     waits_else = λ u n. refl;
   }
@@ -72,6 +75,7 @@ module _ {S : Type 0} (a : Thread S) (p : MemoryLayout) (t : ℕ) (m : Machine S
     others = λ u n h. ap (λ f. f u) ts ∙ update_elsewhere m.threads t (Some l') u n;
     executes = λ h i. (l', ap (λ f. f t) ts ∙ update_same m.threads t (Some l'), s);
     own = λ f h. no_end f (sym e ∙ h);
+    stands = λ f h. no_end f (sym e ∙ h);
     waits = λ h. ap (λ f. f t) w ∙ update_same m.waits t no_waits;
     waits_else = λ u n. ap (λ f. f u) w ∙ update_elsewhere m.waits t no_waits u n;
   }
@@ -83,6 +87,7 @@ module _ {S : Type 0} (a : Thread S) (p : MemoryLayout) (t : ℕ) (m : Machine S
     others = λ u n h. ap (λ f. f u) ts ∙ update_elsewhere m.threads t (Some l') u n;
     executes = λ h i. absurd (false≢true (sym k ∙ h));
     own = λ f h. no_end f (sym e ∙ h);
+    stands = λ f h. no_end f (sym e ∙ h);
     waits = λ h. ap (λ f. f t) w ∙ (update_same m.waits t no_waits ∙ sym v);
     waits_else = λ u n. ap (λ f. f u) w ∙ update_elsewhere m.waits t no_waits u n;
   }
@@ -122,6 +127,7 @@ module _ {S : Type 0} (a : Thread S) (p : MemoryLayout) (t : ℕ) (m : Machine S
         others = λ u n h. update_elsewhere m.threads t (Some l') u n;
         executes = λ h i. (l', update_same m.threads t (Some l'), refl);
         own = λ e h. no_end e h;
+        stands = λ e h. no_end e h;
         waits = λ h. update_same m.waits t no_waits;
         waits_else = λ u n. update_elsewhere m.waits t no_waits u n;
       }
@@ -135,6 +141,7 @@ module _ {S : Type 0} (a : Thread S) (p : MemoryLayout) (t : ℕ) (m : Machine S
         others = λ u n h. update_elsewhere more t (Some l') u n ∙ update_elsewhere m.threads m.started (Some (bare (a.child l.state m.started f x))) u (ne_eqb u m.started (λ e. absurd (omega (arith, e, h))));
         executes = λ h i. (l', update_same more t (Some l'), refl);
         own = λ e h. no_end e h;
+        stands = λ e h. no_end e h;
         waits = λ h. update_same m.waits t no_waits;
         waits_else = λ u n. update_elsewhere m.waits t no_waits u n;
       }
@@ -295,6 +302,9 @@ module _ {S : Type 0} (a : Thread S) (p : MemoryLayout) (answer : Clash → Choi
 
   pub end_own : (e : End) → (turn a p answer t m).machine.end ≡ Some e → (is_own_end e ≡ true) ⊎ (a.next l.state ≡ Stop e)
   end_own = row.own
+
+  pub end_stays : (e : End) → (turn a p answer t m).machine.end ≡ Some e → (turn a p answer t m).machine.threads ≡ m.threads
+  end_stays = row.stands
 
   pub waits_counted : (turn a p answer t m).machine.end ≡ None → (turn a p answer t m).machine.waits t ≡ waits_after m t (turn a p answer t m).kind
   waits_counted = row.waits

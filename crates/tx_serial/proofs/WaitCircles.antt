@@ -6,6 +6,7 @@ use Rattle.choosers.specs.declared.Clash.{Clash}
 use Rattle.choosers.specs.declared.Choice.{Choice}
 use Rattle.choosers.specs.declared.Choice.TheVariants.{Wait, Yield}
 use Rattle.choosers.specs.Answers.{is_older, answer, Older}
+use Rattle.tx_events.specs.declared.TheConstants.{THREAD_LIMIT}
 use Rattle.tx_events.specs.declared.End.{End}
 use Rattle.tx_events.specs.declared.Event.{Event}
 use Rattle.tx_events.specs.declared.Event.TheVariants.{Silent, Load, Store, Out, Inp, Spawn, Join, BeginAtomic, EndAtomic, Raise, BeginSync, EndSync, Done, Stop}
@@ -92,7 +93,7 @@ module _ {S : Type 0} (R : S → Type 0) (a : Thread S) (p : MemoryLayout) (m : 
   found_off : (t x u : ℕ) (store : Bool) → blocker t store x m ≡ Some u → conflicts_with t store x m.threads u ≡ true
   found_off t x u store found = eldest_some (conflicts_with t store x m.threads) (λ v. birth_of (m.threads v)) m.started u found
 
-  module _ (laws : Lawful S R a) (small : p.limit ≤ 64) (answer : Clash → Choice) where
+  module _ (laws : Lawful S R a) (small : p.limit ≤ THREAD_LIMIT) (answer : Clash → Choice) where
     waits_less : (c : Clash) (choice : Choice) → is_older c choice ≡ true → choice ≡ Wait → c.mine < c.least
     waits_less c Wait k e = ltb-true c.mine c.least k
     waits_less c Yield k e = absurd (cc)
