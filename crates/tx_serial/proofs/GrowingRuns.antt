@@ -22,7 +22,8 @@ module _ {S : Type 0} (a : Thread S) (p : MemoryLayout) where
   advances_grow [] q r = refl
   advances_grow (k ∷ qs) q r = advances_grow qs q (advance a p k r)
 
-  pub going_grows : (qs : List Slot) (q : Slot) (r : Progress S) → NoEndBefore a p qs r → (advances a p qs r).machine.end ≡ None → NoEndBefore a p (qs ++ q ∷ []) r
+  pub going_grows : (qs : List Slot) (q : Slot) (r : Progress S) → NoEndBefore a p qs r → (advances a p qs r).machine.end ≡ None
+      → NoEndBefore a p (qs ++ q ∷ []) r
   going_grows [] q r h none = (none, tt)
   going_grows (k ∷ qs) q r h none = (h.0, going_grows qs q (advance a p k r) h.1 none)
 
@@ -31,7 +32,8 @@ module _ {S : Type 0} (a : Thread S) (p : MemoryLayout) where
   answered_grows policy [] q r h said = (said, tt)
   answered_grows policy (k ∷ qs) q r h said = (h.0, answered_grows policy qs q (advance a p k r) h.1 said)
 
-  pub picks_to_grow : {G : Type 0} (step : G → Seen → ℕ → G → Type 0) (qs : List Slot) (q : Slot) (r : Progress S) (old mid new : G) → PicksTo step a p qs r old mid
+  pub picks_to_grow : {G : Type 0} (step : G → Seen → ℕ → G → Type 0) (qs : List Slot) (q : Slot) (r : Progress S) (old mid new : G)
+      → PicksTo step a p qs r old mid
       → step mid (seen (advances a p qs r)) q.thread new → PicksTo step a p (qs ++ q ∷ []) r old new
   picks_to_grow step [] q r old mid new h picked = (new, subst (λ g. step g (seen r) q.thread new) h picked, refl)
   picks_to_grow step (k ∷ qs) q r old mid new h picked = (h.0, h.1, picks_to_grow step qs q (advance a p k r) h.0 mid new h.2 picked)

@@ -14,7 +14,8 @@ listed [] n h = absurd (omega (arith, h))
 listed (t ∷ ts) zero h = refl
 listed (t ∷ ts) (suc n) h = listed ts n (omega (arith, h))
 
-pub can_pick : (bound : ℕ) (name : PickerName) (seen : Seen) (before : Option ℕ) → seen.turn < turns_within bound name → is_some (picks_by name seen before) ≡ true
+pub can_pick : (bound : ℕ) (name : PickerName) (seen : Seen) (before : Option ℕ) → seen.turn < turns_within bound name
+    → is_some (picks_by name seen before) ≡ true
 can_pick bound (Round slot) seen before h = refl
 can_pick bound Clashing seen before h = refl
 can_pick bound (Listed schedule) seen before h = listed schedule seen.turn (omega (arith, h))

@@ -12,7 +12,8 @@ use Rattle.tx_serial.proofs.SoundKept.{turn_sound}
 use Rattle.tx_serial.proofs.WaitCircles.{rolled_by, waited_by, eldest_stays, youngest_goes, no_circle}
 
 module _ {S : Type 0} (R : S → Type 0) (a : Thread S) (laws : Lawful S R a) (p : MemoryLayout) (small : p.limit ≤ THREAD_LIMIT) where
-  pub older_each : (qs : List Slot) (r : Progress S) → Sound R a p r.machine → AnsweredBy (λ clash choice. is_older clash choice ≡ true) a p qs r → EachTurn (OlderTurn a p) a p qs r
+  pub older_each : (qs : List Slot) (r : Progress S) → Sound R a p r.machine → AnsweredBy (λ clash choice. is_older clash choice ≡ true) a p qs r
+      → EachTurn (OlderTurn a p) a p qs r
   older_each [] r sound rule = tt
   older_each (q ∷ qs) r sound rule = (
     record {

@@ -8,7 +8,8 @@ use Rattle.tx_events.specs.Memory.{MemoryLayout}
 use Rattle.tx_serial.specs.Machine.{Machine}
 use Rattle.tx_serial.specs.Turn.{Slot}
 use Rattle.tx_serial.specs.Kinds.{Asked}
-use Rattle.tx_serial.specs.Run.{Progress, advance, advances, not_begun, count_in, inside, state_in, picks, slots_of, PickedBy, AnsweredBy, is_answer, NoEndBefore, Stops, trap_place, Outcome, RunOf}
+use Rattle.tx_serial.specs.Run.{Progress, advance, advances, not_begun, count_in, inside, state_in, picks, slots_of, PickedBy, AnsweredBy, is_answer,
+  NoEndBefore, Stops, trap_place, Outcome, RunOf}
 use Rattle.tx_serial.proofs.PolicyAnswers.{turn_same}
 
 pub picks_of : (answer : Clash → Choice) (ts : List ℕ) → picks (slots_of answer ts) ≡ ts
@@ -32,7 +33,8 @@ module _ {S : Type 0} (a : Thread S) (p : MemoryLayout) (answer : Clash → Choi
   abbrev plain : Slot → Slot
   plain q = record { thread = q.thread; answer = answer }
 
-  one_turn : (q : Slot) (r : Progress S) → ((c : Clash) → Asked a p q.thread r.machine c → is_answer answer c (q.answer c)) → advance a p q r ≡ advance a p (plain q) r
+  one_turn : (q : Slot) (r : Progress S) → ((c : Clash) → Asked a p q.thread r.machine c → is_answer answer c (q.answer c))
+      → advance a p q r ≡ advance a p (plain q) r
   one_turn q r h = ap
       (λ done. record {
         machine = done.machine;
@@ -49,15 +51,19 @@ module _ {S : Type 0} (a : Thread S) (p : MemoryLayout) (answer : Clash → Choi
   straight [] r h = refl
   straight (q ∷ qs) r h = straight qs (advance a p q r) h.1 ∙ ap (advances a p (slots_of answer (picks qs))) (one_turn q r h.0)
 
-  straight_going : (qs : List Slot) (r : Progress S) → AnsweredBy (is_answer answer) a p qs r → NoEndBefore a p qs r → NoEndBefore a p (slots_of answer (picks qs)) r
+  straight_going : (qs : List Slot) (r : Progress S) → AnsweredBy (is_answer answer) a p qs r → NoEndBefore a p qs r
+      → NoEndBefore a p (slots_of answer (picks qs)) r
   straight_going [] r h g = tt
   straight_going (q ∷ qs) r h g = (g.0, subst (NoEndBefore a p (slots_of answer (picks qs))) (one_turn q r h.0) (straight_going qs (advance a p q r) h.1 g.1))
 
-  pub straight_picked : (pick : Seen → Option ℕ → Option ℕ) (qs : List Slot) (r : Progress S) → AnsweredBy (is_answer answer) a p qs r → PickedBy pick a p qs r → PickedBy pick a p (slots_of answer (picks qs)) r
+  pub straight_picked : (pick : Seen → Option ℕ → Option ℕ) (qs : List Slot) (r : Progress S) → AnsweredBy (is_answer answer) a p qs r → PickedBy pick a p qs r
+      → PickedBy pick a p (slots_of answer (picks qs)) r
   straight_picked pick [] r h g = tt
-  straight_picked pick (q ∷ qs) r h g = (g.0, subst (PickedBy pick a p (slots_of answer (picks qs))) (one_turn q r h.0) (straight_picked pick qs (advance a p q r) h.1 g.1))
+  straight_picked pick (q ∷ qs) r h g =
+      (g.0, subst (PickedBy pick a p (slots_of answer (picks qs))) (one_turn q r h.0) (straight_picked pick qs (advance a p q r) h.1 g.1))
 
-  pub straight_run : (bound : ℕ) (first : Machine S) (qs : List Slot) (result : Outcome S) → RunOf a p bound first qs result → AnsweredBy (is_answer answer) a p qs (not_begun first)
+  pub straight_run : (bound : ℕ) (first : Machine S) (qs : List Slot) (result : Outcome S) → RunOf a p bound first qs result
+      → AnsweredBy (is_answer answer) a p qs (not_begun first)
       → RunOf a p bound first (slots_of answer (picks qs)) result
   straight_run bound first qs result h g =
       let same = straight qs (not_begun first) g in record {

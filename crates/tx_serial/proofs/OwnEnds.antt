@@ -47,7 +47,8 @@ module _ {S : Type 0} (R : S → Type 0) (a : Thread S) (laws : Lawful S R a) (p
           (subst (λ c. IsOwn (cond c (stays Idle m) (turn_in a p answer t m l l.tx)).machine.end) (sym down) own))
 
       by_thread : (o : Option (Local S)) → m.end ≡ None → m.threads t ≡ o → IsOwn (turn a p answer t m).machine.end
-      by_thread None none at = subst (λ o. IsOwn (turn_at a p answer t m o).machine.end) (sym none) (subst (λ o. IsOwn (turn_of a p answer t m o).machine.end) (sym at) own)
+      by_thread None none at = subst (λ o. IsOwn (turn_at a p answer t m o).machine.end) (sym none)
+          (subst (λ o. IsOwn (turn_of a p answer t m o).machine.end) (sym at) own)
       by_thread (Some l) none at = by_ended l l.ended none at refl
 
       by_end : (o : Option End) → m.end ≡ o → IsOwn (turn a p answer t m).machine.end
@@ -56,7 +57,8 @@ module _ {S : Type 0} (R : S → Type 0) (a : Thread S) (laws : Lawful S R a) (p
 
   turns_own : (qs : List Slot) (m : Machine S) → Sound R a p m → IsOwn m.end → IsOwn (turns a p qs m).end
   turns_own [] m sound own = own
-  turns_own (q ∷ qs) m sound own = turns_own qs (turn a p q.answer q.thread m).machine (turn_sound R a laws p small q.answer q.thread m sound) (turn_own q.answer q.thread m sound own)
+  turns_own (q ∷ qs) m sound own = turns_own qs (turn a p q.answer q.thread m).machine (turn_sound R a laws p small q.answer q.thread m sound)
+      (turn_own q.answer q.thread m sound own)
 
   steps_out : (bound taken : ℕ) (o : Option End) (e : End) → IsOwn o → Stops bound taken o e → e ≡ StepsOut → (taken ≡ bound) × (o ≡ None)
   steps_out bound taken None e own stops out = (stops.0, refl)
@@ -69,4 +71,5 @@ module _ {S : Type 0} (R : S → Type 0) (a : Thread S) (laws : Lawful S R a) (p
       let first = first_machine memory input main in
       let same = machine_of a p slots (not_begun first) in
       let own = turns_own slots first (start_sound R a laws p small memory input main reached free) tt in
-      steps_out bound (length slots) (turns a p slots first).end result.end own (subst (λ (z : Machine S). Stops bound (length slots) z.end result.end) same run.stops) out
+      steps_out bound (length slots) (turns a p slots first).end result.end own
+          (subst (λ (z : Machine S). Stops bound (length slots) z.end result.end) same run.stops) out

@@ -32,18 +32,22 @@ module _ {S : Type 0} (a : Thread S) (p : MemoryLayout) where
   not_out : (trap : Trap) → Trapped trap ≡ StepsOut → ⊥
   not_out trap e = cc
 
-  trapped : (trap : Trap) (bound taken : ℕ) (r : Progress S) → HasPlace r → (o : Option End) → r.machine.end ≡ o → Stops bound taken o (Trapped trap) → is_some r.place ≡ true
+  trapped : (trap : Trap) (bound taken : ℕ) (r : Progress S) → HasPlace r → (o : Option End) → r.machine.end ≡ o → Stops bound taken o (Trapped trap)
+      → is_some r.place ≡ true
   trapped trap bound taken r h (Some e) is stops = h e is
   trapped trap bound taken r h None is stops = absurd (not_out trap stops.1)
 
-  at_place : (bound taken : ℕ) (r : Progress S) → HasPlace r → (end : End) → Stops bound taken r.machine.end end → is_some (trap_place end r.place) ≡ is_trapped end
+  at_place : (bound taken : ℕ) (r : Progress S) → HasPlace r → (end : End) → Stops bound taken r.machine.end end
+      → is_some (trap_place end r.place) ≡ is_trapped end
   at_place bound taken r h (Trapped trap) stops = trapped trap bound taken r h r.machine.end refl stops
   at_place bound taken r h (Exit code) stops = refl
   at_place bound taken r h Abort stops = refl
   at_place bound taken r h Terminate stops = refl
   at_place bound taken r h StepsOut stops = refl
 
-  pub run_place : (bound : ℕ) (first : Machine S) (slots : List Slot) (result : Outcome S) → first.end ≡ None → RunOf a p bound first slots result → is_some result.place ≡ is_trapped result.end
+  pub run_place : (bound : ℕ) (first : Machine S) (slots : List Slot) (result : Outcome S) → first.end ≡ None → RunOf a p bound first slots result
+      → is_some result.place ≡ is_trapped result.end
   run_place bound first slots result going run =
       ap is_some run.place
-      ∙ at_place bound (length slots) (advances a p slots (not_begun first)) (has_place slots (not_begun first) (λ e ends. absurd (none-some e (sym going ∙ ends))) run.going) result.end run.stops
+      ∙ at_place bound (length slots) (advances a p slots (not_begun first))
+          (has_place slots (not_begun first) (λ e ends. absurd (none-some e (sym going ∙ ends))) run.going) result.end run.stops

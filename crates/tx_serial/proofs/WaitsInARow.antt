@@ -8,7 +8,8 @@ use Rattle.choosers.specs.declared.Choice.{Choice}
 use Rattle.tx_events.specs.declared.TheConstants.{THREAD_LIMIT}
 use Rattle.tx_events.specs.declared.End.{End}
 use Rattle.tx_events.specs.declared.Event.{Event}
-use Rattle.tx_events.specs.declared.Event.TheVariants.{Silent, Load, Store, Out, Inp, Spawn, Join, BeginAtomic, EndAtomic, Raise, BeginSync, EndSync, Done, Stop}
+use Rattle.tx_events.specs.declared.Event.TheVariants.{Silent, Load, Store, Out, Inp, Spawn, Join, BeginAtomic, EndAtomic, Raise, BeginSync, EndSync, Done,
+  Stop}
 use Rattle.tx_events.specs.declared.TurnKind.{TurnKind}
 use Rattle.tx_events.specs.declared.TurnKind.TheVariants.{Ran, Waited, BlockWait, JoinWait, Rolled, Undone, Released, Idle}
 use Rattle.tx_events.specs.Thread.{Thread, Lawful}
@@ -34,14 +35,16 @@ no_waits_at : (x b : ℕ) → waits_at no_waits x b ≡ 0
 no_waits_at x b = either_same ((0 == x) && (0 == b)) 0
 
 -- one more is counted at that word against that birth, and elsewhere none
-one_more : (ws : Waits) (y c x b : ℕ) (n : ℕ → ℕ → ℕ) → ((x b : ℕ) → waits_at ws x b ≡ min (n x b) most_waits) → waits_at (wait_more ws y c) x b ≡ min (cond ((y == x) && (c == b)) (n x b + 1) 0) most_waits
+one_more : (ws : Waits) (y c x b : ℕ) (n : ℕ → ℕ → ℕ) → ((x b : ℕ) → waits_at ws x b ≡ min (n x b) most_waits)
+    → waits_at (wait_more ws y c) x b ≡ min (cond ((y == x) && (c == b)) (n x b + 1) 0) most_waits
 one_more ws y c x b n h = by_same ((y == x) && (c == b)) refl
   where
     by_same : (s : Bool) → ((y == x) && (c == b)) ≡ s → cond s (min (waits_at ws y c + 1) most_waits) 0 ≡ min (cond s (n x b + 1) 0) most_waits
     by_same false e = refl
     by_same true e =
         let both = and_parts (y == x) (c == b) e in
-        let here : waits_at ws y c ≡ min (n x b) most_waits = h y c ∙ (ap (λ z. min (n z c) most_waits) (eqb-true y x both.0) ∙ ap (λ z. min (n x z) most_waits) (eqb-true c b both.1)) in
+        let here : waits_at ws y c ≡ min (n x b) most_waits = h y c
+            ∙ (ap (λ z. min (n z c) most_waits) (eqb-true y x both.0) ∙ ap (λ z. min (n x z) most_waits) (eqb-true c b both.1)) in
         omega (arith, here)
 
 module _ {S : Type 0} (a : Thread S) (p : MemoryLayout) (answer : Clash → Choice) (t : ℕ) (m : Machine S) (l : Local S) where
@@ -81,7 +84,8 @@ module _ {S : Type 0} (a : Thread S) (p : MemoryLayout) (answer : Clash → Choi
 
   -- the waits of the thread itself
   own : (n : ℕ → ℕ → ℕ) → ((x b : ℕ) → waits_at (m.waits t) x b ≡ min (n x b) most_waits) → (is_access (a.next l.state) ≡ false → m.waits t ≡ no_waits)
-      → (k : TurnKind) → KindBy a p answer t m l l.tx k → (x b : ℕ) → waits_at (waits_after m t k) x b ≡ min (row_after k (least_birth m k) x b (n x b)) most_waits
+      → (k : TurnKind) → KindBy a p answer t m l l.tx k → (x b : ℕ) → waits_at (waits_after m t k) x b
+          ≡ min (row_after k (least_birth m k) x b (n x b)) most_waits
   own n h rest (Waited y u) by x b = one_more (m.waits t) y (birth_of (m.threads u)) x b n h
   own n h rest Ran by x b = no_waits_at x b
   own n h rest (Rolled y u) by x b = no_waits_at x b
@@ -96,50 +100,68 @@ module _ {S : Type 0} (R : S → Type 0) (a : Thread S) (laws : Lawful S R a) (p
   Counted m past = m.end ≡ None → (u x b : ℕ) → waits_at (m.waits u) x b ≡ min (waits_in_a_row u x b past) most_waits
 
   module _ (answer : Clash → Choice) (t : ℕ) (m : Machine S) (past : List Past) (sound : Sound R a p m) (rests : Rests a m) (h : Counted m past) where
-    idle : ((l : Local S) → GoesOn t m l → ⊥) → Counted (turn a p answer t m).machine (record { thread = t; kind = (turn a p answer t m).kind; least = least_birth m (turn a p answer t m).kind } ∷ past)
+    idle : ((l : Local S) → GoesOn t m l → ⊥) → Counted (turn a p answer t m).machine
+        (record { thread = t; kind = (turn a p answer t m).kind; least = least_birth m (turn a p answer t m).kind } ∷ past)
     idle never =
         subst (λ r. Counted r.machine (record { thread = t; kind = r.kind; least = least_birth m r.kind } ∷ past)) (sym (idle_exact a p answer t m never))
         (λ going u x b. h going u x b ∙ ap (λ n. min n most_waits) (sym (either_same (t == u) (waits_in_a_row u x b past))))
 
-    goes : (l : Local S) → GoesOn t m l → Counted (turn a p answer t m).machine (record { thread = t; kind = (turn a p answer t m).kind; least = least_birth m (turn a p answer t m).kind } ∷ past)
+    goes : (l : Local S) → GoesOn t m l → Counted (turn a p answer t m).machine
+        (record { thread = t; kind = (turn a p answer t m).kind; least = least_birth m (turn a p answer t m).kind } ∷ past)
     goes l on still u x b = by_same (u == t) refl
       where
         by_same : (s : Bool) → (u == t) ≡ s → waits_at ((turn a p answer t m).machine.waits u) x b
-            ≡ min (cond (t == u) (row_after (turn a p answer t m).kind (least_birth m (turn a p answer t m).kind) x b (waits_in_a_row u x b past)) (waits_in_a_row u x b past)) most_waits
+            ≡ min (cond (t == u) (row_after (turn a p answer t m).kind (least_birth m (turn a p answer t m).kind) x b (waits_in_a_row u x b past))
+                (waits_in_a_row u x b past)) most_waits
         by_same false e =
             ap (λ w. waits_at w x b) (steps.waits_stay a p answer t m l on u e)
-            ∙ (h on.going u x b ∙ ap (λ c. min (cond c (row_after (turn a p answer t m).kind (least_birth m (turn a p answer t m).kind) x b (waits_in_a_row u x b past)) (waits_in_a_row u x b past)) most_waits) (sym (ne_eqb t u (λ i. eqb-false u t e (sym i)))))
+            ∙ (h on.going u x b
+                ∙ ap (λ c. min
+                (cond c (row_after (turn a p answer t m).kind (least_birth m (turn a p answer t m).kind) x b (waits_in_a_row u x b past))
+                (waits_in_a_row u x b past)) most_waits) (sym (ne_eqb t u (λ i. eqb-false u t e (sym i)))))
         by_same true e =
             let kind = (turn a p answer t m).kind in
-            subst (λ v. waits_at ((turn a p answer t m).machine.waits v) x b ≡ min (cond (t == v) (row_after kind (least_birth m kind) x b (waits_in_a_row v x b past)) (waits_in_a_row v x b past)) most_waits) (sym (eqb-true u t e))
+            subst (λ v. waits_at ((turn a p answer t m).machine.waits v) x b ≡ min
+                (cond (t == v) (row_after kind (least_birth m kind) x b (waits_in_a_row v x b past)) (waits_in_a_row v x b past)) most_waits)
+                (sym (eqb-true u t e))
             (ap (λ w. waits_at w x b) (steps.waits_counted a p answer t m l on still)
-            ∙ (own a p answer t m l (λ y c. waits_in_a_row t y c past) (λ y c. h on.going t y c) (subst (λ o. RestsAt a o (m.waits t)) on.is (rests t)) kind (kind_of_turn R a laws p small answer t m l sound on) x b
-            ∙ ap (λ c. min (cond c (row_after kind (least_birth m kind) x b (waits_in_a_row t x b past)) (waits_in_a_row t x b past)) most_waits) (sym (eq-eqb t t refl))))
+            ∙ (own a p answer t m l (λ y c. waits_in_a_row t y c past) (λ y c. h on.going t y c) (subst (λ o. RestsAt a o (m.waits t)) on.is (rests t)) kind
+                (kind_of_turn R a laws p small answer t m l sound on) x b
+            ∙ ap (λ c. min (cond c (row_after kind (least_birth m kind) x b (waits_in_a_row t x b past)) (waits_in_a_row t x b past)) most_waits)
+                (sym (eq-eqb t t refl))))
 
-    counted : Counted (turn a p answer t m).machine (record { thread = t; kind = (turn a p answer t m).kind; least = least_birth m (turn a p answer t m).kind } ∷ past)
+    counted : Counted (turn a p answer t m).machine
+        (record { thread = t; kind = (turn a p answer t m).kind; least = least_birth m (turn a p answer t m).kind } ∷ past)
     counted = by_end m.end refl
       where
-        by_up : (l : Local S) (c : Bool) → m.end ≡ None → m.threads t ≡ Some l → l.ended ≡ c → Counted (turn a p answer t m).machine (record { thread = t; kind = (turn a p answer t m).kind; least = least_birth m (turn a p answer t m).kind } ∷ past)
+        by_up : (l : Local S) (c : Bool) → m.end ≡ None → m.threads t ≡ Some l → l.ended ≡ c
+            → Counted (turn a p answer t m).machine
+            (record { thread = t; kind = (turn a p answer t m).kind; least = least_birth m (turn a p answer t m).kind } ∷ past)
         by_up l false none at up = goes l (record { going = none; is = at; up = up })
         by_up l true none at down = idle (λ n g. true≢false (sym down ∙ (ap (λ v. v.ended) (some_same l n (sym at ∙ g.is)) ∙ g.up)))
           where
             some_same : (v w : Local S) → Some v ≡ Some w → v ≡ w
             some_same v w e = cc
 
-        by_thread : (o : Option (Local S)) → m.end ≡ None → m.threads t ≡ o → Counted (turn a p answer t m).machine (record { thread = t; kind = (turn a p answer t m).kind; least = least_birth m (turn a p answer t m).kind } ∷ past)
+        by_thread : (o : Option (Local S)) → m.end ≡ None → m.threads t ≡ o
+            → Counted (turn a p answer t m).machine
+            (record { thread = t; kind = (turn a p answer t m).kind; least = least_birth m (turn a p answer t m).kind } ∷ past)
         by_thread None none at = idle (λ n g. none-some n (sym at ∙ g.is))
         by_thread (Some l) none at = by_up l l.ended none at refl
 
-        by_end : (o : Option End) → m.end ≡ o → Counted (turn a p answer t m).machine (record { thread = t; kind = (turn a p answer t m).kind; least = least_birth m (turn a p answer t m).kind } ∷ past)
+        by_end : (o : Option End) → m.end ≡ o → Counted (turn a p answer t m).machine
+            (record { thread = t; kind = (turn a p answer t m).kind; least = least_birth m (turn a p answer t m).kind } ∷ past)
         by_end (Some e) some = idle (λ n g. none-some e (sym g.going ∙ some))
         by_end None none = by_thread (m.threads t) none refl
 
-  pub waits_counted : (qs : List Slot) (m : Machine S) (past : List Past) → Sound R a p m → Rests a m → Counted m past → Counted (turns a p qs m) (past_after a p qs m past)
+  pub waits_counted : (qs : List Slot) (m : Machine S) (past : List Past) → Sound R a p m → Rests a m → Counted m past
+      → Counted (turns a p qs m) (past_after a p qs m past)
   waits_counted [] m past sound rests h = h
   waits_counted (q ∷ qs) m past sound rests h =
       let done = turn a p q.answer q.thread m in
       waits_counted qs done.machine (record { thread = q.thread; kind = done.kind; least = least_birth m done.kind } ∷ past)
-      (turn_sound R a laws p small q.answer q.thread m sound) (turn_rests R a laws p small q.answer q.thread m sound rests) (counted q.answer q.thread m past sound rests h)
+      (turn_sound R a laws p small q.answer q.thread m sound) (turn_rests R a laws p small q.answer q.thread m sound rests)
+          (counted q.answer q.thread m past sound rests h)
 
   pub none_counted : (m : Machine S) → m.waits ≡ (λ _. no_waits) → Counted m []
   none_counted m e going u x b = ap (λ w. waits_at (w u) x b) e ∙ no_waits_at x b
