@@ -1,5 +1,6 @@
 //! What the named policies answer and the named pickers pick.
 ghost use Rattle.std.specs.Prelude.{◌≡◌, ◌<◌, ◌%◌, Some, None};
+ghost use Rattle.tx_events.specs.declared.TheConstants.{THREAD_LIMIT};
 ghost use Rattle.choosers.specs.Answers.{answer, PolicyName};
 ghost use Rattle.choosers.specs.Answers.PolicyName.{Older, Yielding, Polite};
 ghost use Rattle.choosers.specs.Picks.{pick, PickerName};
@@ -60,7 +61,7 @@ pub fn clash_first(_seen: &Seen) -> u8
 /// `clash`: the last thread again, or the next one after a turn that was not done or was an access in a transaction.
 pub fn clash_next(before: u8, seen: &Seen) -> u8
     requires started { 0 < seen.now.started }
-    requires before { before < 64 }
+    requires before { before < THREAD_LIMIT }
     ensures pick { pick Clashing seen.now.turn seen.now (Some before) ≡ Some result }
 {
     if seen.last == Some(TurnKind::Ran) && !seen.inside {

@@ -2,6 +2,7 @@
 use Rattle.std.proofs.Common.{ℕ, ℤ, pos, negsuc, zero, suc, ◌≡◌, ◌==◌, ◌+◌, ◌<◌, ◌≤◌, ◌^◌, Bool, true, false, cond, refl, ap, sym, ◌∙◌, subst, List, [], ◌∷◌, Option, Some, None, arith}
 use Rattle.std.specs.Prelude.{◌||◌, nat_lt}
 use Rattle.std.proofs.lemmas.Bool.{true≢false, ltb-true}
+use Rattle.tx_events.specs.declared.TheConstants.{THREAD_LIMIT}
 use Rattle.tx_events.specs.declared.End.{End}
 use Rattle.tx_events.specs.declared.End.TheVariants.{Trapped}
 use Rattle.tx_events.specs.declared.Trap.TheVariants.{BadAddress, TooManyThreads, BadJoin}
@@ -244,10 +245,10 @@ module _ {S T : Type 0} (a : Thread S) (b : Thread T) (main : S) (main' : T) whe
           let last = landed t w vs (inner_by a p i e) (inner_by b p (with_state i n.at) (b.next n.at)) v ps k.1 d.2 in
           (last.0, (d.0, record { last = with_state i n.at; run = k.0; over = is_landed t (with_threads w vs) (inner_by b p (with_state i n.at) (b.next n.at)) (with_threads v last.0) last.1 }, last.1), last.2)
 
-      int_below : (n : ℕ) → n < p.limit → p.limit ≤ 64 → n < 2 ^ 31
+      int_below : (n : ℕ) → n < p.limit → p.limit ≤ THREAD_LIMIT → n < 2 ^ 31
       int_below n h few = omega (arith, h, few)
 
-      lifts : (kids : SameChildren a b main main') → p.limit ≤ 64 → (s : S) (r : T) (e : Event) (v : World S) → Same s r → a.next s ≡ e → b.next r ≡ e → ((x : Reply) → Answers e x → Same (a.after s x) (b.after r x)) → EventStep a p t w s e v → Lifts t w vs r e v
+      lifts : (kids : SameChildren a b main main') → p.limit ≤ THREAD_LIMIT → (s : S) (r : T) (e : Event) (v : World S) → Same s r → a.next s ≡ e → b.next r ≡ e → ((x : Reply) → Answers e x → Same (a.after s x) (b.after r x)) → EventStep a p t w s e v → Lifts t w vs r e v
       lifts kids few s r Silent v q i j h d = absurd d
       lifts kids few s r EndAtomic v q i j h d = absurd d
       lifts kids few s r (Raise kind can) v q i j h d = absurd d
@@ -309,7 +310,7 @@ module _ {S T : Type 0} (a : Thread S) (b : Thread T) (main : S) (main' : T) whe
 
       -- a step of the one world is a step of the other
       -- a step of the one world is a step of the other
-      pub step_lifts : SameChildren a b main main' → p.limit ≤ 64 → (v : World S) → Step a p t w v → (ts : ℕ → Option (Alive T)) × Step b p t (with_threads w vs) (with_threads v ts) × Pairs v.threads ts
+      pub step_lifts : SameChildren a b main main' → p.limit ≤ THREAD_LIMIT → (v : World S) → Step a p t w v → (ts : ℕ → Option (Alive T)) × Step b p t (with_threads w vs) (with_threads v ts) × Pairs v.threads ts
       step_lifts kids few v d =
           let y = partner (w.threads t) (vs t) (ps t) d.from d.is in
           let same = same_silents d.from y.0 y.2 d.silents in
@@ -333,7 +334,7 @@ module _ {S T : Type 0} (a : Thread S) (b : Thread T) (main : S) (main' : T) whe
               }
 
     -- and so are any steps
-    pub replays_lift : SameChildren a b main main' → p.limit ≤ 64 → (order : List ℕ) (w v : World S) (vs : ℕ → Option (Alive T)) → Pairs w.threads vs → Replays a p w order v → (ts : ℕ → Option (Alive T)) × Replays b p (with_threads w vs) order (with_threads v ts) × Pairs v.threads ts
+    pub replays_lift : SameChildren a b main main' → p.limit ≤ THREAD_LIMIT → (order : List ℕ) (w v : World S) (vs : ℕ → Option (Alive T)) → Pairs w.threads vs → Replays a p w order v → (ts : ℕ → Option (Alive T)) × Replays b p (with_threads w vs) order (with_threads v ts) × Pairs v.threads ts
     replays_lift kids few [] w v vs ps h = (vs, ap (λ z. with_threads z vs) h, subst (λ z. Pairs z.threads vs) (sym h) ps)
     replays_lift kids few (t ∷ order) w v vs ps h =
         let one_step = step_lifts t w vs ps kids few h.0 h.1 in
@@ -341,7 +342,7 @@ module _ {S T : Type 0} (a : Thread S) (b : Thread T) (main : S) (main' : T) whe
         (rest.0, (with_threads h.0 one_step.0, one_step.1, rest.1), rest.2)
 
     -- from the start
-    pub starts_lift : SameChildren a b main main' → SameEvents a b main main' → p.limit ≤ 64 → (memory : ℕ → ℕ) (input : List ℕ) (order : List ℕ) (v : World S) → Replays a p (first_world memory input main) order v
+    pub starts_lift : SameChildren a b main main' → SameEvents a b main main' → p.limit ≤ THREAD_LIMIT → (memory : ℕ → ℕ) (input : List ℕ) (order : List ℕ) (v : World S) → Replays a p (first_world memory input main) order v
         → (ts : ℕ → Option (Alive T)) × Replays b p (first_world memory input main') order (with_threads v ts) × Pairs v.threads ts
     starts_lift kids same few memory input order v h =
         subst (λ z. (ts : ℕ → Option (Alive T)) × Replays b p z order (with_threads v ts) × Pairs v.threads ts) refl

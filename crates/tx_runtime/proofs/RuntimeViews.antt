@@ -3,6 +3,7 @@ use Rattle.std.proofs.Common.{ℕ, zero, suc, ◌≡◌, ◌==◌, ◌<◌, ◌�
 use Rattle.std.specs.Prelude.{is_some, slice_get, ◌&&◌, ◌||◌, reverse, replicate}
 use Rattle.choosers.specs.declared.Clash.{Clash}
 use Rattle.choosers.specs.declared.Choice.{Choice}
+use Rattle.tx_events.specs.declared.TheConstants.{THREAD_LIMIT}
 use Rattle.tx_events.specs.declared.TurnKind.{TurnKind}
 use Rattle.tx_events.specs.Memory.{MemoryLayout}
 use Rattle.tx_events.specs.Thread.{Thread, Lawful}
@@ -33,7 +34,8 @@ use Rattle.std.proofs.Math.ListN.{set}
 use Rattle.std.proofs.lemmas.Bool.{and_parts, false≢true, ne_eqb}
 use Rattle.tx_events.specs.Memory.{update}
 use Rattle.own_table.specs.Table.{thread_limit}
-use Rattle.tx_runtime.proofs.ThreadTables.{no_thread, thread_at, whole_sound, threads_push, waits_push, get_set}
+use Rattle.own_table.proofs.TableLemmas.{get_set}
+use Rattle.tx_runtime.proofs.ThreadTables.{no_thread, thread_at, whole_sound, threads_push, waits_push}
 use Rattle.tx_runtime.proofs.LogSavepoints.{saves_count}
 
 module _ {S : Type 0} (a : Thread S) (p : MemoryLayout) where
@@ -48,7 +50,7 @@ module _ {S : Type 0} (a : Thread S) (p : MemoryLayout) where
     ap (λ z. z.machine) c.turned ∙ (ap (λ z. (turn a p (λ _. c.choice) t z).machine) r.1 ∙ sym (one_more r.0 t (λ _. c.choice) first)),
   )
 
-  pub carried : (R : S → Type 0) (answers : Clash → Choice → Type 0) (allows : Clash → Choice → Bool) (t : ℕ) (old new : Machine S) (kind : TurnKind) → Lawful S R a → p.limit ≤ 64 → Chosen a p answers allows t old kind new → KeepsOrder R a p old new
+  pub carried : (R : S → Type 0) (answers : Clash → Choice → Type 0) (allows : Clash → Choice → Bool) (t : ℕ) (old new : Machine S) (kind : TurnKind) → Lawful S R a → p.limit ≤ THREAD_LIMIT → Chosen a p answers allows t old kind new → KeepsOrder R a p old new
   carried R answers allows t old new kind lawful small c = record {
     reached = λ first. reached_after answers allows t old new first kind c;
     shown = λ memory input main reached free from.
@@ -123,7 +125,7 @@ marks_shown log ss e = sym (saves_count log) ∙ ap length e
 
 -- the machine at the start
 
-pub first_whole : {A K : Type 0} (p : MemoryLayout) (limit : ℕ) (holders : Holders) (xs : List (ThreadSlot A K)) (s : ThreadSlot A K) → xs ≡ s ∷ [] → p.limit ≡ limit → 0 < limit → limit ≤ 64 → thread_limit holders ≡ limit
+pub first_whole : {A K : Type 0} (p : MemoryLayout) (limit : ℕ) (holders : Holders) (xs : List (ThreadSlot A K)) (s : ThreadSlot A K) → xs ≡ s ∷ [] → p.limit ≡ limit → 0 < limit → limit ≤ THREAD_LIMIT → thread_limit holders ≡ limit
     → ((t x : ℕ) → hold_of holders t x ≡ None) → is_sound p s ≡ true → IsWhole p limit holders xs
 first_whole p limit holders xs s e fits some few numbers free sound = let n : length xs ≡ 1 = ap length e in record {
   fits = sym fits;

@@ -13,6 +13,7 @@ use Rattle.std.proofs.lemmas.Option.{slice_get_past, slice_get-get_or, same_Some
 use Rattle.tx_events.specs.Memory.{MemoryLayout, update}
 use Rattle.own_table.specs.declared.table.Holders.{Holders}
 use Rattle.own_table.specs.Table.{hold_of}
+use Rattle.own_table.proofs.TableLemmas.{get_set}
 use Rattle.tx_serial.specs.Machine.{Machine, Local, Waits, no_waits, wait_more, birth_of}
 use Rattle.tx_serial.specs.Turn.{Turned, steps, waited, bare}
 use Rattle.tx_runtime.specs.Saves.{saves_of}
@@ -26,19 +27,6 @@ use Rattle.tx_runtime.specs.Threads.{local_of, tx_of, local_in, threads_of, wait
 -- a turn of this kind
 abbrev pub kinded : {S : Type 0} → TurnKind → Machine S → Turned S
 kinded k m = record { machine = m; kind = k }
-
-pub get_set : {X : Type 0} (xs : List X) (i : ℕ) (v : X) (t : ℕ) → i < length xs → slice_get (set xs i v) t ≡ cond (t == i) (Some v) (slice_get xs t)
-get_set {X} xs i v t h =
-    let l : length (set xs i v) ≡ length xs = length-set xs i v in
-    elim (t == i) as (λ b. (t == i) ≡ b → slice_get (set xs i v) t ≡ cond b (Some v) (slice_get xs t)) [
-      | true ↦ λ e.
-          let at : slice_get (set xs i v) i ≡ Some v = slice_get-get_or (set xs i v) i v (subst (λ n. i < n) (sym l) h) ∙ ap Some (get_or-set_same xs i v v h) in
-          ap (λ n. slice_get (set xs i v) n) (eqb-true t i e) ∙ at
-      | false ↦ λ e. elim (cases_lt t (length xs)) [
-        | inl p ↦ slice_get-get_or (set xs i v) t v (subst (λ n. t < n) (sym l) p) ∙ (ap Some (get_or-set_other xs i t v v (eqb-false t i e)) ∙ sym (slice_get-get_or xs t v p))
-        | inr p ↦ slice_get_past (set xs i v) t (subst (λ n. n ≤ t) (sym l) p) ∙ sym (slice_get_past xs t p)
-      ]
-    ] refl
 
 -- the thread that was read
 pub read_at : {X : Type 0} (xs : List X) (t : ℕ) (s : X) → t < length xs → s ≡ get_or xs t s → slice_get xs t ≡ Some s

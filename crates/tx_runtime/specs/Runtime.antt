@@ -16,8 +16,8 @@ use Rattle.tx_runtime.specs.Threads.{is_write}
 use Rattle.tx_runtime.specs.View.{machine_in, layout_in}
 
 -- the machine that it shows
-abbrev pub machine_of : {A K S : Type 0} {g : Ghosts A K} → (A → S) → (K → S) → Runtime A K g → Machine S
-machine_of state saved r = machine_in state saved r.engine
+abbrev pub machine_of : {A K : Type 0} {g : Ghosts A K} → Runtime A K g → Machine g.State
+machine_of {g = g} r = machine_in g.state g.saved_state r.engine
 
 -- what is mapped, and how many threads may be started
 abbrev pub layout_at : {A K : Type 0} {g : Ghosts A K} → Runtime A K g → MemoryLayout

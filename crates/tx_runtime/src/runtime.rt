@@ -60,7 +60,7 @@ impl<A: Actor> Runtime<A> {
         requires some { 0 < threads }
         requires limit { threads ≤ THREAD_LIMIT }
         requires memory { (layout_of memory).limit ≡ threads }
-        ensures first { IfOk result (λ r. machine_of A.state A.saved_state r ≡ first_machine (words_of memory) input.items (A.state main)) }
+        ensures first { IfOk result (λ r. machine_of r ≡ first_machine (words_of memory) input.items (A.state main)) }
         ensures layout { IfOk result (λ r. layout_at r ≡ layout_of memory) }
         ensures limit { IfOk result (λ r. limit_of r ≡ threads) }
         ensures inside { IfOk result (λ r. (t : ℕ) → inside_of r t ≡ false) }
@@ -100,23 +100,23 @@ impl<A: Actor> Runtime<A> {
         policy: &Policy<R, F>,
     ) -> Result<TurnKind, AllocError>
         requires number { t < limit_of self.old }
-        requires going { (machine_of A.state A.saved_state self.old).end ≡ None }
-        requires births { (machine_of A.state A.saved_state self.old).births < 2 ^ 64 - 1 }
-        requires depth { (machine_of A.state A.saved_state self.old).lock.depth < 2 ^ 64 - 1 }
+        requires going { (machine_of self.old).end ≡ None }
+        requires births { (machine_of self.old).births < 2 ^ 64 - 1 }
+        requires depth { (machine_of self.old).lock.depth < 2 ^ 64 - 1 }
         requires keeps { KeepsRule (F.IsAlwaysCallable policy.now.answer) (FnReturnsAt F.Fn policy.now.answer) R.allows }
         ensures chosen { IfOk result (λ kind. Chosen A.thread (layout_at self.old) (FnReturnsAt F.Fn policy.now.answer) R.allows t
-            (machine_of A.state A.saved_state self.old) kind (machine_of A.state A.saved_state self.new)) }
+            (machine_of self.old) kind (machine_of self.new)) }
         ensures keeps_order { IfOk result (λ kind. KeepsOrder A.is_reached A.thread (layout_at self.old)
-            (machine_of A.state A.saved_state self.old) (machine_of A.state A.saved_state self.new)) }
+            (machine_of self.old) (machine_of self.new)) }
         ensures inside { IfOk result (λ kind. (u : ℕ) → inside_of self.new u
-            ≡ inside_after A.thread t (machine_of A.state A.saved_state self.old) kind (inside_of self.old) u) }
-        ensures same { OnErr result (machine_of A.state A.saved_state self.new ≡ machine_of A.state A.saved_state self.old) }
+            ≡ inside_after A.thread t (machine_of self.old) kind (inside_of self.old) u) }
+        ensures same { OnErr result (machine_of self.new ≡ machine_of self.old) }
         ensures kept { OnErr result ((u : ℕ) → inside_of self.new u ≡ inside_of self.old u) }
-        ensures capacity { OnErr result (MayAllocate A.thread (layout_at self.old) t (machine_of A.state A.saved_state self.old)) }
+        ensures capacity { OnErr result (MayAllocate A.thread (layout_at self.old) t (machine_of self.old)) }
         ensures layout { layout_at self.new ≡ layout_at self.old }
         ensures limit { limit_of self.new ≡ limit_of self.old }
-        ensures births { (machine_of A.state A.saved_state self.new).births ≤ (machine_of A.state A.saved_state self.old).births + 1 }
-        ensures depth { (machine_of A.state A.saved_state self.new).lock.depth ≤ (machine_of A.state A.saved_state self.old).lock.depth + 1 }
+        ensures births { (machine_of self.new).births ≤ (machine_of self.old).births + 1 }
+        ensures depth { (machine_of self.new).lock.depth ≤ (machine_of self.old).lock.depth + 1 }
     {
         let accesses = self.engine.accesses_inside(t);
         let kind = self.engine.turn(t, policy)?;
@@ -126,7 +126,7 @@ impl<A: Actor> Runtime<A> {
 
     /// The memory, as the turns so far left it.
     pub fn memory(&self) -> &Memory
-        ensures words { words_of result.now ≡ (machine_of A.state A.saved_state self.now).memory }
+        ensures words { words_of result.now ≡ (machine_of self.now).memory }
         ensures layout { layout_of result.now ≡ layout_at self.now }
     {
         &self.engine.memory
@@ -134,28 +134,28 @@ impl<A: Actor> Runtime<A> {
 
     /// How the program has ended, if it has.
     pub fn end(&self) -> Option<End>
-        ensures { result ≡ (machine_of A.state A.saved_state self.now).end }
+        ensures { result ≡ (machine_of self.now).end }
     {
         self.engine.end
     }
 
     /// The bytes of output so far.
     pub fn out(&self) -> &[u8]
-        ensures { result.now ≡ (machine_of A.state A.saved_state self.now).out }
+        ensures { result.now ≡ (machine_of self.now).out }
     {
         self.engine.out.as_slice()
     }
 
     /// The order in which turns and whole blocks took effect, by thread numbers.
     pub fn order(&self) -> &[u8]
-        ensures { result.now ≡ (machine_of A.state A.saved_state self.now).order }
+        ensures { result.now ≡ (machine_of self.now).order }
     {
         self.engine.order.as_slice()
     }
 
     /// How many threads were started: at least one, and no more than may be.
     pub fn started(&self) -> u8
-        ensures started { result ≡ (machine_of A.state A.saved_state self.now).started }
+        ensures started { result ≡ (machine_of self.now).started }
         ensures some { 0 < result }
         ensures within { result ≤ limit_of self.now }
     {
@@ -172,7 +172,7 @@ impl<A: Actor> Runtime<A> {
 
     /// The thread, if it was started.
     pub fn actor(&self, t: u8) -> Option<&A>
-        ensures { ShowsActor A.state ((machine_of A.state A.saved_state self.now).threads t) (option_copied result) }
+        ensures { ShowsActor A.state ((machine_of self.now).threads t) (option_copied result) }
     {
         if (t as usize) < self.engine.threads.len() {
             Some(&self.engine.threads[t as usize].actor)
@@ -183,16 +183,16 @@ impl<A: Actor> Runtime<A> {
 
     /// Which thread holds which word.
     pub fn holders(&self) -> &Holders
-        ensures { HoldsOf (machine_of A.state A.saved_state self.now) (limit_of self.now) result.now }
+        ensures { HoldsOf (machine_of self.now) (limit_of self.now) result.now }
     {
         &self.engine.holders
     }
 
     /// The savepoints of the thread: one mark for each. To go back to a mark is to put back its savepoint and all newer ones.
     pub fn log(&self, t: u8) -> &Log
-        ensures saves { saves_of result.now ≡ saves_in ((machine_of A.state A.saved_state self.now).threads t) }
-        ensures marks { length (marks_of result.now) ≡ length (saves_in ((machine_of A.state A.saved_state self.now).threads t)) }
-        ensures levels { ShowsLevels result.now (saves_in ((machine_of A.state A.saved_state self.now).threads t)) }
+        ensures saves { saves_of result.now ≡ saves_in ((machine_of self.now).threads t) }
+        ensures marks { length (marks_of result.now) ≡ length (saves_in ((machine_of self.now).threads t)) }
+        ensures levels { ShowsLevels result.now (saves_in ((machine_of self.now).threads t)) }
     {
         if (t as usize) < self.engine.threads.len() {
             &self.engine.threads[t as usize].log

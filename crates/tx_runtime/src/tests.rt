@@ -54,8 +54,8 @@ fn start(alloc: Global, events: Vec<Event>, threads: u8) -> Result<Runtime<Scrip
     requires some { 0 < threads }
     requires few { threads ≤ 64 }
     ensures limit { IfOk result (λ r. limit_of r ≡ threads) }
-    ensures births { IfOk result (λ r. (machine_of ⟦<Script as Actor>⟧.state ⟦<Script as Actor>⟧.saved_state r).births ≡ 0) }
-    ensures depth { IfOk result (λ r. (machine_of ⟦<Script as Actor>⟧.state ⟦<Script as Actor>⟧.saved_state r).lock.depth ≡ 0) }
+    ensures births { IfOk result (λ r. (machine_of r).births ≡ 0) }
+    ensures depth { IfOk result (λ r. (machine_of r).lock.depth ≡ 0) }
 {
     let memory = Memory::new(alloc, &[], 16, threads)?;
     let input = Vec::from_array(alloc, [9])?;
@@ -72,8 +72,8 @@ fn take_turns<R: Rule, F: Fn(&Clash) -> Choice>(
 ) -> Result<(), Fail>
     requires few { length rows.now ≤ 100 }
     requires limit { limit_of runtime.old ≡ threads }
-    requires births { (machine_of ⟦<Script as Actor>⟧.state ⟦<Script as Actor>⟧.saved_state runtime.old).births ≡ 0 }
-    requires depth { (machine_of ⟦<Script as Actor>⟧.state ⟦<Script as Actor>⟧.saved_state runtime.old).lock.depth ≡ 0 }
+    requires births { (machine_of runtime.old).births ≡ 0 }
+    requires depth { (machine_of runtime.old).lock.depth ≡ 0 }
     requires keeps { KeepsRule (F.IsAlwaysCallable policy.now.answer) (FnReturnsAt F.Fn policy.now.answer) R.allows }
 {
     for n in 0..rows.len() {

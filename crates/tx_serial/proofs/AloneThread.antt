@@ -6,7 +6,8 @@ use Rattle.tx_events.specs.declared.End.{End}
 use Rattle.tx_events.specs.declared.BlockKind.{BlockKind}
 use Rattle.tx_events.specs.declared.BlockKind.TheVariants.{NoExcept, Commit, Cancel}
 use Rattle.tx_events.specs.declared.Event.{Event}
-use Rattle.tx_events.specs.declared.Event.TheVariants.{Silent, Load, Store, Out, Inp, Spawn, Join, BeginAtomic, EndAtomic, Raise, BeginSync, EndSync, Done, Stop}
+use Rattle.tx_events.specs.declared.Event.TheVariants.{Silent, Load, Store, Out, Inp, Spawn, Join, BeginAtomic, EndAtomic, Raise, BeginSync, EndSync, Done,
+  Stop}
 use Rattle.tx_events.specs.declared.Reply.TheVariants.{Nothing}
 use Rattle.tx_events.specs.declared.TurnKind.{TurnKind}
 use Rattle.tx_events.specs.declared.TurnKind.TheVariants.{Ran, Idle, Undone, Released}
@@ -15,8 +16,10 @@ use Rattle.choosers.specs.declared.Choice.{Choice}
 use Rattle.tx_events.specs.Thread.{Thread}
 use Rattle.tx_events.specs.Memory.{update, MemoryLayout, can_access, word_of, word_bound}
 use Rattle.tx_events.specs.World.{Lock, target, lock_free, holder_free, lock_out}
-use Rattle.tx_serial.specs.Machine.{Machine, Local, Tx, NoTx, OpenTx, GivingUp, Closing, Save, blocker, busy, lock_owner, least, is_noted, conflicts_with, birth_of, live_in, eldest}
-use Rattle.tx_serial.specs.Turn.{Turned, load_in, store_in, load_out, store_out, joins, begins, sync_in, sync_idle, commits, cancels_by, cancels, raises, in_does, out_does, lets_go, gives_back, turn_in, turn_of, turn_at, turn}
+use Rattle.tx_serial.specs.Machine.{Machine, Local, Tx, NoTx, OpenTx, GivingUp, Closing, Save, blocker, busy, lock_owner, least, is_noted, conflicts_with,
+  birth_of, live_in, eldest}
+use Rattle.tx_serial.specs.Turn.{Turned, load_in, store_in, load_out, store_out, joins, begins, sync_in, sync_idle, commits, cancels_by, cancels, raises,
+  in_does, out_does, lets_go, gives_back, turn_in, turn_of, turn_at, turn}
 use Rattle.tx_serial.specs.Bound.{is_waiting, is_spawn}
 use Rattle.tx_serial.proofs.PendingWork.{Lone}
 use Rattle.tx_events.proofs.BlockRuns.{update_elsewhere}
@@ -26,11 +29,15 @@ module _ {S : Type 0} (a : Thread S) (p : MemoryLayout) (m : Machine S) (l : Loc
   Goes r = Lone r.machine × (is_waiting r.kind ≡ false)
 
   -- another state of thread 0
-  moves : (m' : Machine S) (kind : TurnKind) (o : Option (Local S)) → m'.threads ≡ update m.threads 0 o → m'.started ≡ m.started → lock_free 0 m'.lock ≡ true → is_waiting kind ≡ false → Goes (record { machine = m'; kind = kind })
-  moves m' kind o threads started lock w = (record { started = started ∙ h.started; fresh = λ u d. ap (λ f. f u) threads ∙ (update_elsewhere m.threads 0 o u d ∙ h.fresh u d); lock = lock }, w)
+  moves : (m' : Machine S) (kind : TurnKind) (o : Option (Local S)) → m'.threads ≡ update m.threads 0 o → m'.started ≡ m.started → lock_free 0 m'.lock ≡ true
+      → is_waiting kind ≡ false → Goes (record { machine = m'; kind = kind })
+  moves m' kind o threads started lock w =
+      (record { started = started ∙ h.started; fresh = λ u d. ap (λ f. f u) threads ∙ (update_elsewhere m.threads 0 o u d ∙ h.fresh u d); lock = lock }, w)
 
-  keeps : (m' : Machine S) (kind : TurnKind) → m'.threads ≡ m.threads → m'.started ≡ m.started → m'.lock ≡ m.lock → is_waiting kind ≡ false → Goes (record { machine = m'; kind = kind })
-  keeps m' kind threads started lock w = (record { started = started ∙ h.started; fresh = λ u d. ap (λ f. f u) threads ∙ h.fresh u d; lock = ap (lock_free 0) lock ∙ h.lock }, w)
+  keeps : (m' : Machine S) (kind : TurnKind) → m'.threads ≡ m.threads → m'.started ≡ m.started → m'.lock ≡ m.lock → is_waiting kind ≡ false
+      → Goes (record { machine = m'; kind = kind })
+  keeps m' kind threads started lock w =
+      (record { started = started ∙ h.started; fresh = λ u d. ap (λ f. f u) threads ∙ h.fresh u d; lock = ap (lock_free 0) lock ∙ h.lock }, w)
 
   either : (b : Bool) (x y : Turned S) → Goes x → Goes y → Goes (cond b x y)
   either true x y f g = f
@@ -61,8 +68,12 @@ module _ {S : Type 0} (a : Thread S) (p : MemoryLayout) (m : Machine S) (l : Loc
 
   out_goes : (e : Event) → is_spawn e ≡ false → Goes (out_does a p 0 m l e)
   out_goes Silent s = moves _ Ran (Some _) refl refl h.lock refl
-  out_goes (Load addr size vol) s = either (can_access p addr size) _ _ (subst (λ o. Goes (load_out a 0 m l addr size o)) (sym (no_blocker false (word_of addr))) (moves _ Ran (Some _) refl refl h.lock refl)) (keeps _ Ran refl refl refl refl)
-  out_goes (Store addr size value vol) s = either (can_access p addr size) _ _ (subst (λ o. Goes (store_out a 0 m l addr size value o)) (sym (no_blocker true (word_of addr))) (moves _ Ran (Some _) refl refl h.lock refl)) (keeps _ Ran refl refl refl refl)
+  out_goes (Load addr size vol) s = either (can_access p addr size) _ _
+      (subst (λ o. Goes (load_out a 0 m l addr size o)) (sym (no_blocker false (word_of addr))) (moves _ Ran (Some _) refl refl h.lock refl))
+      (keeps _ Ran refl refl refl refl)
+  out_goes (Store addr size value vol) s = either (can_access p addr size) _ _
+      (subst (λ o. Goes (store_out a 0 m l addr size value o)) (sym (no_blocker true (word_of addr))) (moves _ Ran (Some _) refl refl h.lock refl))
+      (keeps _ Ran refl refl refl refl)
   out_goes (BeginAtomic kind) s = subst (λ o. Goes (begins 0 m l (a.after l.state Nothing) o)) (sym no_owner) (moves _ Ran (Some _) refl refl h.lock refl)
   out_goes EndAtomic s = keeps m Idle refl refl refl refl
   out_goes (Raise kind can) s = keeps m Idle refl refl refl refl
@@ -99,8 +110,12 @@ module _ {S : Type 0} (a : Thread S) (p : MemoryLayout) (m : Machine S) (l : Loc
 
     in_goes : (answer : Clash → Choice) (e : Event) → Goes (in_does a p answer 0 m l b kk ss e)
     in_goes answer Silent = moves _ Ran (Some _) refl refl h.lock refl
-    in_goes answer (Load addr size vol) = either (can_access p addr size) _ _ (subst (λ o. Goes (load_in a p answer 0 m l b kk ss addr size o)) (sym (no_blocker false (word_of addr))) (moves _ Ran (Some _) refl refl h.lock refl)) (keeps _ Ran refl refl refl refl)
-    in_goes answer (Store addr size value vol) = either (can_access p addr size) _ _ (subst (λ o. Goes (store_in a p answer 0 m l b kk ss addr size value o)) (sym (no_blocker true (word_of addr))) (moves _ Ran (Some _) refl refl h.lock refl)) (keeps _ Ran refl refl refl refl)
+    in_goes answer (Load addr size vol) = either (can_access p addr size) _ _
+        (subst (λ o. Goes (load_in a p answer 0 m l b kk ss addr size o)) (sym (no_blocker false (word_of addr))) (moves _ Ran (Some _) refl refl h.lock refl))
+        (keeps _ Ran refl refl refl refl)
+    in_goes answer (Store addr size value vol) = either (can_access p addr size) _ _
+        (subst (λ o. Goes (store_in a p answer 0 m l b kk ss addr size value o)) (sym (no_blocker true (word_of addr)))
+        (moves _ Ran (Some _) refl refl h.lock refl)) (keeps _ Ran refl refl refl refl)
     in_goes answer (BeginAtomic kind) = moves _ Ran (Some _) refl refl h.lock refl
     in_goes answer EndAtomic = commits_go (a.after l.state Nothing) ss
     in_goes answer (Raise kind can) = raises_go (a.after l.state Nothing) kind can

@@ -11,7 +11,9 @@ pub mod BirthLemmas
 pub mod SoundKept
 pub mod PutBack
 pub mod OrderReplays
+pub mod OnePolicy
 pub mod RecordedPicks
+pub mod NamedPickers
 pub mod WaitCircles
 pub mod PendingWork
 pub mod StateChanges
@@ -30,3 +32,7 @@ pub mod WorkedRuns
 pub mod OneTrace
 pub mod TurnSteps
 pub mod OwnEnds
+pub mod WaitsInARow
+pub mod OlderRuns
+pub mod TrapPlaces
+pub mod GrowingRuns

@@ -10,13 +10,15 @@ use Rattle.tx_events.specs.declared.End.TheVariants.{Trapped}
 use Rattle.tx_events.specs.declared.Event.{Event}
 use Rattle.tx_events.specs.declared.Trap.TheVariants.{BadAddress, TooManyThreads}
 use Rattle.tx_events.specs.declared.TurnKind.TheVariants.{JoinWait}
-use Rattle.tx_events.specs.declared.Event.TheVariants.{Silent, Load, Store, Out, Inp, Spawn, Join, BeginAtomic, EndAtomic, Raise, BeginSync, EndSync, Done, Stop}
+use Rattle.tx_events.specs.declared.Event.TheVariants.{Silent, Load, Store, Out, Inp, Spawn, Join, BeginAtomic, EndAtomic, Raise, BeginSync, EndSync, Done,
+  Stop}
 use Rattle.tx_events.specs.declared.Reply.TheVariants.{Nothing, Id}
 use Rattle.tx_events.specs.Thread.{Thread}
 use Rattle.tx_events.specs.Memory.{update, MemoryLayout, can_access, word_of, word_bound}
 use Rattle.tx_events.specs.World.{target}
 use Rattle.tx_serial.specs.Machine.{Machine, Local, Tx, NoTx, OpenTx, GivingUp, Closing, Save, is_noted, least, blocker, lock_owner, busy, clash_of}
-use Rattle.tx_serial.specs.Turn.{Turned, ran, order_gains, steps, stays, halts, spawns, number_of, clashes, load_in, store_in, load_out, store_out, joins, begins, sync_in, sync_idle, closes, outermost, commits, cancels_by, cancels, raises, in_does, out_does, lets_go, gives_back, turn_in, turn}
+use Rattle.tx_serial.specs.Turn.{Turned, ran, order_gains, steps, stays, halts, spawns, number_of, clashes, load_in, store_in, load_out, store_out, joins,
+  begins, sync_in, sync_idle, closes, outermost, commits, cancels_by, cancels, raises, in_does, out_does, lets_go, gives_back, turn_in, turn}
 use Rattle.tx_serial.specs.Kinds.{is_ran, GoesOn}
 use Rattle.tx_serial.specs.Run.{is_open}
 use Rattle.tx_serial.specs.Order.{enters_order, open_in, adds, order_after}
@@ -54,18 +56,23 @@ module _ {S : Type 0} (a : Thread S) (p : MemoryLayout) (t : ℕ) (m : Machine S
 
   joins_grows : (id : ℤ) (o : Option (Local S)) → Outer true (joins t id m (record l { state = a.after l.state Nothing }) o)
   joins_grows id None = refl
-  joins_grows id (Some u) = either true u.ended (ran (order_gains t (steps t m (record l { state = a.after l.state Nothing })))) (stays (JoinWait (number_of id)) m) refl refl
+  joins_grows id (Some u) = either true u.ended (ran (order_gains t (steps t m (record l { state = a.after l.state Nothing }))))
+      (stays (JoinWait (number_of id)) m) refl refl
 
   out_grows : (e : Event) → Outer (enters_order e) (out_does a p t m l e)
   out_grows Silent = refl
-  out_grows (Load addr size vol) = either true (can_access p addr size) (load_out a t m l addr size (blocker t false (word_of addr) m)) (halts t m (Trapped BadAddress)) (load_out_grows addr size (blocker t false (word_of addr) m)) refl
-  out_grows (Store addr size value vol) = either true (can_access p addr size) (store_out a t m l addr size value (blocker t true (word_of addr) m)) (halts t m (Trapped BadAddress)) (store_out_grows addr size value (blocker t true (word_of addr) m)) refl
+  out_grows (Load addr size vol) = either true (can_access p addr size) (load_out a t m l addr size (blocker t false (word_of addr) m))
+      (halts t m (Trapped BadAddress)) (load_out_grows addr size (blocker t false (word_of addr) m)) refl
+  out_grows (Store addr size value vol) = either true (can_access p addr size) (store_out a t m l addr size value (blocker t true (word_of addr) m))
+      (halts t m (Trapped BadAddress)) (store_out_grows addr size value (blocker t true (word_of addr) m)) refl
   out_grows (BeginAtomic kind) = begins_grows (lock_owner t m.lock.holder)
   out_grows EndAtomic = refl
   out_grows (Raise kind can) = refl
   out_grows BeginSync = sync_grows (lock_owner t m.lock.holder)
   out_grows EndSync = refl
-  out_grows (Spawn f x) = either true (nat_lt m.started p.limit) (ran (spawns t m (record l { state = a.after l.state (Id (pos m.started)) }) (a.child l.state m.started f x))) (halts t m (Trapped TooManyThreads)) refl refl
+  out_grows (Spawn f x) = either true (nat_lt m.started p.limit)
+      (ran (spawns t m (record l { state = a.after l.state (Id (pos m.started)) }) (a.child l.state m.started f x)))
+      (halts t m (Trapped TooManyThreads)) refl refl
   out_grows (Join id) = joins_grows id (target t id m.threads)
   out_grows (Out c) = refl
   out_grows Inp = refl
@@ -82,7 +89,10 @@ module _ {S : Type 0} (a : Thread S) (p : MemoryLayout) (t : ℕ) (m : Machine S
 
   -- the thread goes on in its transaction
   on : (l' : Local S) → is_open l'.tx ≡ true → m.order ≡ order_after (is_some m.end || not (open_in (update m.threads t (Some l') t))) t m.order
-  on l' e = sym (ap (λ b. order_after b t m.order) (ap (λ o. is_some o || not (open_in (update m.threads t (Some l') t))) goes ∙ (ap (λ o. not (open_in o)) (update_same m.threads t (Some l')) ∙ ap not e)))
+  on l' e = sym
+      (ap (λ b. order_after b t m.order)
+      (ap (λ o. is_some o || not (open_in (update m.threads t (Some l') t))) goes
+      ∙ (ap (λ o. not (open_in o)) (update_same m.threads t (Some l')) ∙ ap not e)))
 
   closed : (b : ℕ) (o : Option ℕ) → is_open {S = S} (closes b o) ≡ false
   closed b None = refl
@@ -91,7 +101,9 @@ module _ {S : Type 0} (a : Thread S) (p : MemoryLayout) (t : ℕ) (m : Machine S
   outermost_grows : (s : S) (b : ℕ) → In (outermost p t m l s b)
   outermost_grows s b =
       let l' : Local S = record l { state = s; tx = closes b (least l.held (word_bound p)) } in
-      sym (ap (λ c. order_after c t m.order) (ap (λ o. is_some o || not (open_in (update m.threads t (Some l') t))) goes ∙ (ap (λ o. not (open_in o)) (update_same m.threads t (Some l')) ∙ ap not (closed b (least l.held (word_bound p))))))
+      sym (ap (λ c. order_after c t m.order)
+          (ap (λ o. is_some o || not (open_in (update m.threads t (Some l') t))) goes
+          ∙ (ap (λ o. not (open_in o)) (update_same m.threads t (Some l')) ∙ ap not (closed b (least l.held (word_bound p))))))
 
   module _ (b : ℕ) (kk : S) (ss : List Save) where
     clash_grows : (c : Choice) (x u : ℕ) → In (clashes p c t m l b kk ss x u)
@@ -128,8 +140,11 @@ module _ {S : Type 0} (a : Thread S) (p : MemoryLayout) (t : ℕ) (m : Machine S
 
     in_grows : (answer : Clash → Choice) (e : Event) → In (in_does a p answer t m l b kk ss e)
     in_grows answer Silent = on _ refl
-    in_grows answer (Load addr size vol) = either_in (can_access p addr size) (load_in a p answer t m l b kk ss addr size (blocker t false (word_of addr) m)) (halts t m (Trapped BadAddress)) (load_in_grows answer addr size (blocker t false (word_of addr) m)) refl
-    in_grows answer (Store addr size value vol) = either_in (can_access p addr size) (store_in a p answer t m l b kk ss addr size value (blocker t true (word_of addr) m)) (halts t m (Trapped BadAddress)) (store_in_grows answer addr size value (blocker t true (word_of addr) m)) refl
+    in_grows answer (Load addr size vol) = either_in (can_access p addr size) (load_in a p answer t m l b kk ss addr size (blocker t false (word_of addr) m))
+        (halts t m (Trapped BadAddress)) (load_in_grows answer addr size (blocker t false (word_of addr) m)) refl
+    in_grows answer (Store addr size value vol) = either_in (can_access p addr size)
+        (store_in a p answer t m l b kk ss addr size value (blocker t true (word_of addr) m)) (halts t m (Trapped BadAddress))
+        (store_in_grows answer addr size value (blocker t true (word_of addr) m)) refl
     in_grows answer (BeginAtomic kind) = on _ refl
     in_grows answer EndAtomic = commits_grows (a.after l.state Nothing) ss
     in_grows answer (Raise kind can) = raises_grow (a.after l.state Nothing) kind can
@@ -150,7 +165,8 @@ module _ {S : Type 0} (a : Thread S) (p : MemoryLayout) (t : ℕ) (m : Machine S
   go_same b None = refl
   go_same b (Some x) = refl
 
-  tx_grows : (answer : Clash → Choice) (tx : Tx S) → (turn_in a p answer t m l tx).machine.order ≡ order_after (adds a t l tx (turn_in a p answer t m l tx)) t m.order
+  tx_grows : (answer : Clash → Choice) (tx : Tx S) → (turn_in a p answer t m l tx).machine.order
+      ≡ order_after (adds a t l tx (turn_in a p answer t m l tx)) t m.order
   tx_grows answer NoTx = out_grows (a.next l.state)
   tx_grows answer (OpenTx b kk ss) = in_grows b kk ss answer (a.next l.state)
   tx_grows answer (GivingUp b kk ss) = back_same b kk ss (least l.held (word_bound p))
@@ -158,4 +174,5 @@ module _ {S : Type 0} (a : Thread S) (p : MemoryLayout) (t : ℕ) (m : Machine S
 
 module _ {S : Type 0} (a : Thread S) (p : MemoryLayout) (answer : Clash → Choice) (t : ℕ) (m : Machine S) (l : Local S) (goes : GoesOn t m l) where
   pub order_grows : (turn a p answer t m).machine.order ≡ order_after (adds a t l l.tx (turn a p answer t m)) t m.order
-  order_grows = subst (λ r. r.machine.order ≡ order_after (adds a t l l.tx r) t m.order) (sym (turn_is a p answer t m l goes)) (tx_grows a p t m l goes.going answer l.tx)
+  order_grows = subst (λ r. r.machine.order ≡ order_after (adds a t l l.tx r) t m.order) (sym (turn_is a p answer t m l goes))
+      (tx_grows a p t m l goes.going answer l.tx)

@@ -1,5 +1,6 @@
 -- After every list of turns the machine stands for the world to which its order leads.
 use Rattle.std.proofs.Common.{ℕ, ◌≡◌, ◌≤◌, List, []}
+use Rattle.tx_events.specs.declared.TheConstants.{THREAD_LIMIT}
 use Rattle.tx_events.specs.Thread.{Thread, Lawful}
 use Rattle.tx_events.specs.Memory.{MemoryLayout}
 use Rattle.tx_events.specs.World.{World, first_world}
@@ -35,7 +36,8 @@ module _ {S : Type 0} (R : S → Type 0) (a : Thread S) (p : MemoryLayout) where
     };
   }
 
-  pub turns_shown : Lawful S R a → p.limit ≤ 64 → (memory : ℕ → ℕ) (input : List ℕ) (main : S) (slots : List Slot) → R main → a.blocks main ≡ [] → ShownByReplay a p (first_world memory input main) (turns a p slots (first_machine memory input main))
+  pub turns_shown : Lawful S R a → p.limit ≤ THREAD_LIMIT → (memory : ℕ → ℕ) (input : List ℕ) (main : S) (slots : List Slot) → R main → a.blocks main ≡ []
+      → ShownByReplay a p (first_world memory input main) (turns a p slots (first_machine memory input main))
   turns_shown laws small memory input main slots reached free =
       let start = first_machine memory input main in
       shown_of (first_world memory input main) (turns a p slots start)

@@ -1,19 +1,24 @@
 -- What a thread that is alone has run is less than its whole run.
-use Rattle.std.proofs.Common.{ℕ, zero, suc, ◌≡◌, ◌==◌, ◌≤◌, ◌+◌, ◌*◌, Bool, true, false, cond, refl, ap, sym, ◌∙◌, subst, List, [], ◌∷◌, Option, Some, None, arith}
+use Rattle.std.proofs.Common.{ℕ, zero, suc, ◌≡◌, ◌==◌, ◌≤◌, ◌+◌, ◌*◌, Bool, true, false, cond, refl, ap, sym, ◌∙◌, subst, List, [], ◌∷◌, Option, Some, None,
+  arith}
 use Rattle.std.proofs.lemmas.Bool.{eqb-true, true≢false, false≢true}
+use Rattle.tx_events.specs.declared.TheConstants.{THREAD_LIMIT}
 use Rattle.tx_events.specs.declared.End.{End}
 use Rattle.tx_events.specs.declared.BlockKind.{BlockKind}
 use Rattle.tx_events.specs.declared.BlockKind.TheVariants.{NoExcept, Commit, Cancel}
 use Rattle.tx_events.specs.declared.Trap.TheVariants.{BadAddress, BadJoin}
 use Rattle.tx_events.specs.declared.End.TheVariants.{Trapped}
 use Rattle.tx_events.specs.declared.Event.{Event}
-use Rattle.tx_events.specs.declared.Event.TheVariants.{Silent, Load, Store, Out, Inp, Spawn, Join, BeginAtomic, EndAtomic, Raise, BeginSync, EndSync, Done, Stop}
+use Rattle.tx_events.specs.declared.Event.TheVariants.{Silent, Load, Store, Out, Inp, Spawn, Join, BeginAtomic, EndAtomic, Raise, BeginSync, EndSync, Done,
+  Stop}
 use Rattle.tx_events.specs.declared.Reply.{Reply}
 use Rattle.tx_events.specs.declared.Reply.TheVariants.{Nothing, Loaded}
 use Rattle.tx_events.specs.Thread.{Thread, Lawful}
 use Rattle.tx_events.specs.Memory.{update, MemoryLayout, can_access, load, word_bound}
-use Rattle.tx_events.specs.Alone.{is_over, outcome, Inner, inner_load, inner_store, inner_by, leave, raise, newest, begin, BlockStep, Goes, Leaves, Halts, Never, Inside, at_start, goes_on}
-use Rattle.tx_events.specs.World.{Alive, alive, World, Step, Replays, EventStep, Joins, BlockEffect, target, goes, ends, SilentSteps, none, one_more, first_world, only_first}
+use Rattle.tx_events.specs.Alone.{is_over, outcome, Inner, inner_load, inner_store, inner_by, leave, raise, newest, begin, BlockStep, Goes, Leaves, Halts,
+  Never, Inside, at_start, goes_on}
+use Rattle.tx_events.specs.World.{Alive, alive, World, Step, Replays, EventStep, Joins, BlockEffect, target, goes, ends, SilentSteps, none, one_more,
+  first_world, only_first}
 use Rattle.tx_serial.specs.Machine.{Machine, Local, Tx, NoTx, OpenTx, GivingUp, Closing}
 use Rattle.tx_serial.specs.Turn.{Slot, bare, first_thread, turns, first_machine}
 use Rattle.tx_serial.specs.Shows.{ShowsTx, ShowsLocal, ShowsThread}
@@ -96,7 +101,8 @@ module _ {S : Type 0} (a : Thread S) (p : MemoryLayout) where
   rest_silents none g i = g
   rest_silents (one_more f e) g i = past_silent C e (rest_silents f g i) i
 
-  after_step : {i j k : Inner (S × Tally)} → inner_by C p i (C.next i.state) ≡ Goes j → From C p i k → is_over (inner_by C p k (C.next k.state)) ≡ true → From C p j k
+  after_step : {i j k : Inner (S × Tally)} → inner_by C p i (C.next i.state) ≡ Goes j → From C p i k → is_over (inner_by C p k (C.next k.state)) ≡ true
+      → From C p j k
   after_step e at g = absurd (false≢true (sym (ap is_over e) ∙ g))
   after_step {i} {j} {k} e (then {k = x} e' f) g = subst (λ z. From C p z k) (ap (inner_or C p i) (sym e' ∙ e)) f
 
@@ -110,12 +116,14 @@ module _ {S : Type 0} (a : Thread S) (p : MemoryLayout) where
 
   module _ (w : World (S × Tally)) where
     -- before the step's last event
-    top_before : (t : ℕ) (r : S × Tally) (e : Event) (v : World (S × Tally)) (d : EventStep C p t w r e v) → suc (turns_for r.1) ≤ turns_for (tally_at a p t w r e v d)
+    top_before : (t : ℕ) (r : S × Tally) (e : Event) (v : World (S × Tally)) (d : EventStep C p t w r e v)
+        → suc (turns_for r.1) ≤ turns_for (tally_at a p t w r e v d)
     top_before t r (BeginAtomic kind) v d = let le = from_le (inside_from C p d.1.run at) in omega (arith, le)
     top_before t r e v d = omega arith
 
     -- and within the block
-    top_within : (t : ℕ) (r : S × Tally) (e : Event) (v : World (S × Tally)) (d : EventStep C p t w r e v) → is_begin e ≡ true → (j : Inner (S × Tally)) → Inside C p (begin (C.after r Nothing) w.memory) j → suc (turns_for j.state.1) ≤ turns_for (tally_at a p t w r e v d)
+    top_within : (t : ℕ) (r : S × Tally) (e : Event) (v : World (S × Tally)) (d : EventStep C p t w r e v) → is_begin e ≡ true → (j : Inner (S × Tally))
+        → Inside C p (begin (C.after r Nothing) w.memory) j → suc (turns_for j.state.1) ≤ turns_for (tally_at a p t w r e v d)
     top_within t r (BeginAtomic kind) v d i j f = let le = from_le (rest_inside f (inside_from C p d.1.run at) d.1.over) in omega (arith, le)
     top_within t r e v d i j f = absurd (false≢true i)
 
@@ -148,8 +156,10 @@ module _ {S : Type 0} (a : Thread S) (p : MemoryLayout) where
       single_after r Silent v d i = absurd d
       single_after r EndAtomic v d i = absurd d
       single_after r (Raise kind can) v d i = absurd d
-      single_after r (Load addr size vol) v d i = single_to _ v d (single_cond (can_access p addr size) (goes 0 w (C.after r (Loaded (load w.memory addr size)))) (ends w (Trapped BadAddress)) (moved _) one)
-      single_after r (Store addr size value vol) v d i = single_to _ v d (single_cond (can_access p addr size) _ (ends w (Trapped BadAddress)) (moved (alive (C.after r Nothing))) one)
+      single_after r (Load addr size vol) v d i = single_to _ v d
+          (single_cond (can_access p addr size) (goes 0 w (C.after r (Loaded (load w.memory addr size)))) (ends w (Trapped BadAddress)) (moved _) one)
+      single_after r (Store addr size value vol) v d i = single_to _ v d
+          (single_cond (can_access p addr size) _ (ends w (Trapped BadAddress)) (moved (alive (C.after r Nothing))) one)
       single_after r (Out c) v d i = single_to _ v d (moved _)
       single_after r Inp v d i = single_to _ v d (moved _)
       single_after r (Spawn g x) v d i = absurd (true≢false i)
@@ -161,7 +171,8 @@ module _ {S : Type 0} (a : Thread S) (p : MemoryLayout) where
       single_after r (BeginAtomic kind) v d i = single_lands (outcome d.1) v d.2
 
       only_zero : (t : ℕ) (v : World (S × Tally)) → Step C p t w v → t ≡ 0
-      only_zero t v h = elim (t == 0) as (λ b. (t == 0) ≡ b → t ≡ 0) [ true ↦ λ e. eqb-true t 0 e | false ↦ λ d. let i = one t d in let j = h.is in absurd (cc) ] refl
+      only_zero t v h = elim (t == 0) as (λ b. (t == 0) ≡ b → t ≡ 0) [ true ↦ λ e. eqb-true t 0 e | false ↦ λ d. let i = one t d in let j = h.is in
+          absurd (cc) ] refl
 
   -- what is left of the whole run
   record Rest (steps accesses : ℕ) (w v : World (S × Tally)) : Type 0 where
@@ -173,21 +184,25 @@ module _ {S : Type 0} (a : Thread S) (p : MemoryLayout) where
   moved_rest : (steps accesses : ℕ) (w z v : World (S × Tally)) → w ≡ z → Rest steps accesses z v → Rest steps accesses w v
   moved_rest steps accesses w z v e r = subst (λ q. Rest steps accesses q v) (sym e) r
 
-  rest_of : (steps accesses : ℕ) (done : List ℕ) (w z v : World (S × Tally)) (e : End) → Replays C p w done z → Rest steps accesses w v → v.end ≡ Some e → Rest steps accesses z v
+  rest_of : (steps accesses : ℕ) (done : List ℕ) (w z v : World (S × Tally)) (e : End) → Replays C p w done z → Rest steps accesses w v → v.end ≡ Some e
+      → Rest steps accesses z v
   rest_of steps accesses [] w z v e h r f = moved_rest steps accesses z w v h r
   rest_of steps accesses (t ∷ done) w z v e h r f = by_order (λ w' h' r'. rest_of steps accesses done w' z v e h' r' f) r.order r.replays r.at_most
     where
-      by_order : ((w' : World (S × Tally)) → Replays C p w' done z → Rest steps accesses w' v → Rest steps accesses z v) → (order : List ℕ) (g : Replays C p w order v) → AtMost a p steps accesses w order v g → Rest steps accesses z v
+      by_order : ((w' : World (S × Tally)) → Replays C p w' done z → Rest steps accesses w' v → Rest steps accesses z v)
+          → (order : List ℕ) (g : Replays C p w order v) → AtMost a p steps accesses w order v g → Rest steps accesses z v
       by_order more [] g k = let i = h.1.going in let j = ap (λ q. q.end) g in absurd (cc)
       by_order more (u ∷ order) g k =
           let t0 = only_zero w r.one t h.0 h.1 in
           let u0 = only_zero w r.one u g.0 g.1 in
           let same = same_step C p u w h.0 g.0 (subst (λ q. Step C p q w h.0) (t0 ∙ sym u0) h.1) g.1 in
-          let one' = single_after w r.one g.1.before (C.next g.1.before) g.0 (subst (λ q. EventStep C p q w g.1.before (C.next g.1.before) g.0) u0 g.1.does) k.0 in
+          let one' = single_after w r.one g.1.before (C.next g.1.before) g.0
+              (subst (λ q. EventStep C p q w g.1.before (C.next g.1.before) g.0) u0 g.1.does) k.0 in
           more g.0 (subst (λ q. Replays C p q done z) same h.2) (record { order = order; replays = g.2; at_most = k.3; one = one' })
 
   -- where the replay has come to its end, it is that of the whole run
-  same_end : (done : List ℕ) (steps accesses : ℕ) (w z v : World (S × Tally)) (e : End) → Replays C p w done z → Rest steps accesses w v → v.end ≡ Some e → (f : End) → z.end ≡ Some f → z ≡ v
+  same_end : (done : List ℕ) (steps accesses : ℕ) (w z v : World (S × Tally)) (e : End) → Replays C p w done z → Rest steps accesses w v → v.end ≡ Some e
+      → (f : End) → z.end ≡ Some f → z ≡ v
   same_end done steps accesses w z v e h r i f j = by_rest (rest_of steps accesses done w z v e h r i)
     where
       by_rest : Rest steps accesses z v → z ≡ v
@@ -199,18 +214,22 @@ module _ {S : Type 0} (a : Thread S) (p : MemoryLayout) where
 
   -- the thread that has come so far in the machine has run less than the whole, and where it has no transaction it does
   -- not spawn next
-  less : (steps accesses : ℕ) (m : Machine (S × Tally)) (w v : World (S × Tally)) (l : Local (S × Tally)) (e : End) → Agrees C p m w → m.end ≡ None → m.threads 0 ≡ Some l → Rest steps accesses w v → v.end ≡ Some e
+  less : (steps accesses : ℕ) (m : Machine (S × Tally)) (w v : World (S × Tally)) (l : Local (S × Tally)) (e : End) → Agrees C p m w → m.end ≡ None
+      → m.threads 0 ≡ Some l → Rest steps accesses w v → v.end ≡ Some e
       → (l.ended ≡ false) × (is_giving l.tx ≡ false → suc (turns_for l.state.1) ≤ steps + 2 * accesses) × (l.tx ≡ NoTx → is_spawn (a.next l.state.0) ≡ false)
   less steps accesses m w v l e shows goes is r f = by_order r.order r.replays r.at_most
     where
-      by_order : (order : List ℕ) (g : Replays C p w order v) → AtMost a p steps accesses w order v g → (l.ended ≡ false) × (is_giving l.tx ≡ false → suc (turns_for l.state.1) ≤ steps + 2 * accesses) × (l.tx ≡ NoTx → is_spawn (a.next l.state.0) ≡ false)
+      by_order : (order : List ℕ) (g : Replays C p w order v) → AtMost a p steps accesses w order v g
+          → (l.ended ≡ false) × (is_giving l.tx ≡ false → suc (turns_for l.state.1) ≤ steps + 2 * accesses)
+          × (l.tx ≡ NoTx → is_spawn (a.next l.state.0) ≡ false)
       by_order [] g k = let i = shows.end in let j = ap (λ q. q.end) g in absurd (cc)
       by_order (u ∷ order) g k =
           let u0 = only_zero w r.one u g.0 g.1 in
           let s = g.1 in
           let there : w.threads 0 ≡ alive s.from = ap w.threads (sym u0) ∙ s.is in
           let live : ShowsLocal C p m.memory w.memory l (record { state = s.from; ended = false }) =
-          subst (λ o. ShowsThread C p m.memory w.memory (Some l) o) there (subst (λ o. ShowsThread C p m.memory w.memory o (w.threads 0)) is ((shows.going goes).shown 0)) in
+          subst (λ o. ShowsThread C p m.memory w.memory (Some l) o) there
+              (subst (λ o. ShowsThread C p m.memory w.memory o (w.threads 0)) is ((shows.going goes).shown 0)) in
           (sym live.ended, by_tx l.tx live.tx, λ none. not_spawn (subst (λ z. ShowsTx C p m.memory w.memory s.from l z) none live.tx).0)
         where
           heard : is_silent (C.next g.1.before) ≡ false
@@ -229,9 +248,11 @@ module _ {S : Type 0} (a : Thread S) (p : MemoryLayout) where
           by_tx (Closing b) h c = out_of h
           by_tx (GivingUp b kk ss) h c = absurd (true≢false c)
           by_tx (OpenTx b kk ss) h c =
-              let same : h.began.before ≡ g.1.before = same_before C p g.1.from h.began.before g.1.before h.began.silents g.1.silents (ap is_silent h.began.begins) heard in
+              let same : h.began.before ≡ g.1.before = same_before C p g.1.from h.began.before g.1.before h.began.silents g.1.silents
+                  (ap is_silent h.began.begins) heard in
               let starts : is_begin (C.next g.1.before) ≡ true = begins h.began.kind (ap C.next (sym same) ∙ h.began.begins) in
-              let run : Inside C p (begin (C.after g.1.before Nothing) w.memory) h.inner = subst (λ z. Inside C p (begin z w.memory) h.inner) (h.began.kept_is ∙ ap (λ z. C.after z Nothing) same) h.run in
+              let run : Inside C p (begin (C.after g.1.before Nothing) w.memory) h.inner = subst (λ z. Inside C p (begin z w.memory) h.inner)
+                  (h.began.kept_is ∙ ap (λ z. C.after z Nothing) same) h.run in
               let top = top_within w u g.1.before (C.next g.1.before) g.0 g.1.does starts h.inner run in
               let most = k.1 in
               let few = k.2 in
@@ -243,9 +264,14 @@ module _ {S : Type 0} (a : Thread S) (p : MemoryLayout) where
 
           -- a spawn that is next is the whole run's next step
           not_spawn : SilentSteps C g.1.from l.state → is_spawn (a.next l.state.0) ≡ false
-          not_spawn z = not_true (is_spawn (a.next l.state.0)) (λ spawns. true≢false (sym spawns ∙ (ap (λ q. is_spawn (C.next q)) (same_before C p g.1.from l.state g.1.before z g.1.silents (spawn_loud (a.next l.state.0) spawns) heard) ∙ k.0)))
+          not_spawn z = not_true (is_spawn (a.next l.state.0))
+              (λ spawns. true≢false
+              (sym spawns
+              ∙ (ap (λ q. is_spawn (C.next q)) (same_before C p g.1.from l.state g.1.before z g.1.silents (spawn_loud (a.next l.state.0) spawns) heard)
+              ∙ k.0)))
 
-module _ {S : Type 0} (R : S → Type 0) (a : Thread S) (laws : Lawful S R a) (p : MemoryLayout) (small : p.limit ≤ 64) (memory : ℕ → ℕ) (input : List ℕ) (main : S) (reached : R main) (free : a.blocks main ≡ []) where
+module _ {S : Type 0} (R : S → Type 0) (a : Thread S) (laws : Lawful S R a) (p : MemoryLayout) (small : p.limit ≤ THREAD_LIMIT) (memory : ℕ → ℕ)
+    (input : List ℕ) (main : S) (reached : R main) (free : a.blocks main ≡ []) where
   abbrev world0 : World (S × Tally)
   world0 = first_world memory input (main, no_tally)
 
@@ -269,12 +295,14 @@ module _ {S : Type 0} (R : S → Type 0) (a : Thread S) (laws : Lawful S R a) (p
   first_single (suc u) d = refl
 
   -- a whole run that spawns nothing, with at most so many instructions and accesses
-  module _ (steps accesses : ℕ) (order : List ℕ) (v : World (S × Tally)) (e : End) (h : Replays (tallied a) p world0 order v) (k : AtMost a p steps accesses world0 order v h) (f : v.end ≡ Some e) where
+  module _ (steps accesses : ℕ) (order : List ℕ) (v : World (S × Tally)) (e : End) (h : Replays (tallied a) p world0 order v)
+      (k : AtMost a p steps accesses world0 order v h) (f : v.end ≡ Some e) where
     whole : Rest a p steps accesses world0 v
     whole = record { order = order; replays = h; at_most = k; one = first_single }
 
     pub quiet : (m : Machine (S × Tally)) → Agreed (tallied a) p world0 m → Calm R a laws p small m
-    quiet m shown goes l is bare_now = (less a p steps accesses m shown.0 v l e shown.2 goes is (rest_of a p steps accesses m.order world0 shown.0 v e shown.1 whole f) f).2 bare_now
+    quiet m shown goes l is bare_now =
+        (less a p steps accesses m shown.0 v l e shown.2 goes is (rest_of a p steps accesses m.order world0 shown.0 v e shown.1 whole f) f).2 bare_now
 
     module _ (qs : List Slot) where
       abbrev pub last : Machine (S × Tally)
@@ -284,7 +312,10 @@ module _ {S : Type 0} (R : S → Type 0) (a : Thread S) (laws : Lawful S R a) (p
       shown = turns_kept (tallied a) p world0 qs machine0 (start_shown (tallied a) p memory input (main, no_tally))
 
       pub paid : last.end ≡ None → Paid R a laws p small last (zeros qs)
-      paid i = subst (λ n. Paid R a laws p small last n) (omega arith) (all_turns R a laws p small world0 quiet qs machine0 0 (start_sound (λ s. R s.0) (tallied a) (counted_laws R a laws p small) p small memory input (main, no_tally) reached free) (start_shown (tallied a) p memory input (main, no_tally)) (λ g. first_paid) i)
+      paid i = subst (λ n. Paid R a laws p small last n) (omega arith)
+          (all_turns R a laws p small world0 quiet qs machine0 0
+          (start_sound (λ s. R s.0) (tallied a) (counted_laws R a laws p small) p small memory input (main, no_tally) reached free)
+          (start_shown (tallied a) p memory input (main, no_tally)) (λ g. first_paid) i)
 
       -- with as many turns as the whole run needs, the thread that is alone has come to the same end
       pub turn_bound : steps + 2 * accesses ≤ zeros qs → (last.end ≡ Some e) × (last.out ≡ v.out)
@@ -296,7 +327,8 @@ module _ {S : Type 0} (R : S → Type 0) (a : Thread S) (laws : Lawful S R a) (p
               (sym shown.2.end ∙ (ap (λ q. q.end) same ∙ f), sym shown.2.out ∙ ap (λ q. q.out) same)
           by_end None i =
               let pd = paid i in
-              let far = less a p steps accesses last shown.0 v pd.now e shown.2 i pd.at (rest_of a p steps accesses last.order world0 shown.0 v e shown.1 whole f) f in
+              let far = less a p steps accesses last shown.0 v pd.now e shown.2 i pd.at
+                  (rest_of a p steps accesses last.order world0 shown.0 v e shown.1 whole f) f in
               let least = pd.paid far.0 in
               let most = far.1 pd.calm in
               absurd (omega (arith, least, most, many))

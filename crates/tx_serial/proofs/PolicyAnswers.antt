@@ -6,7 +6,8 @@ use Rattle.tx_events.specs.declared.End.{End}
 use Rattle.tx_events.specs.declared.End.TheVariants.{Trapped}
 use Rattle.tx_events.specs.declared.Trap.TheVariants.{BadAddress}
 use Rattle.tx_events.specs.declared.Event.{Event}
-use Rattle.tx_events.specs.declared.Event.TheVariants.{Silent, Load, Store, Out, Inp, Spawn, Join, BeginAtomic, EndAtomic, Raise, BeginSync, EndSync, Done, Stop}
+use Rattle.tx_events.specs.declared.Event.TheVariants.{Silent, Load, Store, Out, Inp, Spawn, Join, BeginAtomic, EndAtomic, Raise, BeginSync, EndSync, Done,
+  Stop}
 use Rattle.tx_events.specs.Thread.{Thread}
 use Rattle.tx_events.specs.Memory.{MemoryLayout, can_access, word_of}
 use Rattle.tx_serial.specs.Machine.{Machine, Local, Tx, NoTx, OpenTx, GivingUp, Closing, Save, blocker, clash_of}
@@ -14,26 +15,36 @@ use Rattle.tx_serial.specs.Turn.{Turned, stays, halts, load_in, store_in, clashe
 use Rattle.tx_serial.specs.Kinds.{Accesses, GoesOn, Asked}
 use Rattle.tx_events.specs.declared.TurnKind.TheVariants.{Idle}
 
-module _ {S : Type 0} (a : Thread S) (p : MemoryLayout) (answer other : Clash → Choice) (t : ℕ) (m : Machine S) (same : (c : Clash) → Asked a p t m c → answer c ≡ other c) where
+module _ {S : Type 0} (a : Thread S) (p : MemoryLayout) (answer other : Clash → Choice) (t : ℕ) (m : Machine S)
+    (same : (c : Clash) → Asked a p t m c → answer c ≡ other c) where
   either : (b : Bool) (x y z : Turned S) → (b ≡ true → x ≡ y) → cond b x z ≡ cond b y z
   either true x y z f = f refl
   either false x y z f = refl
 
   module _ (l : Local S) (goes : GoesOn t m l) (b : ℕ) (k : S) (ss : List Save) (tx : l.tx ≡ OpenTx b k ss) where
-    said : (e : Event) (store : Bool) (x u : ℕ) → a.next l.state ≡ e → Accesses p e store x → blocker t store x m ≡ Some u → answer (clash_of t store x m b u) ≡ other (clash_of t store x m b u)
-    said e store x u i g found = same (clash_of t store x m b u) (record { local = l; goes = goes; birth = b; kept = k; saves = ss; tx = tx; store = store; word = x; holder = u; blocked = (subst (λ z. Accesses p z store x) (sym i) g, found); is = refl })
+    said : (e : Event) (store : Bool) (x u : ℕ) → a.next l.state ≡ e → Accesses p e store x → blocker t store x m ≡ Some u
+        → answer (clash_of t store x m b u) ≡ other (clash_of t store x m b u)
+    said e store x u i g found = same (clash_of t store x m b u)
+        (record { local = l; goes = goes; birth = b; kept = k; saves = ss; tx = tx; store = store; word = x; holder = u;
+        blocked = (subst (λ z. Accesses p z store x) (sym i) g, found); is = refl })
 
-    load_same : (addr size : ℕ) (vol : Bool) → a.next l.state ≡ Load addr size vol → can_access p addr size ≡ true → (o : Option ℕ) → blocker t false (word_of addr) m ≡ o → load_in a p answer t m l b k ss addr size o ≡ load_in a p other t m l b k ss addr size o
+    load_same : (addr size : ℕ) (vol : Bool) → a.next l.state ≡ Load addr size vol → can_access p addr size ≡ true → (o : Option ℕ)
+        → blocker t false (word_of addr) m ≡ o → load_in a p answer t m l b k ss addr size o ≡ load_in a p other t m l b k ss addr size o
     load_same addr size vol i ok None found = refl
-    load_same addr size vol i ok (Some u) found = ap (λ c. clashes p c t m l b k ss (word_of addr) u) (said (Load addr size vol) false (word_of addr) u i (ok, refl, refl) found)
+    load_same addr size vol i ok (Some u) found = ap (λ c. clashes p c t m l b k ss (word_of addr) u)
+        (said (Load addr size vol) false (word_of addr) u i (ok, refl, refl) found)
 
-    store_same : (addr size value : ℕ) (vol : Bool) → a.next l.state ≡ Store addr size value vol → can_access p addr size ≡ true → (o : Option ℕ) → blocker t true (word_of addr) m ≡ o → store_in a p answer t m l b k ss addr size value o ≡ store_in a p other t m l b k ss addr size value o
+    store_same : (addr size value : ℕ) (vol : Bool) → a.next l.state ≡ Store addr size value vol → can_access p addr size ≡ true → (o : Option ℕ)
+        → blocker t true (word_of addr) m ≡ o → store_in a p answer t m l b k ss addr size value o ≡ store_in a p other t m l b k ss addr size value o
     store_same addr size value vol i ok None found = refl
-    store_same addr size value vol i ok (Some u) found = ap (λ c. clashes p c t m l b k ss (word_of addr) u) (said (Store addr size value vol) true (word_of addr) u i (ok, refl, refl) found)
+    store_same addr size value vol i ok (Some u) found = ap (λ c. clashes p c t m l b k ss (word_of addr) u)
+        (said (Store addr size value vol) true (word_of addr) u i (ok, refl, refl) found)
 
     in_same : (e : Event) → a.next l.state ≡ e → in_does a p answer t m l b k ss e ≡ in_does a p other t m l b k ss e
-    in_same (Load addr size vol) i = either (can_access p addr size) _ _ (halts t m (Trapped BadAddress)) (λ ok. load_same addr size vol i ok (blocker t false (word_of addr) m) refl)
-    in_same (Store addr size value vol) i = either (can_access p addr size) _ _ (halts t m (Trapped BadAddress)) (λ ok. store_same addr size value vol i ok (blocker t true (word_of addr) m) refl)
+    in_same (Load addr size vol) i = either (can_access p addr size) _ _ (halts t m (Trapped BadAddress))
+        (λ ok. load_same addr size vol i ok (blocker t false (word_of addr) m) refl)
+    in_same (Store addr size value vol) i = either (can_access p addr size) _ _ (halts t m (Trapped BadAddress))
+        (λ ok. store_same addr size value vol i ok (blocker t true (word_of addr) m) refl)
     in_same Silent i = refl
     in_same (Out c) i = refl
     in_same Inp i = refl
@@ -56,7 +67,8 @@ module _ {S : Type 0} (a : Thread S) (p : MemoryLayout) (answer other : Clash �
   pub turn_same : turn a p answer t m ≡ turn a p other t m
   turn_same = by_end m.end refl
     where
-      by_up : (l : Local S) → m.end ≡ None → m.threads t ≡ Some l → (up : Bool) → l.ended ≡ up → cond up (stays Idle m) (turn_in a p answer t m l l.tx) ≡ cond up (stays Idle m) (turn_in a p other t m l l.tx)
+      by_up : (l : Local S) → m.end ≡ None → m.threads t ≡ Some l → (up : Bool) → l.ended ≡ up
+          → cond up (stays Idle m) (turn_in a p answer t m l l.tx) ≡ cond up (stays Idle m) (turn_in a p other t m l l.tx)
       by_up l e i true j = refl
       by_up l e i false j = tx_same l (record { going = e; is = i; up = j }) l.tx refl
 

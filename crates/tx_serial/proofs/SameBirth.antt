@@ -9,13 +9,16 @@ use Rattle.tx_events.specs.declared.End.{End}
 use Rattle.tx_events.specs.declared.BlockKind.{BlockKind}
 use Rattle.tx_events.specs.declared.BlockKind.TheVariants.{NoExcept, Commit, Cancel}
 use Rattle.tx_events.specs.declared.Event.{Event}
-use Rattle.tx_events.specs.declared.Event.TheVariants.{Silent, Load, Store, Out, Inp, Spawn, Join, BeginAtomic, EndAtomic, Raise, BeginSync, EndSync, Done, Stop}
+use Rattle.tx_events.specs.declared.Event.TheVariants.{Silent, Load, Store, Out, Inp, Spawn, Join, BeginAtomic, EndAtomic, Raise, BeginSync, EndSync, Done,
+  Stop}
 use Rattle.tx_events.specs.declared.Reply.TheVariants.{Nothing, Id}
 use Rattle.tx_events.specs.Thread.{Thread}
 use Rattle.tx_events.specs.Memory.{update, MemoryLayout, can_access, word_of, word_bound}
 use Rattle.tx_events.specs.World.{target}
-use Rattle.tx_serial.specs.Machine.{Machine, Local, Tx, NoTx, OpenTx, GivingUp, Closing, Save, is_noted, birth, birth_of, has_tx, tx_in, least, blocker, lock_owner, busy, clash_of}
-use Rattle.tx_serial.specs.Turn.{Turned, bare, gives_up, clashes, load_in, store_in, load_out, store_out, joins, begins, sync_in, sync_idle, closes, outermost, commits, cancels_by, cancels, raises, in_does, out_does, without, lets_go, given_back, gives_back, turn_in, turn_of, turn_at, turn}
+use Rattle.tx_serial.specs.Machine.{Machine, Local, Tx, NoTx, OpenTx, GivingUp, Closing, Save, is_noted, birth, birth_of, has_tx, tx_in, least, blocker,
+  lock_owner, busy, clash_of}
+use Rattle.tx_serial.specs.Turn.{Turned, bare, gives_up, clashes, load_in, store_in, load_out, store_out, joins, begins, sync_in, sync_idle, closes, outermost,
+  commits, cancels_by, cancels, raises, in_does, out_does, without, lets_go, given_back, gives_back, turn_in, turn_of, turn_at, turn}
 use Rattle.tx_serial.proofs.UntouchedThreads.{at_update}
 
 module _ {S : Type 0} (a : Thread S) (p : MemoryLayout) (t : ℕ) (m : Machine S) (l : Local S) (is : m.threads t ≡ Some l) where
@@ -69,9 +72,11 @@ module _ {S : Type 0} (a : Thread S) (p : MemoryLayout) (t : ℕ) (m : Machine S
     join_same id (Some u) = either u.ended _ _ (new _) still
 
     spawn_same : (c : S) (l' : Local S) → SameBirth (update (update m.threads m.started (Some (bare c))) t (Some l'))
-    spawn_same c l' u = at_update a p (λ o. tx_in (m.threads u) ≡ true → tx_in o ≡ true → birth_of o ≡ birth_of (m.threads u)) (update m.threads m.started (Some (bare c))) t u (Some l')
+    spawn_same c l' u = at_update a p (λ o. tx_in (m.threads u) ≡ true → tx_in o ≡ true → birth_of o ≡ birth_of (m.threads u))
+        (update m.threads m.started (Some (bare c))) t u (Some l')
         (λ e i j. let same : m.threads u ≡ Some l = ap m.threads (eqb-true u t e) ∙ is in absurd (false≢true (sym (ap has_tx tx) ∙ (sym (ap tx_in same) ∙ i))))
-        (λ d. at_update a p (λ o. tx_in (m.threads u) ≡ true → tx_in o ≡ true → birth_of o ≡ birth_of (m.threads u)) m.threads m.started u (Some (bare c)) (λ e i j. absurd (false≢true j)) (λ e i j. refl))
+        (λ d. at_update a p (λ o. tx_in (m.threads u) ≡ true → tx_in o ≡ true → birth_of o ≡ birth_of (m.threads u)) m.threads m.started u (Some (bare c))
+            (λ e i j. absurd (false≢true j)) (λ e i j. refl))
 
     out_same : (e : Event) → Same (out_does a p t m l e)
     out_same Silent = new _
@@ -82,7 +87,8 @@ module _ {S : Type 0} (a : Thread S) (p : MemoryLayout) (t : ℕ) (m : Machine S
     out_same (Raise kind can) = still
     out_same BeginSync = sync_same (lock_owner t m.lock.holder)
     out_same EndSync = new _
-    out_same (Spawn f x) = either (nat_lt m.started p.limit) _ _ (spawn_same (a.child l.state m.started f x) (record l { state = a.after l.state (Id (pos m.started)) })) still
+    out_same (Spawn f x) = either (nat_lt m.started p.limit) _ _
+        (spawn_same (a.child l.state m.started f x) (record l { state = a.after l.state (Id (pos m.started)) })) still
     out_same (Join id) = join_same id (target t id m.threads)
     out_same (Out c) = new _
     out_same Inp = new _
@@ -146,7 +152,8 @@ module _ {S : Type 0} (a : Thread S) (p : MemoryLayout) (t : ℕ) (m : Machine S
     in_same : (answer : Clash → Choice) (e : Event) → Same (in_does a p answer t m l b kk ss e)
     in_same answer Silent = in_tx _ refl
     in_same answer (Load addr size vol) = either (can_access p addr size) _ _ (load_in_same answer addr size (blocker t false (word_of addr) m)) still
-    in_same answer (Store addr size value vol) = either (can_access p addr size) _ _ (store_in_same answer addr size value (blocker t true (word_of addr) m)) still
+    in_same answer (Store addr size value vol) = either (can_access p addr size) _ _
+        (store_in_same answer addr size value (blocker t true (word_of addr) m)) still
     in_same answer (BeginAtomic kind) = in_tx _ refl
     in_same answer EndAtomic = commits_same (a.after l.state Nothing) ss
     in_same answer (Raise kind can) = raises_same (a.after l.state Nothing) kind can
@@ -165,7 +172,8 @@ module _ {S : Type 0} (a : Thread S) (p : MemoryLayout) (t : ℕ) (m : Machine S
 
   back_same : (b : ℕ) (kk : S) (ss : List Save) → l.tx ≡ GivingUp b kk ss → (o : Option ℕ) → Same (gives_back p t m l b kk ss o)
   back_same b kk ss tx None = still
-  back_same b kk ss tx (Some x) = let rest = least (without l.held x) (word_bound p) in to (given_back l b kk ss x rest) (λ i j. back_birth b kk ss x rest ∙ sym (ap birth tx))
+  back_same b kk ss tx (Some x) = let rest = least (without l.held x) (word_bound p) in
+      to (given_back l b kk ss x rest) (λ i j. back_birth b kk ss x rest ∙ sym (ap birth tx))
 
   go_same : (b : ℕ) → l.tx ≡ Closing b → (o : Option ℕ) → Same (lets_go p t m l b o)
   go_same b tx None = still
@@ -191,5 +199,6 @@ module _ {S : Type 0} (a : Thread S) (p : MemoryLayout) (answer : Clash → Choi
   by_end (Some e) = λ u j k. refl
   by_end None = by_thread (m.threads t) refl
 
-  pub same_birth : (u : ℕ) → tx_in (m.threads u) ≡ true → tx_in ((turn a p answer t m).machine.threads u) ≡ true → birth_of ((turn a p answer t m).machine.threads u) ≡ birth_of (m.threads u)
+  pub same_birth : (u : ℕ) → tx_in (m.threads u) ≡ true → tx_in ((turn a p answer t m).machine.threads u) ≡ true
+      → birth_of ((turn a p answer t m).machine.threads u) ≡ birth_of (m.threads u)
   same_birth = by_end m.end

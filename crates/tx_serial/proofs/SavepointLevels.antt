@@ -22,7 +22,8 @@ levels_both m n x v [] [] (d ∷ ds) e b f = absurd b
 levels_both m n x v [] (c ∷ cs) ds e b f = absurd f
 levels_both m n x v (s ∷ ss) [] ds e b f = absurd f
 levels_both m n x v (s ∷ ss) (c ∷ cs) [] e b f = absurd b
-levels_both m n x v (s ∷ ss) (c ∷ cs) (d ∷ ds) e b f = (sym (b.0 x e) ∙ f.0, subst (λ y. LevelsAt x y ss ds) (b.0 x e) (levels_both m n x (c x) ss cs ds e b.1 f.1))
+levels_both m n x v (s ∷ ss) (c ∷ cs) (d ∷ ds) e b f = (sym (b.0 x e) ∙ f.0,
+    subst (λ y. LevelsAt x y ss ds) (b.0 x e) (levels_both m n x (c x) ss cs ds e b.1 f.1))
 
 -- at a word that is the same everywhere
 pub levels_new : (x v : ℕ) (ss : List Save) (cs : List (ℕ → ℕ)) → Even ss cs → AllAt x v cs → NoneAt x ss → LevelsAt x v ss cs
@@ -68,7 +69,8 @@ none_note_else y x w [] d h = tt
 none_note_else y x w (s ∷ ss) d h = (update_elsewhere s x (Some (kept_or (s x) w)) y d ∙ h.0, h.1)
 
 -- notes handed down
-pub levels_hand : (x v : ℕ) (n o : Save) (ss : List Save) (c d : ℕ → ℕ) (cs : List (ℕ → ℕ)) → LevelsAt x v (n ∷ o ∷ ss) (c ∷ d ∷ cs) → LevelsAt x v (hand n o ∷ ss) (d ∷ cs)
+pub levels_hand : (x v : ℕ) (n o : Save) (ss : List Save) (c d : ℕ → ℕ) (cs : List (ℕ → ℕ)) → LevelsAt x v (n ∷ o ∷ ss) (c ∷ d ∷ cs)
+    → LevelsAt x v (hand n o ∷ ss) (d ∷ cs)
 levels_hand x v n o ss c d cs f = (f.1.0 ∙ (ap (kept_or (o x)) f.0 ∙ kept_twice (o x) (n x) v), f.1.1)
 
 pub none_hand : (x : ℕ) (n o : Save) (ss : List Save) → NoneAt x (n ∷ o ∷ ss) → NoneAt x (hand n o ∷ ss)
@@ -79,7 +81,8 @@ pub levels_forget : (x v : ℕ) (n : Save) (ss : List Save) (cs : List (ℕ → 
 levels_forget x v n ss [] f = absurd f
 levels_forget x v n ss (c ∷ cs) f = (f.0 ∙ ap (λ o. kept_or o (kept_or (n x) v)) (sym (update_same n x None)), f.1)
 
-pub levels_forget_else : (y x v : ℕ) (n : Save) (ss : List Save) (cs : List (ℕ → ℕ)) → (y == x) ≡ false → LevelsAt y v (n ∷ ss) cs → LevelsAt y v (forget n x ∷ ss) cs
+pub levels_forget_else : (y x v : ℕ) (n : Save) (ss : List Save) (cs : List (ℕ → ℕ)) → (y == x) ≡ false → LevelsAt y v (n ∷ ss) cs
+    → LevelsAt y v (forget n x ∷ ss) cs
 levels_forget_else y x v n ss [] d f = absurd f
 levels_forget_else y x v n ss (c ∷ cs) d f = (f.0 ∙ ap (λ o. kept_or o v) (sym (update_elsewhere n x None y d)), f.1)
 
@@ -100,5 +103,6 @@ oldest_forget x [] = refl
 oldest_forget x (s ∷ ss) = ap (λ o. or_else o (forget s x x)) (oldest_forget x ss) ∙ update_same s x None
 
 -- a savepoint without notes is dropped
-pub levels_pop : (x v : ℕ) (n : Save) (ss : List Save) (c : ℕ → ℕ) (cs : List (ℕ → ℕ)) → n x ≡ None → LevelsAt x v (n ∷ ss) (c ∷ cs) → (c x ≡ v) × LevelsAt x v ss cs
+pub levels_pop : (x v : ℕ) (n : Save) (ss : List Save) (c : ℕ → ℕ) (cs : List (ℕ → ℕ)) → n x ≡ None → LevelsAt x v (n ∷ ss) (c ∷ cs)
+    → (c x ≡ v) × LevelsAt x v ss cs
 levels_pop x v n ss c cs h f = let e = f.0 ∙ ap (λ o. kept_or o v) h in (e, subst (λ y. LevelsAt x y ss cs) e f.1)

@@ -34,9 +34,12 @@ eldest_some p f (suc n) x e = elim (p n) as (λ b. p n ≡ b → cond b (elder f
 
 elder_le : (f : ℕ → ℕ) (n u : ℕ) (o : Option ℕ) → elder f n o ≡ Some u → (f u ≤ f n) × ((y : ℕ) → o ≡ Some y → f u ≤ f y)
 elder_le f n u None e = let i : n ≡ u = cc in (let j = ap f i in omega (arith, j), λ y g. absurd (cc))
-elder_le f n u (Some k) e = elim (nat_lt (f n) (f k)) as (λ b. nat_lt (f n) (f k) ≡ b → cond b (Some n) (Some k) ≡ Some u → (f u ≤ f n) × ((y : ℕ) → Some k ≡ Some y → f u ≤ f y)) [
-  | true ↦ λ q g. let i : n ≡ u = cc in let j = ap f i in let r = ltb-true (f n) (f k) q in (omega (arith, j), λ y h. let z : k ≡ y = cc in let zz = ap f z in omega (arith, j, r, zz))
-  | false ↦ λ q g. let i : k ≡ u = cc in let j = ap f i in let r = ltb-false (f n) (f k) q in (omega (arith, j, r), λ y h. let z : k ≡ y = cc in let zz = ap f z in omega (arith, j, zz))
+elder_le f n u (Some k) e = elim (nat_lt (f n) (f k)) as
+    (λ b. nat_lt (f n) (f k) ≡ b → cond b (Some n) (Some k) ≡ Some u → (f u ≤ f n) × ((y : ℕ) → Some k ≡ Some y → f u ≤ f y)) [
+  | true ↦ λ q g. let i : n ≡ u = cc in let j = ap f i in let r = ltb-true (f n) (f k) q in
+      (omega (arith, j), λ y h. let z : k ≡ y = cc in let zz = ap f z in omega (arith, j, r, zz))
+  | false ↦ λ q g. let i : k ≡ u = cc in let j = ap f i in let r = ltb-false (f n) (f k) q in
+      (omega (arith, j, r), λ y h. let z : k ≡ y = cc in let zz = ap f z in omega (arith, j, zz))
 ] refl e
 
 -- none is elder than the eldest
@@ -45,7 +48,8 @@ eldest_le p f zero u e v h i = absurd (omega (arith, h))
 eldest_le p f (suc n) u e v h i = elim (p n) as (λ b. p n ≡ b → cond b (elder f n (eldest p f n)) (eldest p f n) ≡ Some u → f u ≤ f v) [
   | true ↦ λ q g. elim (v == n) as (λ b. (v == n) ≡ b → f u ≤ f v) [
     | true ↦ λ s. let j = ap f (eqb-true v n s) in let r = (elder_le f n u (eldest p f n) g).0 in omega (arith, j, r)
-    | false ↦ λ s. let d = eqb-false v n s in let less : v < n = omega (arith, h, d) in by_rest g less (λ y r. eldest_le p f n y r v less i) (eldest p f n) refl
+    | false ↦ λ s. let d = eqb-false v n s in let less : v < n = omega (arith, h, d) in
+        by_rest g less (λ y r. eldest_le p f n y r v less i) (eldest p f n) refl
   ] refl
   | false ↦ λ q g. elim (v == n) as (λ b. (v == n) ≡ b → f u ≤ f v) [
     | true ↦ λ s. absurd (true≢false (sym i ∙ (ap p (eqb-true v n s) ∙ q)))

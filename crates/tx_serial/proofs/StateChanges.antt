@@ -8,7 +8,8 @@ use Rattle.tx_events.specs.declared.Trap.TheVariants.{BadAddress, TooManyThreads
 use Rattle.tx_events.specs.declared.BlockKind.{BlockKind}
 use Rattle.tx_events.specs.declared.BlockKind.TheVariants.{NoExcept, Commit, Cancel}
 use Rattle.tx_events.specs.declared.Event.{Event}
-use Rattle.tx_events.specs.declared.Event.TheVariants.{Silent, Load, Store, Out, Inp, Spawn, Join, BeginAtomic, EndAtomic, Raise, BeginSync, EndSync, Done, Stop}
+use Rattle.tx_events.specs.declared.Event.TheVariants.{Silent, Load, Store, Out, Inp, Spawn, Join, BeginAtomic, EndAtomic, Raise, BeginSync, EndSync, Done,
+  Stop}
 use Rattle.tx_events.specs.declared.Reply.{Reply}
 use Rattle.tx_events.specs.declared.Reply.TheVariants.{Nothing, Loaded, Byte, Id}
 use Rattle.tx_events.specs.declared.TurnKind.{TurnKind}
@@ -19,8 +20,10 @@ use Rattle.choosers.specs.declared.Choice.TheVariants.{Wait, Yield}
 use Rattle.tx_events.specs.Thread.{Thread}
 use Rattle.tx_events.specs.Memory.{update, MemoryLayout, can_access, word_of, word_bound, load}
 use Rattle.tx_events.specs.World.{target, byte_of}
-use Rattle.tx_serial.specs.Machine.{Machine, Local, Tx, NoTx, OpenTx, GivingUp, Closing, Save, no_save, lock_owner, clash_of, hand, note, forget, blocker, busy, least, is_noted}
-use Rattle.tx_serial.specs.Turn.{Turned, number_of, bare, clashes, gives_up, closes, without, halts, load_in, store_in, load_out, store_out, joins, begins, sync_in, sync_idle, outermost, commits, cancels_by, cancels, raises, in_does, out_does, lets_go, turn_in, turn_of, turn_at, turn}
+use Rattle.tx_serial.specs.Machine.{Machine, Local, Tx, NoTx, OpenTx, GivingUp, Closing, Save, no_save, lock_owner, clash_of, hand, note, forget, blocker,
+  busy, least, is_noted}
+use Rattle.tx_serial.specs.Turn.{Turned, number_of, bare, clashes, gives_up, closes, without, halts, load_in, store_in, load_out, store_out, joins, begins,
+  sync_in, sync_idle, outermost, commits, cancels_by, cancels, raises, in_does, out_does, lets_go, turn_in, turn_of, turn_at, turn}
 use Rattle.tx_serial.specs.Bound.{is_waiting}
 use Rattle.tx_serial.proofs.PendingWork.{is_giving}
 use Rattle.tx_events.proofs.BlockRuns.{update_same}
@@ -45,7 +48,8 @@ module _ {S : Type 0} (a : Thread S) (p : MemoryLayout) (t : ℕ) (m : Machine S
   abbrev pub Moves : Turned S → Type 0
   Moves r = r.machine.end ≡ None → Moved r.kind (r.machine.threads t)
 
-  to : (kind : TurnKind) (l' : Local S) → ByKind kind l'.state → (is_waiting kind ≡ false → is_giving l'.tx ≡ false) → Moved kind (update m.threads t (Some l') t)
+  to : (kind : TurnKind) (l' : Local S) → ByKind kind l'.state → (is_waiting kind ≡ false → is_giving l'.tx ≡ false)
+      → Moved kind (update m.threads t (Some l') t)
   to kind l' s g = record { now = l'; at = update_same m.threads t (Some l'); state = s; giving = g }
 
   still : (kind : TurnKind) → ByKind kind l.state → Moved kind (m.threads t)
@@ -83,19 +87,24 @@ module _ {S : Type 0} (a : Thread S) (p : MemoryLayout) (t : ℕ) (m : Machine S
 
   begin_moves : (o : Option ℕ) → Moves (begins t m l (a.after l.state Nothing) o)
   begin_moves (Some u) = λ h. still (BlockWait u) refl
-  begin_moves None = λ h. to Ran (record l { state = a.after l.state Nothing; tx = OpenTx m.births (a.after l.state Nothing) (no_save ∷ []) }) (Nothing, refl) (λ w. refl)
+  begin_moves None = λ h. to Ran (record l { state = a.after l.state Nothing; tx = OpenTx m.births (a.after l.state Nothing) (no_save ∷ []) }) (Nothing, refl)
+      (λ w. refl)
 
   out_moves : (e : Event) → Moves (out_does a p t m l e)
   out_moves Silent = λ h. plain Nothing l.ended
-  out_moves (Load addr size vol) = either (can_access p addr size) _ _ (load_out_moves addr size (blocker t false (word_of addr) m)) (over (Trapped BadAddress))
-  out_moves (Store addr size value vol) = either (can_access p addr size) _ _ (store_out_moves addr size value (blocker t true (word_of addr) m)) (over (Trapped BadAddress))
+  out_moves (Load addr size vol) = either (can_access p addr size) _ _ (load_out_moves addr size (blocker t false (word_of addr) m))
+      (over (Trapped BadAddress))
+  out_moves (Store addr size value vol) = either (can_access p addr size) _ _ (store_out_moves addr size value (blocker t true (word_of addr) m))
+      (over (Trapped BadAddress))
   out_moves (BeginAtomic kind) = begin_moves (lock_owner t m.lock.holder)
   out_moves EndAtomic = λ h. still Idle refl
   out_moves (Raise kind can) = λ h. still Idle refl
   out_moves BeginSync = sync_moves (lock_owner t m.lock.holder)
   out_moves EndSync = λ h. plain Nothing l.ended
   out_moves (Spawn g x) = either (nat_lt m.started p.limit) _ _
-      (λ h. record { now = record l { state = a.after l.state (Id (pos m.started)) }; at = update_same (update m.threads m.started (Some (bare (a.child l.state m.started g x)))) t (Some (record l { state = a.after l.state (Id (pos m.started)) })); state = (Id (pos m.started), refl); giving = λ w. calm })
+      (λ h. record { now = record l { state = a.after l.state (Id (pos m.started)) };
+          at = update_same (update m.threads m.started (Some (bare (a.child l.state m.started g x)))) t
+          (Some (record l { state = a.after l.state (Id (pos m.started)) })); state = (Id (pos m.started), refl); giving = λ w. calm })
       (over (Trapped TooManyThreads))
   out_moves (Join id) = join_moves id (target t id m.threads)
   out_moves (Out c) = λ h. plain Nothing l.ended
@@ -109,7 +118,8 @@ module _ {S : Type 0} (a : Thread S) (p : MemoryLayout) (t : ℕ) (m : Machine S
 
   module _ (b : ℕ) (kk : S) (ss : List Save) where
     -- another reply, with these savepoints
-    inner : (r : Reply) (z : Tx S) (held wrote : ℕ → Bool) → is_giving z ≡ false → Moved Ran (update m.threads t (Some (record l { state = a.after l.state r; held = held; wrote = wrote; tx = z })) t)
+    inner : (r : Reply) (z : Tx S) (held wrote : ℕ → Bool) → is_giving z ≡ false
+        → Moved Ran (update m.threads t (Some (record l { state = a.after l.state r; held = held; wrote = wrote; tx = z })) t)
     inner r z held wrote g = to Ran (record l { state = a.after l.state r; held = held; wrote = wrote; tx = z }) (r, refl) (λ w. g)
 
     same_gives : (o : Option ℕ) → (x u : ℕ) → Moved (Rolled x u) (update m.threads t (Some (gives_up l b kk ss o)) t)
@@ -125,7 +135,8 @@ module _ {S : Type 0} (a : Thread S) (p : MemoryLayout) (t : ℕ) (m : Machine S
 
     store_in_moves : (answer : Clash → Choice) (addr size value : ℕ) (o : Option ℕ) → Moves (store_in a p answer t m l b kk ss addr size value o)
     store_in_moves answer addr size value (Some u) = clash_moves (answer (clash_of t true (word_of addr) m b u)) (word_of addr) u
-    store_in_moves answer addr size value None = λ h. inner Nothing (OpenTx b kk (note ss (word_of addr) (m.memory (word_of addr)))) (update l.held (word_of addr) true) (update l.wrote (word_of addr) true) refl
+    store_in_moves answer addr size value None = λ h. inner Nothing (OpenTx b kk (note ss (word_of addr) (m.memory (word_of addr))))
+        (update l.held (word_of addr) true) (update l.wrote (word_of addr) true) refl
 
     outermost_moves : Moves (outermost p t m l (a.after l.state Nothing) b)
     outermost_moves = λ h. inner Nothing (closes b (least l.held (word_bound p))) l.held l.wrote (closes_calm b (least l.held (word_bound p)))
@@ -152,8 +163,10 @@ module _ {S : Type 0} (a : Thread S) (p : MemoryLayout) (t : ℕ) (m : Machine S
 
     in_moves : (answer : Clash → Choice) (e : Event) → Moves (in_does a p answer t m l b kk ss e)
     in_moves answer Silent = λ h. inner Nothing (OpenTx b kk ss) l.held l.wrote refl
-    in_moves answer (Load addr size vol) = either (can_access p addr size) _ _ (load_in_moves answer addr size (blocker t false (word_of addr) m)) (over (Trapped BadAddress))
-    in_moves answer (Store addr size value vol) = either (can_access p addr size) _ _ (store_in_moves answer addr size value (blocker t true (word_of addr) m)) (over (Trapped BadAddress))
+    in_moves answer (Load addr size vol) = either (can_access p addr size) _ _ (load_in_moves answer addr size (blocker t false (word_of addr) m))
+        (over (Trapped BadAddress))
+    in_moves answer (Store addr size value vol) = either (can_access p addr size) _ _ (store_in_moves answer addr size value (blocker t true (word_of addr) m))
+        (over (Trapped BadAddress))
     in_moves answer (BeginAtomic kind) = λ h. inner Nothing (OpenTx b kk (no_save ∷ ss)) l.held l.wrote refl
     in_moves answer EndAtomic = commits_moves ss
     in_moves answer (Raise kind can) = raises_moves kind can
@@ -168,7 +181,9 @@ module _ {S : Type 0} (a : Thread S) (p : MemoryLayout) (t : ℕ) (m : Machine S
 
   go_moves : (b : ℕ) (o : Option ℕ) → Moves (lets_go p t m l b o)
   go_moves b None = λ h. still Idle refl
-  go_moves b (Some x) = λ h. to (Released x) (record l { held = without l.held x; wrote = without l.wrote x; tx = closes b (least (without l.held x) (word_bound p)) }) refl (λ w. closes_calm b (least (without l.held x) (word_bound p)))
+  go_moves b (Some x) = λ h. to (Released x)
+      (record l { held = without l.held x; wrote = without l.wrote x; tx = closes b (least (without l.held x) (word_bound p)) }) refl
+      (λ w. closes_calm b (least (without l.held x) (word_bound p)))
 
   tx_moves : (answer : Clash → Choice) (tx : Tx S) → is_giving tx ≡ false → Moves (turn_in a p answer t m l tx)
   tx_moves answer NoTx g = out_moves (a.next l.state)

@@ -3,6 +3,7 @@ use Rattle.std.proofs.Common.{ℕ, ◌≡◌, ◌==◌, ◌≤◌, ◌+◌, ◌*
 use Rattle.std.proofs.lemmas.Bool.{eqb-true}
 use Rattle.choosers.specs.declared.Clash.{Clash}
 use Rattle.choosers.specs.declared.Choice.{Choice}
+use Rattle.tx_events.specs.declared.TheConstants.{THREAD_LIMIT}
 use Rattle.tx_events.specs.declared.End.{End}
 use Rattle.tx_events.specs.Thread.{Thread, Lawful}
 use Rattle.tx_events.specs.Memory.{MemoryLayout}
@@ -16,7 +17,8 @@ use Rattle.tx_serial.proofs.AloneEnds.{Paid}
 use Rattle.tx_serial.proofs.PartialRuns.{turn_bound, paid, quiet, shown}
 use Rattle.tx_serial.proofs.HistoryErased.{erase, erase_tx, erase_local, erase_opt, turns_erased, first_erased}
 
-module _ {S : Type 0} (R : S → Type 0) (a : Thread S) (laws : Lawful S R a) (p : MemoryLayout) (small : p.limit ≤ 64) (memory : ℕ → ℕ) (input : List ℕ) (main : S) (reached : R main) (free : a.blocks main ≡ [])
+module _ {S : Type 0} (R : S → Type 0) (a : Thread S) (laws : Lawful S R a) (p : MemoryLayout) (small : p.limit ≤ THREAD_LIMIT) (memory : ℕ → ℕ)
+    (input : List ℕ) (main : S) (reached : R main) (free : a.blocks main ≡ [])
     (steps accesses : ℕ) (order : List ℕ) (v : World (S × Tally)) (e : End) (h : Replays (tallied a) p (first_world memory input (main, no_tally)) order v)
     (k : AtMost a p steps accesses (first_world memory input (main, no_tally)) order v h) (f : v.end ≡ Some e) (qs : List Slot) where
   abbrev last : Machine (S × Tally)
@@ -26,7 +28,8 @@ module _ {S : Type 0} (R : S → Type 0) (a : Thread S) (laws : Lawful S R a) (p
   now = turns a p qs (first_machine memory input main)
 
   same : erase (turns (tallied a) p qs (first_machine memory input (main, no_tally))) ≡ now
-  same = turns_erased no_tally (λ n e r. tally_in e n) a p qs (first_machine memory input (main, no_tally)) ∙ ap (turns a p qs) (first_erased no_tally (λ n e r. tally_in e n) a p memory input main)
+  same = turns_erased no_tally (λ n e r. tally_in e n) a p qs (first_machine memory input (main, no_tally))
+      ∙ ap (turns a p qs) (first_erased no_tally (λ n e r. tally_in e n) a p memory input main)
 
   pub ends_alone : steps + 2 * accesses ≤ zeros qs → (now.end ≡ Some e) × (now.out ≡ v.out)
   ends_alone many =
@@ -53,7 +56,8 @@ module _ {S : Type 0} (R : S → Type 0) (a : Thread S) (laws : Lawful S R a) (p
       alone pd i =
           (lone_turn a p now (erase_local pd.now) (subst Lone same (lone_erased pd.lone)) answer (ap (λ m. m.threads 0) (sym same) ∙ ap erase_opt pd.at)
           (λ j. quiet R a laws p small memory input main reached free steps accesses order v e h k f last
-          (shown R a laws p small memory input main reached free steps accesses order v e h k f qs) (ap (λ m. m.end) same ∙ i) pd.now pd.at (bare_tx pd.now.tx j))).1
+          (shown R a laws p small memory input main reached free steps accesses order v e h k f qs) (ap (λ m. m.end) same ∙ i) pd.now pd.at
+              (bare_tx pd.now.tx j))).1
 
       other : Paid R a laws p small last (zeros qs) → (t == 0) ≡ false → is_waiting (turn_of a p answer t now (now.threads t)).kind ≡ false
       other pd d = ap (λ o. is_waiting (turn_of a p answer t now o).kind) (ap (λ m. m.threads t) (sym same) ∙ ap erase_opt (pd.lone.fresh t d))
@@ -61,6 +65,7 @@ module _ {S : Type 0} (R : S → Type 0) (a : Thread S) (laws : Lawful S R a) (p
       by_end : (o : Option End) → now.end ≡ o → is_waiting (turn_at a p answer t now o).kind ≡ false
       by_end (Some x) i = refl
       by_end None i = elim (t == 0) as (λ b. (t == 0) ≡ b → is_waiting (turn_of a p answer t now (now.threads t)).kind ≡ false) [
-        | true ↦ λ j. subst (λ u. is_waiting (turn_of a p answer u now (now.threads u)).kind ≡ false) (sym (eqb-true t 0 j)) (ap (λ o. is_waiting (turn_at a p answer 0 now o).kind) (sym i) ∙ alone (going i) i)
+        | true ↦ λ j. subst (λ u. is_waiting (turn_of a p answer u now (now.threads u)).kind ≡ false) (sym (eqb-true t 0 j))
+            (ap (λ o. is_waiting (turn_at a p answer 0 now o).kind) (sym i) ∙ alone (going i) i)
         | false ↦ λ d. other (going i) d
       ] refl

@@ -6,12 +6,14 @@ use Rattle.tx_events.specs.declared.End.{End}
 use Rattle.tx_events.specs.declared.BlockKind.{BlockKind}
 use Rattle.tx_events.specs.declared.BlockKind.TheVariants.{NoExcept, Commit, Cancel}
 use Rattle.tx_events.specs.declared.Event.{Event}
-use Rattle.tx_events.specs.declared.Event.TheVariants.{Silent, Load, Store, Out, Inp, Spawn, Join, BeginAtomic, EndAtomic, Raise, BeginSync, EndSync, Done, Stop}
+use Rattle.tx_events.specs.declared.Event.TheVariants.{Silent, Load, Store, Out, Inp, Spawn, Join, BeginAtomic, EndAtomic, Raise, BeginSync, EndSync, Done,
+  Stop}
 use Rattle.tx_events.specs.Thread.{Thread}
 use Rattle.tx_events.specs.Memory.{update, MemoryLayout, can_access, word_bound}
 use Rattle.tx_events.specs.Alone.{BlockStep, Goes, Leaves, Halts, Never, is_over, Inner, Inside, at_start, goes_on, inner_by, leave, raise, newest, begin}
 use Rattle.tx_events.specs.World.{Alive, alive, World, lock_free, holder_free, Step, Replays, EventStep, BlockEffect, SilentSteps, ends}
-use Rattle.tx_serial.specs.Machine.{Machine, Local, OpenTx, Save, no_save, held_by, wrote_by, is_live, live_in, conflicts_with, blocker, busy, birth_of, least, eldest}
+use Rattle.tx_serial.specs.Machine.{Machine, Local, OpenTx, Save, no_save, held_by, wrote_by, is_live, live_in, conflicts_with, blocker, busy, birth_of, least,
+  eldest}
 use Rattle.tx_serial.specs.Turn.{Turned, halts}
 use Rattle.tx_serial.specs.Shows.{cancelling, LevelsAt, Began, InBlock, ShowsLocal, ShowsThread}
 use Rattle.tx_serial.proofs.WorldAgreement.{undoes, Going, Agreed}
@@ -92,7 +94,8 @@ module _ {S : Type 0} (a : Thread S) (p : MemoryLayout) where
 
     -- where no other thread wrote the word and t did not
     pub unwritten : (x : ℕ) → ((u : ℕ) → (u == t) ≡ false → wrote_by (m.threads u) x ≡ false) → l.wrote x ≡ false → w.memory x ≡ m.memory x
-    unwritten x h own = everyone x (λ u d. ap (λ b. live_in (m.threads u) && b) (h u d) ∙ and_false (live_in (m.threads u))) (ap (λ b. is_live l.tx && b) own ∙ and_false (is_live l.tx))
+    unwritten x h own = everyone x (λ u d. ap (λ b. live_in (m.threads u) && b) (h u d) ∙ and_false (live_in (m.threads u)))
+        (ap (λ b. is_live l.tx && b) own ∙ and_false (is_live l.tx))
 
     pub own_mine : (u x : ℕ) → (u == t) ≡ false → l.wrote x ≡ true → held_by (m.threads u) x ≡ false
     own_mine u x d h = k.g.apart t u x d (ap (λ o. wrote_by o x) k.is ∙ h)
@@ -110,7 +113,8 @@ module _ {S : Type 0} (a : Thread S) (p : MemoryLayout) where
     pub unheld : (x : ℕ) → l.held x ≡ false → l.wrote x ≡ false
     unheld x h = not_true (l.wrote x) (λ e. true≢false (sym (k.live.holds x e) ∙ h))
 
-    pub still_alone : (l' : Local S) → (is_live l.tx ≡ false → is_live l'.tx ≡ false) → (o u : ℕ) → m.lock.holder ≡ Some o → (u == o) ≡ false → live_in (update m.threads t (Some l') u) ≡ false
+    pub still_alone : (l' : Local S) → (is_live l.tx ≡ false → is_live l'.tx ≡ false) → (o u : ℕ) → m.lock.holder ≡ Some o → (u == o) ≡ false
+        → live_in (update m.threads t (Some l') u) ≡ false
     still_alone l' calm o u h d = at_update a p (λ q. live_in q ≡ false) m.threads t u (Some l')
         (λ e. calm (sym (ap live_in k.is) ∙ (ap (λ v. live_in (m.threads v)) (sym (eqb-true u t e)) ∙ k.g.alone o u h d)))
         (λ d'. k.g.alone o u h d)
@@ -127,9 +131,11 @@ module _ {S : Type 0} (a : Thread S) (p : MemoryLayout) where
     searched : (q : ℕ → Bool) (f : ℕ → ℕ) → eldest q f m.started ≡ None → ((u : ℕ) → m.threads u ≡ None → q u ≡ false) → (u : ℕ) → q u ≡ false
     searched q f e h u = elim (cases_lt u m.started) as (λ z. q u ≡ false) [ inl i ↦ eldest_none q f m.started e u i | inr i ↦ h u (k.g.fresh u i) ]
 
-    pub not_kept_off : (store : Bool) (x : ℕ) → blocker t store x m ≡ None → (u : ℕ) → (u == t) ≡ false → cond store (held_by (m.threads u) x) (wrote_by (m.threads u) x) ≡ false
+    pub not_kept_off : (store : Bool) (x : ℕ) → blocker t store x m ≡ None → (u : ℕ) → (u == t) ≡ false
+        → cond store (held_by (m.threads u) x) (wrote_by (m.threads u) x) ≡ false
     not_kept_off store x e u d =
-        let q = searched (conflicts_with t store x m.threads) (λ v. birth_of (m.threads v)) e (λ v n. let i = n in elim store as (λ b. (not (v == t) && cond b (held_by (m.threads v) x) (wrote_by (m.threads v) x)) ≡ false) [
+        let q = searched (conflicts_with t store x m.threads) (λ v. birth_of (m.threads v)) e
+            (λ v n. let i = n in elim store as (λ b. (not (v == t) && cond b (held_by (m.threads v) x) (wrote_by (m.threads v) x)) ≡ false) [
           | true ↦ ap (λ o. not (v == t) && held_by o x) n ∙ and_false (not (v == t))
           | false ↦ ap (λ o. not (v == t) && wrote_by o x) n ∙ and_false (not (v == t))
         ]) u in
@@ -155,10 +161,13 @@ module _ {S : Type 0} (a : Thread S) (p : MemoryLayout) where
     pub may_land : is_live l.tx ≡ true → lock_free t w.lock ≡ true
     may_land i = ap (λ q. lock_free t q) k.g.lock_is ∙ free_holder m.lock.holder refl i
 
-    pub out_step : (v : World S) (e : Event) → w.end ≡ None → SilentSteps a k.s.state l.state → a.next l.state ≡ e → EventStep a p t w l.state e v → Step a p t w v
-    out_step v e going f is d = record { going = going; from = k.s.state; before = l.state; is = at_alive; silents = f; does = subst (λ z. EventStep a p t w l.state z v) (sym is) d }
+    pub out_step : (v : World S) (e : Event) → w.end ≡ None → SilentSteps a k.s.state l.state → a.next l.state ≡ e → EventStep a p t w l.state e v
+        → Step a p t w v
+    out_step v e going f is d = record { going = going; from = k.s.state; before = l.state; is = at_alive; silents = f;
+        does = subst (λ z. EventStep a p t w l.state z v) (sym is) d }
 
-    pub in_step : (v : World S) (e : Event) (b : ℕ) (kk : S) (ss : List Save) → w.end ≡ None → l.tx ≡ OpenTx b kk ss → (f : InBlock a p m.memory w.memory k.s.state l kk ss) → a.next l.state ≡ e → BlockEffect t w (inner_by a p f.inner e) v → Step a p t w v
+    pub in_step : (v : World S) (e : Event) (b : ℕ) (kk : S) (ss : List Save) → w.end ≡ None → l.tx ≡ OpenTx b kk ss
+        → (f : InBlock a p m.memory w.memory k.s.state l kk ss) → a.next l.state ≡ e → BlockEffect t w (inner_by a p f.inner e) v → Step a p t w v
     in_step v e b kk ss going tx f is d = let here = ap a.next f.state ∙ is in record {
       going = going;
       from = k.s.state;
@@ -177,10 +186,12 @@ module _ {S : Type 0} (a : Thread S) (p : MemoryLayout) where
     }
 
     -- what the block sees
-    pub sees : (kk : S) (ss : List Save) (f : InBlock a p m.memory w.memory k.s.state l kk ss) → cancelling (a.next l.state) ≡ false → (x : ℕ) → l.held x ≡ true → f.inner.memory x ≡ m.memory x
+    pub sees : (kk : S) (ss : List Save) (f : InBlock a p m.memory w.memory k.s.state l kk ss) → cancelling (a.next l.state) ≡ false → (x : ℕ)
+        → l.held x ≡ true → f.inner.memory x ≡ m.memory x
     sees kk ss f c x e = elim (f.agrees x e) as (λ z. f.inner.memory x ≡ m.memory x) [ inl h ↦ h | inr h ↦ absurd (true≢false (sym h.0 ∙ c)) ]
 
-    pub near : (kk : S) (ss : List Save) (f : InBlock a p m.memory w.memory k.s.state l kk ss) → cancelling (a.next l.state) ≡ false → (x : ℕ) → ((u : ℕ) → (u == t) ≡ false → wrote_by (m.threads u) x ≡ false)
+    pub near : (kk : S) (ss : List Save) (f : InBlock a p m.memory w.memory k.s.state l kk ss) → cancelling (a.next l.state) ≡ false → (x : ℕ)
+        → ((u : ℕ) → (u == t) ≡ false → wrote_by (m.threads u) x ≡ false)
         → (f.inner.memory x ≡ m.memory x) × LevelsAt x (m.memory x) ss f.inner.copies
     near kk ss f c x h = elim (l.held x) as (λ b. l.held x ≡ b → (f.inner.memory x ≡ m.memory x) × LevelsAt x (m.memory x) ss f.inner.copies) [
       | true ↦ λ e. (sees kk ss f c x e, f.levels x e)
@@ -192,7 +203,8 @@ module _ {S : Type 0} (a : Thread S) (p : MemoryLayout) where
     ] refl
 
     -- the start of a block
-    pub fresh_block : (memory : ℕ → ℕ) (start kk : S) (l' : Local S) → Began a start kk → l'.state ≡ kk → ((x : ℕ) → l'.held x ≡ false) → ((x : ℕ) → l'.wrote x ≡ false) → InBlock a p memory w.memory start l' kk (no_save ∷ [])
+    pub fresh_block : (memory : ℕ → ℕ) (start kk : S) (l' : Local S) → Began a start kk → l'.state ≡ kk → ((x : ℕ) → l'.held x ≡ false)
+        → ((x : ℕ) → l'.wrote x ≡ false) → InBlock a p memory w.memory start l' kk (no_save ∷ [])
     fresh_block memory start kk l' f state held wrote = record {
       began = f;
       inner = begin kk w.memory;
@@ -217,7 +229,8 @@ module _ {S : Type 0} (a : Thread S) (p : MemoryLayout) where
       pub going : w.end ≡ None
       pub here : Here m w t l
 
-    pub quiet : (t : ℕ) (m : Machine S) (l : Local S) (k : Known t m l) (m' : Machine S) → m'.order ≡ m.order → m'.out ≡ m.out → m'.input ≡ m.input → m'.end ≡ m.end → Going a p m'.memory m'.threads m'.started m'.lock k.w → Agreed a p start m'
+    pub quiet : (t : ℕ) (m : Machine S) (l : Local S) (k : Known t m l) (m' : Machine S) → m'.order ≡ m.order → m'.out ≡ m.out → m'.input ≡ m.input
+        → m'.end ≡ m.end → Going a p m'.memory m'.threads m'.started m'.lock k.w → Agreed a p start m'
     quiet t m l k m' order out input end g = (
       k.w,
       subst (λ o. Replays a p start o k.w) (sym order) k.replays,
@@ -229,7 +242,8 @@ module _ {S : Type 0} (a : Thread S) (p : MemoryLayout) where
       },
     )
 
-    pub said : (t : ℕ) (m : Machine S) (l : Local S) (k : Known t m l) (m' : Machine S) (v : World S) → m'.order ≡ (m.order ++ t ∷ []) → v.out ≡ m'.out → v.input ≡ m'.input → v.end ≡ m'.end → Step a p t k.w v → (m'.end ≡ None → Going a p m'.memory m'.threads m'.started m'.lock v) → Agreed a p start m'
+    pub said : (t : ℕ) (m : Machine S) (l : Local S) (k : Known t m l) (m' : Machine S) (v : World S) → m'.order ≡ (m.order ++ t ∷ []) → v.out ≡ m'.out
+        → v.input ≡ m'.input → v.end ≡ m'.end → Step a p t k.w v → (m'.end ≡ None → Going a p m'.memory m'.threads m'.started m'.lock v) → Agreed a p start m'
     said t m l k m' v order out input end step g = (
       v,
       subst (λ o. Replays a p start o v) (sym order) (one_step_more a p start k.w v m.order t k.replays step),
@@ -244,6 +258,7 @@ module _ {S : Type 0} (a : Thread S) (p : MemoryLayout) where
     pub halted : (t : ℕ) (m : Machine S) (l : Local S) (k : Known t m l) (e : End) → Step a p t k.w (ends k.w e) → Agreed a p start (halts t m e).machine
     halted t m l k e step = said t m l k (halts t m e).machine (ends k.w e) refl k.out k.input refl step (λ q. absurd (cc))
 
-    pub either : (b : Bool) (x y : Turned S) → (b ≡ true → Agreed a p start x.machine) → (b ≡ false → Agreed a p start y.machine) → Agreed a p start (cond b x y).machine
+    pub either : (b : Bool) (x y : Turned S) → (b ≡ true → Agreed a p start x.machine) → (b ≡ false → Agreed a p start y.machine)
+        → Agreed a p start (cond b x y).machine
     either true x y f g = f refl
     either false x y f g = g refl

@@ -38,13 +38,17 @@ module _ {S : Type 0} (a : Thread S) (p : MemoryLayout) where
             let same = sym (outside x e) in
             elim (f.agrees x e) as (λ z. (run.0.memory x ≡ n x) ⊎ ((cancelling (a.next l.state) ≡ true) × (newest run.0.copies run.0.memory x ≡ n x))) [
               | inl h ↦ inl (sym (run.2.memory x same) ∙ (h ∙ sym (memory x e)))
-              | inr h ↦ inr (h.0, sym (newest_both o q f.inner.memory run.0.memory f.inner.copies run.0.copies run.2.copies run.2.memory x same) ∙ (h.1 ∙ sym (memory x e)))
+              | inr h ↦ inr
+                  (h.0, sym (newest_both o q f.inner.memory run.0.memory f.inner.copies run.0.copies run.2.copies run.2.memory x same)
+                  ∙ (h.1 ∙ sym (memory x e)))
             ];
-        levels = λ x e. subst (λ v. LevelsAt x v ss run.0.copies) (sym (memory x e)) (levels_both o q x (m x) ss f.inner.copies run.0.copies (sym (outside x e)) run.2.copies (f.levels x e));
+        levels = λ x e. subst (λ v. LevelsAt x v ss run.0.copies) (sym (memory x e))
+            (levels_both o q x (m x) ss f.inner.copies run.0.copies (sym (outside x e)) run.2.copies (f.levels x e));
         unsaved = f.unsaved;
       }
 
-  pub framed : (m n o q : ℕ → ℕ) (l : Option (Local S)) (s : Option (Alive S)) → ((x : ℕ) → held_by l x ≡ true → n x ≡ m x) → ((x : ℕ) → held_by l x ≡ true → q x ≡ o x) → ShowsThread a p m o l s → ShowsThread a p n q l s
+  pub framed : (m n o q : ℕ → ℕ) (l : Option (Local S)) (s : Option (Alive S)) → ((x : ℕ) → held_by l x ≡ true → n x ≡ m x)
+      → ((x : ℕ) → held_by l x ≡ true → q x ≡ o x) → ShowsThread a p m o l s → ShowsThread a p n q l s
   framed m n o q None None i j f = f
   framed m n o q None (Some s) i j f = f
   framed m n o q (Some l) None i j f = f
@@ -60,7 +64,8 @@ module _ {S : Type 0} (a : Thread S) (p : MemoryLayout) where
   at_update P f t u v here else = elim (u == t) as (λ b. (u == t) ≡ b → P (cond b v (f u))) [ true ↦ here | false ↦ else ] refl
 
   -- what thread t changes
-  pub record Change (memory memory' : ℕ → ℕ) (threads : ℕ → Option (Local S)) (lock' : Lock) (w w' : World S) (t : ℕ) (l' : Local S) (s' : Alive S) : Type 0 where
+  pub record Change (memory memory' : ℕ → ℕ) (threads : ℕ → Option (Local S)) (lock' : Lock) (w w' : World S) (t : ℕ) (l' : Local S)
+      (s' : Alive S) : Type 0 where
     pub started_is : w'.started ≡ w.started
     pub lock_is : w'.lock ≡ lock'
     pub there : w'.threads t ≡ Some s'
@@ -73,10 +78,12 @@ module _ {S : Type 0} (a : Thread S) (p : MemoryLayout) where
     pub alone : (o u : ℕ) → lock'.holder ≡ Some o → (u == o) ≡ false → live_in (update threads t (Some l') u) ≡ false
     pub shown : ShowsLocal a p memory' w'.memory l' s'
 
-  at_own : (threads : ℕ → Option (Local S)) (t u x : ℕ) (l' : Local S) (f : Option (Local S) → ℕ → Bool) (b : Bool) → (u == t) ≡ false → f (update threads t (Some l') u) x ≡ b → f (threads u) x ≡ b
+  at_own : (threads : ℕ → Option (Local S)) (t u x : ℕ) (l' : Local S) (f : Option (Local S) → ℕ → Bool) (b : Bool) → (u == t) ≡ false
+      → f (update threads t (Some l') u) x ≡ b → f (threads u) x ≡ b
   at_own threads t u x l' f b d h = sym (ap (λ o. f o x) (update_elsewhere threads t (Some l') u d)) ∙ h
 
-  pub changed : (memory memory' : ℕ → ℕ) (threads : ℕ → Option (Local S)) (started : ℕ) (lock lock' : Lock) (w w' : World S) (t : ℕ) (l l' : Local S) (s' : Alive S)
+  pub changed : (memory memory' : ℕ → ℕ) (threads : ℕ → Option (Local S)) (started : ℕ) (lock lock' : Lock) (w w' : World S) (t : ℕ) (l l' : Local S)
+      (s' : Alive S)
       → Going a p memory threads started lock w → threads t ≡ Some l → Change memory memory' threads lock' w w' t l' s'
       → Going a p memory' (update threads t (Some l')) started lock' w'
   changed memory memory' threads started lock lock' w w' t l l' s' g is c =
@@ -84,7 +91,8 @@ module _ {S : Type 0} (a : Thread S) (p : MemoryLayout) where
       record {
         started_is = c.started_is ∙ g.started_is;
         lock_is = c.lock_is;
-        fresh = λ u h. at_update (λ o. o ≡ None) threads t u (Some l') (λ e. let q = ap threads (eqb-true u t e) in let r = g.fresh u h in absurd (cc)) (λ d. g.fresh u h);
+        fresh = λ u h. at_update (λ o. o ≡ None) threads t u (Some l') (λ e. let q = ap threads (eqb-true u t e) in let r = g.fresh u h in absurd (cc))
+            (λ d. g.fresh u h);
         free = λ x h. c.free x (λ u d. at_own threads t u x l' undoes false d (h u)) (ap (λ o. undoes o x) (sym (update_same threads t (Some l'))) ∙ h t);
         apart = λ v u x d h.
             at_update (λ o. (u == v) ≡ false → wrote_by o x ≡ true → held_by (new u) x ≡ false) threads t v (Some l')

@@ -6,13 +6,16 @@ use Rattle.choosers.specs.declared.Clash.{Clash}
 use Rattle.choosers.specs.declared.Choice.{Choice}
 use Rattle.choosers.specs.declared.Choice.TheVariants.{Wait, Yield}
 use Rattle.choosers.specs.Answers.{is_older, answer, Older}
+use Rattle.tx_events.specs.declared.TheConstants.{THREAD_LIMIT}
 use Rattle.tx_events.specs.declared.End.{End}
 use Rattle.tx_events.specs.declared.Event.{Event}
-use Rattle.tx_events.specs.declared.Event.TheVariants.{Silent, Load, Store, Out, Inp, Spawn, Join, BeginAtomic, EndAtomic, Raise, BeginSync, EndSync, Done, Stop}
+use Rattle.tx_events.specs.declared.Event.TheVariants.{Silent, Load, Store, Out, Inp, Spawn, Join, BeginAtomic, EndAtomic, Raise, BeginSync, EndSync, Done,
+  Stop}
 use Rattle.tx_events.specs.declared.TurnKind.TheVariants.{Waited, Rolled, Idle}
 use Rattle.tx_events.specs.Thread.{Thread, Lawful}
 use Rattle.tx_events.specs.Memory.{MemoryLayout}
-use Rattle.tx_serial.specs.Machine.{Machine, Local, Tx, NoTx, OpenTx, GivingUp, Closing, Save, held_by, wrote_by, has_tx, tx_in, birth, birth_of, conflicts_with, blocker, clash_of}
+use Rattle.tx_serial.specs.Machine.{Machine, Local, Tx, NoTx, OpenTx, GivingUp, Closing, Save, held_by, wrote_by, has_tx, tx_in, birth, birth_of,
+  conflicts_with, blocker, clash_of}
 use Rattle.tx_serial.specs.Turn.{stays, turn, turn_at, turn_of, turn_in}
 use Rattle.tx_serial.specs.Sound.{SoundTx, SoundThread, Sound}
 use Rattle.tx_serial.specs.Kinds.{Accesses, KindIn, KindBy, GoesOn, Asked, is_idle}
@@ -22,11 +25,17 @@ use Rattle.tx_serial.proofs.SoundKept.{kind_of_turn}
 
 -- parts of what keeps a thread off
 
-keeps_other : {S : Type 0} (t : ℕ) (store : Bool) (x : ℕ) (threads : ℕ → Option (Local S)) (u : ℕ) → conflicts_with t store x threads u ≡ true → (u == t) ≡ false
-keeps_other t store x threads u h = elim (u == t) as (λ b. (not b && cond store (held_by (threads u) x) (wrote_by (threads u) x)) ≡ true → b ≡ false) [ true ↦ λ i. absurd (false≢true i) | false ↦ λ i. refl ] h
+keeps_other : {S : Type 0} (t : ℕ) (store : Bool) (x : ℕ) (threads : ℕ → Option (Local S)) (u : ℕ) → conflicts_with t store x threads u ≡ true
+    → (u == t) ≡ false
+keeps_other t store x threads u h = elim (u == t) as
+    (λ b. (not b && cond store (held_by (threads u) x) (wrote_by (threads u) x)) ≡ true → b ≡ false) [ true ↦ λ i. absurd (false≢true i)
+    | false ↦ λ i. refl ] h
 
-keeps_word : {S : Type 0} (t : ℕ) (store : Bool) (x : ℕ) (threads : ℕ → Option (Local S)) (u : ℕ) → conflicts_with t store x threads u ≡ true → cond store (held_by (threads u) x) (wrote_by (threads u) x) ≡ true
-keeps_word t store x threads u h = elim (u == t) as (λ b. (not b && cond store (held_by (threads u) x) (wrote_by (threads u) x)) ≡ true → cond store (held_by (threads u) x) (wrote_by (threads u) x) ≡ true) [ true ↦ λ i. absurd (false≢true i) | false ↦ λ i. i ] h
+keeps_word : {S : Type 0} (t : ℕ) (store : Bool) (x : ℕ) (threads : ℕ → Option (Local S)) (u : ℕ) → conflicts_with t store x threads u ≡ true
+    → cond store (held_by (threads u) x) (wrote_by (threads u) x) ≡ true
+keeps_word t store x threads u h = elim (u == t) as
+    (λ b. (not b && cond store (held_by (threads u) x) (wrote_by (threads u) x)) ≡ true
+    → cond store (held_by (threads u) x) (wrote_by (threads u) x) ≡ true) [ true ↦ λ i. absurd (false≢true i) | false ↦ λ i. i ] h
 
 -- an event accesses in one way
 same_store : (p : MemoryLayout) (e : Event) (s r : Bool) (x y : ℕ) → Accesses p e s x → Accesses p e r y → s ≡ r
@@ -86,13 +95,15 @@ module _ {S : Type 0} (R : S → Type 0) (a : Thread S) (p : MemoryLayout) (m : 
   ]
 
   -- the blocking thread whose birth is least
-  found_le : (t x u v : ℕ) (store : Bool) → blocker t store x m ≡ Some u → conflicts_with t store x m.threads v ≡ true → birth_of (m.threads u) ≤ birth_of (m.threads v)
-  found_le t x u v store found off = eldest_le (conflicts_with t store x m.threads) (λ z. birth_of (m.threads z)) m.started u found v (off_started t v x store off) off
+  found_le : (t x u v : ℕ) (store : Bool) → blocker t store x m ≡ Some u → conflicts_with t store x m.threads v ≡ true
+      → birth_of (m.threads u) ≤ birth_of (m.threads v)
+  found_le t x u v store found off = eldest_le (conflicts_with t store x m.threads) (λ z. birth_of (m.threads z)) m.started u found v
+      (off_started t v x store off) off
 
   found_off : (t x u : ℕ) (store : Bool) → blocker t store x m ≡ Some u → conflicts_with t store x m.threads u ≡ true
   found_off t x u store found = eldest_some (conflicts_with t store x m.threads) (λ v. birth_of (m.threads v)) m.started u found
 
-  module _ (laws : Lawful S R a) (small : p.limit ≤ 64) (answer : Clash → Choice) where
+  module _ (laws : Lawful S R a) (small : p.limit ≤ THREAD_LIMIT) (answer : Clash → Choice) where
     waits_less : (c : Clash) (choice : Choice) → is_older c choice ≡ true → choice ≡ Wait → c.mine < c.least
     waits_less c Wait k e = ltb-true c.mine c.least k
     waits_less c Yield k e = absurd (cc)
@@ -106,7 +117,8 @@ module _ {S : Type 0} (R : S → Type 0) (a : Thread S) (p : MemoryLayout) (m : 
     yields_more c Wait k e = absurd (cc)
 
     -- thread t goes on in an open transaction
-    module _ (t : ℕ) (rule : AnswersAt is_older a p t answer m) (l : Local S) (goes : GoesOn t m l) (b : ℕ) (k : S) (ss : List Save) (tx : l.tx ≡ OpenTx b k ss) where
+    module _ (t : ℕ) (rule : AnswersAt is_older a p t answer m) (l : Local S) (goes : GoesOn t m l) (b : ℕ) (k : S) (ss : List Save)
+        (tx : l.tx ≡ OpenTx b k ss) where
       own_birth : birth_of (m.threads t) ≡ b
       own_birth = ap birth_of goes.is ∙ ap birth tx
 
@@ -114,13 +126,15 @@ module _ {S : Type 0} (R : S → Type 0) (a : Thread S) (p : MemoryLayout) (m : 
       own_tx = ap tx_in goes.is ∙ ap has_tx tx
 
       asked_at : (store : Bool) (x u : ℕ) → Accesses p (a.next l.state) store x → blocker t store x m ≡ Some u → Asked a p t m (clash_of t store x m b u)
-      asked_at store x u g found = record { local = l; goes = goes; birth = b; kept = k; saves = ss; tx = tx; store = store; word = x; holder = u; blocked = (g, found); is = refl }
+      asked_at store x u g found = record { local = l; goes = goes; birth = b; kept = k; saves = ss; tx = tx; store = store; word = x; holder = u;
+          blocked = (g, found); is = refl }
 
       -- a Waited turn: its birth is less than that of every blocking transaction
       waited_less : (x u : ℕ) → KindIn a p answer t m l b ss (Waited x u) → (v : ℕ) → Blocks a p m t v x → b < birth_of (m.threads v)
       waited_less x u kind v g =
           let same : g.local ≡ l = one_local (sym g.goes.is ∙ goes.is) in
-          let store : kind.0 ≡ g.store = same_store p (a.next l.state) kind.0 g.store x x kind.1.0 (subst (λ z. Accesses p (a.next z.state) g.store x) same g.access) in
+          let store : kind.0 ≡ g.store = same_store p (a.next l.state) kind.0 g.store x x kind.1.0
+              (subst (λ z. Accesses p (a.next z.state) g.store x) same g.access) in
           let off = subst (λ z. conflicts_with t z x m.threads v ≡ true) (sym store) g.off in
           let c = clash_of t kind.0 x m b u in
           let less = waits_less c (answer c) (rule c (asked_at kind.0 x u kind.1.0 kind.1.1)) kind.2 in
@@ -136,7 +150,8 @@ module _ {S : Type 0} (R : S → Type 0) (a : Thread S) (p : MemoryLayout) (m : 
           let c = clash_of t kind.0 x m b u in
           let le = yields_more c (answer c) (rule c (asked_at kind.0 x u kind.1.0 kind.1.1)) kind.2 in
           let off = found_off t x u kind.0 kind.1.1 in
-          let apart : birth_of (m.threads u) ≢ b = λ q. h.distinct t u (keeps_other t kind.0 x m.threads u off) own_tx (off_tx t u x kind.0 off) (own_birth ∙ sym q) in
+          let apart : birth_of (m.threads u) ≢ b = λ q. h.distinct t u (keeps_other t kind.0 x m.threads u off) own_tx (off_tx t u x kind.0 off)
+              (own_birth ∙ sym q) in
           omega (arith, le, apart)
 
     -- a thread that goes on, and takes a Waited or a Rolled turn in a transaction, has an open one
@@ -144,36 +159,48 @@ module _ {S : Type 0} (R : S → Type 0) (a : Thread S) (p : MemoryLayout) (m : 
       kind_is : KindBy a p answer t m l l.tx (turn a p answer t m).kind
       kind_is = kind_of_turn R a laws p small answer t m l h goes
 
-      waited_open : (x u : ℕ) → (turn a p answer t m).kind ≡ Waited x u → (tx : Tx S) → l.tx ≡ tx → has_tx tx ≡ true → (v : ℕ) → Blocks a p m t v x → birth_of (m.threads t) < birth_of (m.threads v)
+      waited_open : (x u : ℕ) → (turn a p answer t m).kind ≡ Waited x u → (tx : Tx S) → l.tx ≡ tx → has_tx tx ≡ true → (v : ℕ) → Blocks a p m t v x
+          → birth_of (m.threads t) < birth_of (m.threads v)
       waited_open x u is NoTx e i v g = absurd (false≢true i)
-      waited_open x u is (GivingUp b k ss) e i v g = absurd (subst (λ z. KindBy a p answer t m l (GivingUp b k ss) z) is (subst (λ z. KindBy a p answer t m l z (turn a p answer t m).kind) e kind_is))
-      waited_open x u is (Closing b) e i v g = absurd (subst (λ z. KindBy a p answer t m l (Closing b) z) is (subst (λ z. KindBy a p answer t m l z (turn a p answer t m).kind) e kind_is))
+      waited_open x u is (GivingUp b k ss) e i v g = absurd
+          (subst (λ z. KindBy a p answer t m l (GivingUp b k ss) z) is (subst (λ z. KindBy a p answer t m l z (turn a p answer t m).kind) e kind_is))
+      waited_open x u is (Closing b) e i v g = absurd
+          (subst (λ z. KindBy a p answer t m l (Closing b) z) is (subst (λ z. KindBy a p answer t m l z (turn a p answer t m).kind) e kind_is))
       waited_open x u is (OpenTx b k ss) e i v g =
-          let less = waited_less t rule l goes b k ss e x u (subst (λ z. KindBy a p answer t m l (OpenTx b k ss) z) is (subst (λ z. KindBy a p answer t m l z (turn a p answer t m).kind) e kind_is)) v g in
+          let less = waited_less t rule l goes b k ss e x u
+              (subst (λ z. KindBy a p answer t m l (OpenTx b k ss) z) is (subst (λ z. KindBy a p answer t m l z (turn a p answer t m).kind) e kind_is)) v g in
           subst (λ z. z < birth_of (m.threads v)) (sym (own_birth t rule l goes b k ss e)) less
 
-      pub waited_tx : (x u : ℕ) → (turn a p answer t m).kind ≡ Waited x u → tx_in (m.threads t) ≡ true → (v : ℕ) → Blocks a p m t v x → birth_of (m.threads t) < birth_of (m.threads v)
+      pub waited_tx : (x u : ℕ) → (turn a p answer t m).kind ≡ Waited x u → tx_in (m.threads t) ≡ true → (v : ℕ) → Blocks a p m t v x
+          → birth_of (m.threads t) < birth_of (m.threads v)
       waited_tx x u is i = waited_open x u is l.tx refl (sym (ap tx_in goes.is) ∙ i)
 
-      rolled_open : (x u : ℕ) → (turn a p answer t m).kind ≡ Rolled x u → (tx : Tx S) → l.tx ≡ tx → (birth_of (m.threads u) < birth_of (m.threads t)) × (tx_in (m.threads t) ≡ true) × Blocks a p m t u x
-      rolled_open x u is NoTx e = absurd (subst (λ z. KindBy a p answer t m l NoTx z) is (subst (λ z. KindBy a p answer t m l z (turn a p answer t m).kind) e kind_is))
-      rolled_open x u is (GivingUp b k ss) e = absurd (subst (λ z. KindBy a p answer t m l (GivingUp b k ss) z) is (subst (λ z. KindBy a p answer t m l z (turn a p answer t m).kind) e kind_is))
-      rolled_open x u is (Closing b) e = absurd (subst (λ z. KindBy a p answer t m l (Closing b) z) is (subst (λ z. KindBy a p answer t m l z (turn a p answer t m).kind) e kind_is))
+      rolled_open : (x u : ℕ) → (turn a p answer t m).kind ≡ Rolled x u → (tx : Tx S) → l.tx ≡ tx
+          → (birth_of (m.threads u) < birth_of (m.threads t)) × (tx_in (m.threads t) ≡ true) × Blocks a p m t u x
+      rolled_open x u is NoTx e = absurd
+          (subst (λ z. KindBy a p answer t m l NoTx z) is (subst (λ z. KindBy a p answer t m l z (turn a p answer t m).kind) e kind_is))
+      rolled_open x u is (GivingUp b k ss) e = absurd
+          (subst (λ z. KindBy a p answer t m l (GivingUp b k ss) z) is (subst (λ z. KindBy a p answer t m l z (turn a p answer t m).kind) e kind_is))
+      rolled_open x u is (Closing b) e = absurd
+          (subst (λ z. KindBy a p answer t m l (Closing b) z) is (subst (λ z. KindBy a p answer t m l z (turn a p answer t m).kind) e kind_is))
       rolled_open x u is (OpenTx b k ss) e =
-          let kind = subst (λ z. KindBy a p answer t m l (OpenTx b k ss) z) is (subst (λ z. KindBy a p answer t m l z (turn a p answer t m).kind) e kind_is) in (
+          let kind = subst (λ z. KindBy a p answer t m l (OpenTx b k ss) z) is (subst (λ z. KindBy a p answer t m l z (turn a p answer t m).kind) e kind_is) in
+              (
             subst (λ z. birth_of (m.threads u) < z) (sym (own_birth t rule l goes b k ss e)) (rolled_more t rule l goes b k ss e x u kind),
             own_tx t rule l goes b k ss e,
             record { local = l; goes = goes; store = kind.0; access = kind.1.0; off = found_off t x u kind.0 kind.1.1 },
           )
 
-      pub rolled_tx : (x u : ℕ) → (turn a p answer t m).kind ≡ Rolled x u → (birth_of (m.threads u) < birth_of (m.threads t)) × (tx_in (m.threads t) ≡ true) × Blocks a p m t u x
+      pub rolled_tx : (x u : ℕ) → (turn a p answer t m).kind ≡ Rolled x u
+          → (birth_of (m.threads u) < birth_of (m.threads t)) × (tx_in (m.threads t) ≡ true) × Blocks a p m t u x
       rolled_tx x u is = rolled_open x u is l.tx refl
 
     -- a Waited or Rolled turn is that of a thread that goes on
     went_on : (t : ℕ) → is_idle (turn a p answer t m).kind ≡ false → (l : Local S) × GoesOn t m l
     went_on t awake = by_end m.end refl awake
       where
-        by_up : (l : Local S) → m.end ≡ None → m.threads t ≡ Some l → (up : Bool) → l.ended ≡ up → is_idle (cond up (stays Idle m) (turn_in a p answer t m l l.tx)).kind ≡ false → (q : Local S) × GoesOn t m q
+        by_up : (l : Local S) → m.end ≡ None → m.threads t ≡ Some l → (up : Bool) → l.ended ≡ up
+            → is_idle (cond up (stays Idle m) (turn_in a p answer t m l l.tx)).kind ≡ false → (q : Local S) × GoesOn t m q
         by_up l e i true j k = absurd (true≢false k)
         by_up l e i false j k = (l, record { going = e; is = i; up = j })
 
@@ -187,10 +214,12 @@ module _ {S : Type 0} (R : S → Type 0) (a : Thread S) (p : MemoryLayout) (m : 
 
     -- the two sentences on every turn
 
-    pub rolled_by : (t : ℕ) → AnswersAt is_older a p t answer m → (x u : ℕ) → (turn a p answer t m).kind ≡ Rolled x u → Blocks a p m t u x × (birth_of (m.threads u) < birth_of (m.threads t))
+    pub rolled_by : (t : ℕ) → AnswersAt is_older a p t answer m → (x u : ℕ) → (turn a p answer t m).kind ≡ Rolled x u
+        → Blocks a p m t u x × (birth_of (m.threads u) < birth_of (m.threads t))
     rolled_by t rule x u is = let q = went_on t (ap is_idle is) in let r = rolled_tx t rule q.0 q.1 x u is in (r.2, r.0)
 
-    pub waited_by : (t : ℕ) → AnswersAt is_older a p t answer m → (x u : ℕ) → tx_in (m.threads t) ≡ true → (turn a p answer t m).kind ≡ Waited x u → (v : ℕ) → Blocks a p m t v x → birth_of (m.threads t) < birth_of (m.threads v)
+    pub waited_by : (t : ℕ) → AnswersAt is_older a p t answer m → (x u : ℕ) → tx_in (m.threads t) ≡ true → (turn a p answer t m).kind ≡ Waited x u → (v : ℕ)
+        → Blocks a p m t v x → birth_of (m.threads t) < birth_of (m.threads v)
     waited_by t rule x u i is = let q = went_on t (ap is_idle is) in waited_tx t rule q.0 q.1 x u is i
 
     -- the transaction with the least birth never takes a Rolled turn
@@ -208,8 +237,10 @@ module _ {S : Type 0} (R : S → Type 0) (a : Thread S) (p : MemoryLayout) (m : 
         by_tx q.0 q.1 q.0.tx refl (subst (λ z. KindBy a p answer t m q.0 q.0.tx z) is (kind_is t rule q.0 q.1))
       where
         by_tx : (l : Local S) → GoesOn t m l → (tx : Tx S) → l.tx ≡ tx → KindBy a p answer t m l l.tx (Waited x u) → Blocks a p m t u x
-        by_tx l goes NoTx e k = let kind = subst (λ z. KindBy a p answer t m l z (Waited x u)) e k in record { local = l; goes = goes; store = kind.0; access = kind.1.0; off = found_off t x u kind.0 kind.1.1 }
-        by_tx l goes (OpenTx b kk ss) e k = let kind = subst (λ z. KindBy a p answer t m l z (Waited x u)) e k in record { local = l; goes = goes; store = kind.0; access = kind.1.0; off = found_off t x u kind.0 kind.1.1 }
+        by_tx l goes NoTx e k = let kind = subst (λ z. KindBy a p answer t m l z (Waited x u)) e k in
+            record { local = l; goes = goes; store = kind.0; access = kind.1.0; off = found_off t x u kind.0 kind.1.1 }
+        by_tx l goes (OpenTx b kk ss) e k = let kind = subst (λ z. KindBy a p answer t m l z (Waited x u)) e k in
+            record { local = l; goes = goes; store = kind.0; access = kind.1.0; off = found_off t x u kind.0 kind.1.1 }
         by_tx l goes (GivingUp b kk ss) e k = absurd (subst (λ z. KindBy a p answer t m l z (Waited x u)) e k)
         by_tx l goes (Closing b) e k = absurd (subst (λ z. KindBy a p answer t m l z (Waited x u)) e k)
 
@@ -245,4 +276,5 @@ module _ {S : Type 0} (R : S → Type 0) (a : Thread S) (p : MemoryLayout) (m : 
 
 -- the policy `older` answers by its rule
 pub older_answers : (c : Clash) → is_older c (answer Older c) ≡ true
-older_answers c = elim (nat_lt c.mine c.least) as (λ b. nat_lt c.mine c.least ≡ b → is_older c (if b then Wait else Yield) ≡ true) [ true ↦ λ e. e | false ↦ λ e. ap not e ] refl
+older_answers c = elim (nat_lt c.mine c.least) as (λ b. nat_lt c.mine c.least ≡ b → is_older c (if b then Wait else Yield) ≡ true) [ true ↦ λ e. e
+    | false ↦ λ e. ap not e ] refl

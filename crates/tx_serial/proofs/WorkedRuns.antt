@@ -1,5 +1,6 @@
 -- The worked runs. What a search over all addresses finds is proved, and the rest is computed.
-use Rattle.std.proofs.Common.{ℕ, zero, suc, ◌≡◌, ◌==◌, ◌<◌, ◌≤◌, lit<, inl, inr, Bool, true, false, refl, ap, sym, ◌∙◌, List, [], ◌∷◌, Option, Some, None, arith}
+use Rattle.std.proofs.Common.{ℕ, zero, suc, ◌≡◌, ◌==◌, ◌<◌, ◌≤◌, lit<, inl, inr, Bool, true, false, refl, ap, sym, ◌∙◌, List, [], ◌∷◌, Option, Some, None,
+  arith}
 use Rattle.std.proofs.lemmas.Bool.{eqb-true, true≢false, cases_lt}
 use Rattle.tx_events.specs.declared.Event.{Event}
 use Rattle.tx_events.specs.declared.Event.TheVariants.{Store, EndAtomic, Done}
@@ -45,7 +46,9 @@ abbrev Within : (ℕ → Bool) → Type 0
 Within f = (y : ℕ) → (y == 65536) ≡ false → (y == 65544) ≡ false → f y ≡ false
 
 first_least : (f : ℕ → Bool) → Within f → f 65536 ≡ true → least f N ≡ Some 65536
-first_least f h e = is_least f N 65536 e (let less = above in omega (arith, less)) (λ y i. h y (not_true (y == 65536) (λ j. let k = eqb-true y 65536 j in absurd (omega (arith, i, k)))) (not_true (y == 65544) (λ j. let k = eqb-true y 65544 j in absurd (omega (arith, i, k)))))
+first_least f h e = is_least f N 65536 e (let less = above in omega (arith, less))
+    (λ y i. h y (not_true (y == 65536) (λ j. let k = eqb-true y 65536 j in absurd (omega (arith, i, k))))
+    (not_true (y == 65544) (λ j. let k = eqb-true y 65544 j in absurd (omega (arith, i, k)))))
 
 second_least : (f : ℕ → Bool) → Within f → f 65536 ≡ false → f 65544 ≡ true → least f N ≡ Some 65544
 second_least f h d e = is_least f N 65544 e above (λ y i. elim (y == 65536) as (λ b. (y == 65536) ≡ b → f y ≡ false) [
@@ -171,7 +174,8 @@ abbrev save : Save
 save = update no_save 65544 (Some 0)
 
 abbrev one : Local (List Event)
-one = record { state = Store 65536 8 4 false ∷ EndAtomic ∷ Done ∷ []; ended = false; held = update nothing 65544 true; wrote = update nothing 65544 true; tx = OpenTx 1 kept (save ∷ []) }
+one = record { state = Store 65536 8 4 false ∷ EndAtomic ∷ Done ∷ []; ended = false; held = update nothing 65544 true; wrote = update nothing 65544 true;
+    tx = OpenTx 1 kept (save ∷ []) }
 
 abbrev giving : Local (List Event)
 giving = record one { tx = GivingUp 1 kept (save ∷ []) }
@@ -216,7 +220,8 @@ undone : takes 1 after_7 ≡ record { machine = after_8; kind = Undone 65544 }
 unfolding word_of merge can_access is_mapped is_aligned
 undone =
     ap (λ o. gives_back two_words 1 after_7 giving 1 kept (save ∷ []) o) younger_held
-    ∙ ap (λ o. record { machine = record (steps 1 after_7 (given_back giving 1 kept (save ∷ []) 65544 o)) { memory = update after_7.memory 65544 0 }; kind = Undone 65544 }) younger_bare
+    ∙ ap (λ o. record { machine = record (steps 1 after_7 (given_back giving 1 kept (save ∷ []) 65544 o)) { memory = update after_7.memory 65544 0 };
+        kind = Undone 65544 }) younger_bare
 
 ended : takes 0 after_9 ≡ record { machine = after_10; kind = Ran }
 unfolding word_of merge can_access is_mapped is_aligned
@@ -242,7 +247,8 @@ also kind r = record r { kinds = kind ∷ r.kinds }
 abbrev with_rest : List ℕ → Turned (List Event) → Played
 with_rest ts z = also z.kind (plays younger_events ts z.machine)
 
-plays_on : (t : ℕ) (ts : List ℕ) (m m' : Machine (List Event)) (kind : TurnKind) (rest : Played) → takes t m ≡ record { machine = m'; kind = kind } → plays younger_events ts m' ≡ rest → plays younger_events (t ∷ ts) m ≡ also kind rest
+plays_on : (t : ℕ) (ts : List ℕ) (m m' : Machine (List Event)) (kind : TurnKind) (rest : Played) → takes t m ≡ record { machine = m'; kind = kind }
+    → plays younger_events ts m' ≡ rest → plays younger_events (t ∷ ts) m ≡ also kind rest
 plays_on t ts m m' kind rest e f = ap (with_rest ts) e ∙ ap (also kind) f
 
 abbrev both_words : List TurnKind → Played
@@ -258,13 +264,16 @@ from_9 =
     (plays_on 0 (0 ∷ 1 ∷ 1 ∷ 1 ∷ []) after_10 after_11 (Released 65536) _ released
     (plays_on 0 (1 ∷ 1 ∷ 1 ∷ []) after_11 after_12 (Released 65544) _ gone last_turns))
 
-from_6 : plays younger_events (1 ∷ 1 ∷ 0 ∷ 0 ∷ 0 ∷ 0 ∷ 1 ∷ 1 ∷ 1 ∷ []) after_6 ≡ both_words (Rolled 65536 0 ∷ Undone 65544 ∷ Ran ∷ Ran ∷ Released 65536 ∷ Released 65544 ∷ Ran ∷ Ran ∷ Ran ∷ [])
+from_6 : plays younger_events (1 ∷ 1 ∷ 0 ∷ 0 ∷ 0 ∷ 0 ∷ 1 ∷ 1 ∷ 1 ∷ []) after_6
+    ≡ both_words (Rolled 65536 0 ∷ Undone 65544 ∷ Ran ∷ Ran ∷ Released 65536 ∷ Released 65544 ∷ Ran ∷ Ran ∷ Ran ∷ [])
 unfolding word_of merge can_access is_mapped is_aligned
 from_6 =
     plays_on 1 (1 ∷ 0 ∷ 0 ∷ 0 ∷ 0 ∷ 1 ∷ 1 ∷ 1 ∷ []) after_6 after_7 (Rolled 65536 0) _ rolled
     (plays_on 1 (0 ∷ 0 ∷ 0 ∷ 0 ∷ 1 ∷ 1 ∷ 1 ∷ []) after_7 after_8 (Undone 65544) _ undone
     (plays_on 0 (0 ∷ 0 ∷ 0 ∷ 1 ∷ 1 ∷ 1 ∷ []) after_8 after_9 Ran _ refl from_9))
 
-pub crossed_is : crossed ≡ both_words (Ran ∷ Ran ∷ Ran ∷ Ran ∷ Ran ∷ Waited 65544 1 ∷ Rolled 65536 0 ∷ Undone 65544 ∷ Ran ∷ Ran ∷ Released 65536 ∷ Released 65544 ∷ Ran ∷ Ran ∷ Ran ∷ [])
+pub crossed_is : crossed
+    ≡ both_words
+    (Ran ∷ Ran ∷ Ran ∷ Ran ∷ Ran ∷ Waited 65544 1 ∷ Rolled 65536 0 ∷ Undone 65544 ∷ Ran ∷ Ran ∷ Released 65536 ∷ Released 65544 ∷ Ran ∷ Ran ∷ Ran ∷ [])
 unfolding word_of merge can_access is_mapped is_aligned
 crossed_is = ap (λ r. also Ran (also Ran (also Ran (also Ran (also Ran (also (Waited 65544 1) r)))))) from_6

@@ -10,7 +10,8 @@ use Rattle.tx_serial.specs.Shows.{ShowsThread}
 abbrev pub undoes : {S : Type 0} → Option (Local S) → ℕ → Bool
 undoes o x = live_in o && wrote_by o x
 
-pub record Going {S : Type 0} (a : Thread S) (p : MemoryLayout) (memory : ℕ → ℕ) (threads : ℕ → Option (Local S)) (started : ℕ) (lock : Lock) (w : World S) : Type 0 where
+pub record Going {S : Type 0} (a : Thread S) (p : MemoryLayout) (memory : ℕ → ℕ) (threads : ℕ → Option (Local S)) (started : ℕ) (lock : Lock)
+    (w : World S) : Type 0 where
   pub started_is : w.started ≡ started
   pub lock_is : w.lock ≡ lock
   pub fresh : (u : ℕ) → started ≤ u → threads u ≡ None

@@ -16,17 +16,20 @@ use Rattle.tx_serial.proofs.OutsideTurns.{out_kept_all}
 use Rattle.tx_serial.proofs.InsideTurns.{in_kept_all, gives_back_kept, lets_go_kept}
 
 module _ {S : Type 0} (a : Thread S) (p : MemoryLayout) (start : World S) where
-  by_tx : (answer : Clash → Choice) (t : ℕ) (m : Machine S) (l : Local S) (k : Known a p start t m l) (tx : Tx S) → l.tx ≡ tx → ShowsTx a p m.memory k.w.memory k.here.s.state l tx → Agreed a p start (turn_in a p answer t m l tx).machine
+  by_tx : (answer : Clash → Choice) (t : ℕ) (m : Machine S) (l : Local S) (k : Known a p start t m l) (tx : Tx S) → l.tx ≡ tx
+      → ShowsTx a p m.memory k.w.memory k.here.s.state l tx → Agreed a p start (turn_in a p answer t m l tx).machine
   by_tx answer t m l k NoTx e f = out_kept_all a p start t m l k e f (a.next l.state) refl
   by_tx answer t m l k (OpenTx b kk ss) e f = in_kept_all a p start t m l k b kk ss e f answer (a.next l.state) refl
   by_tx answer t m l k (GivingUp b kk ss) e f = gives_back_kept a p start t m l k b kk ss e f (least l.held (word_bound p)) refl
   by_tx answer t m l k (Closing b) e f = lets_go_kept a p start t m l k b e f (least l.held (word_bound p)) refl
 
-  alive_of : (t : ℕ) (m : Machine S) (w : World S) (l : Local S) (y : Option (Alive S)) → ShowsThread a p m.memory w.memory (Some l) y → (s : Alive S) × (y ≡ Some s) × ShowsLocal a p m.memory w.memory l s
+  alive_of : (t : ℕ) (m : Machine S) (w : World S) (l : Local S) (y : Option (Alive S)) → ShowsThread a p m.memory w.memory (Some l) y
+      → (s : Alive S) × (y ≡ Some s) × ShowsLocal a p m.memory w.memory l s
   alive_of t m w l None f = absurd f
   alive_of t m w l (Some s) f = (s, refl, f)
 
-  by_thread : (answer : Clash → Choice) (t : ℕ) (m : Machine S) → Agreed a p start m → m.end ≡ None → (o : Option (Local S)) → m.threads t ≡ o → Agreed a p start (turn_of a p answer t m o).machine
+  by_thread : (answer : Clash → Choice) (t : ℕ) (m : Machine S) → Agreed a p start m → m.end ≡ None → (o : Option (Local S)) → m.threads t ≡ o
+      → Agreed a p start (turn_of a p answer t m o).machine
   by_thread answer t m f goes None is = f
   by_thread answer t m f goes (Some l) is =
       let g = f.2.going goes in
@@ -43,7 +46,8 @@ module _ {S : Type 0} (a : Thread S) (p : MemoryLayout) (start : World S) where
       } in
       by_tx answer t m l k l.tx refl q.2.tx)
 
-  by_end : (answer : Clash → Choice) (t : ℕ) (m : Machine S) → Agreed a p start m → (o : Option End) → m.end ≡ o → Agreed a p start (turn_at a p answer t m o).machine
+  by_end : (answer : Clash → Choice) (t : ℕ) (m : Machine S) → Agreed a p start m → (o : Option End) → m.end ≡ o
+      → Agreed a p start (turn_at a p answer t m o).machine
   by_end answer t m f None e = by_thread answer t m f e (m.threads t) refl
   by_end answer t m f (Some x) e = f
 
@@ -73,11 +77,14 @@ first_live : {S : Type 0} (main : S) (u : ℕ) → live_in (first_thread main u)
 first_live main zero = refl
 first_live main (suc u) = refl
 
-first_shown : {S : Type 0} (a : Thread S) (p : MemoryLayout) (memory : ℕ → ℕ) (main : S) (u : ℕ) → ShowsThread a p memory memory (first_thread main u) (only_first main u)
-first_shown a p memory main zero = record { ended = refl; holds = λ x h. absurd (false≢true h); bounded = λ x h. absurd (false≢true h); tx = (none, λ x. refl) }
+first_shown : {S : Type 0} (a : Thread S) (p : MemoryLayout) (memory : ℕ → ℕ) (main : S) (u : ℕ)
+    → ShowsThread a p memory memory (first_thread main u) (only_first main u)
+first_shown a p memory main zero = record { ended = refl; holds = λ x h. absurd (false≢true h); bounded = λ x h. absurd (false≢true h);
+    tx = (none, λ x. refl) }
 first_shown a p memory main (suc u) = tt
 
-pub start_shown : {S : Type 0} (a : Thread S) (p : MemoryLayout) (memory : ℕ → ℕ) (input : List ℕ) (main : S) → Agreed a p (first_world memory input main) (first_machine memory input main)
+pub start_shown : {S : Type 0} (a : Thread S) (p : MemoryLayout) (memory : ℕ → ℕ) (input : List ℕ) (main : S)
+    → Agreed a p (first_world memory input main) (first_machine memory input main)
 start_shown a p memory input main = (
   first_world memory input main,
   refl,

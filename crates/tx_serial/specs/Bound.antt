@@ -2,7 +2,8 @@
 -- puts a word back and one that lets it go.
 use Rattle.std.specs.Prelude.{ℕ, suc, ◌≡◌, ◌==◌, ◌≤◌, ◌+◌, ◌*◌, Bool, true, false, cond, List, [], ◌∷◌}
 use Rattle.tx_events.specs.declared.Event.{Event}
-use Rattle.tx_events.specs.declared.Event.TheVariants.{Silent, Load, Store, Out, Inp, Spawn, Join, BeginAtomic, EndAtomic, Raise, BeginSync, EndSync, Done, Stop}
+use Rattle.tx_events.specs.declared.Event.TheVariants.{Silent, Load, Store, Out, Inp, Spawn, Join, BeginAtomic, EndAtomic, Raise, BeginSync, EndSync, Done,
+  Stop}
 use Rattle.tx_events.specs.declared.Reply.{Reply}
 use Rattle.tx_events.specs.declared.TurnKind.{TurnKind}
 use Rattle.tx_events.specs.declared.TurnKind.TheVariants.{Ran, Waited, BlockWait, JoinWait, Rolled, Undone, Released, Idle}
@@ -74,12 +75,14 @@ is_spawn Done = false
 is_spawn (Stop e) = false
 
 -- What the thread has executed once the step's event is done: of a whole block, with the event that ends it.
-abbrev pub tally_at : {S : Type 0} (a : Thread S) (p : MemoryLayout) (t : ℕ) (w : World (S × Tally)) (s : S × Tally) (e : Event) (v : World (S × Tally)) → EventStep (tallied a) p t w s e v → Tally
+abbrev pub tally_at : {S : Type 0} (a : Thread S) (p : MemoryLayout) (t : ℕ) (w : World (S × Tally)) (s : S × Tally) (e : Event) (v : World (S × Tally))
+    → EventStep (tallied a) p t w s e v → Tally
 tally_at a p t w s (BeginAtomic kind) v d = tally_in (a.next d.1.last.state.0) d.1.last.state.1
 tally_at a p t w s e v d = tally_in e s.1
 
 -- The run executes at most so many instructions and so many accesses, and spawns nothing.
-abbrev pub AtMost : {S : Type 0} (a : Thread S) (p : MemoryLayout) (steps accesses : ℕ) (w : World (S × Tally)) (order : List ℕ) (v : World (S × Tally)) → Replays (tallied a) p w order v → Type 0
+abbrev pub AtMost : {S : Type 0} (a : Thread S) (p : MemoryLayout) (steps accesses : ℕ) (w : World (S × Tally)) (order : List ℕ) (v : World (S × Tally))
+    → Replays (tallied a) p w order v → Type 0
 AtMost a p steps accesses w [] v h = Unit {0}
 AtMost a p steps accesses w (t ∷ order) v h =
     (is_spawn (a.next h.1.before.0) ≡ false)

@@ -64,8 +64,10 @@ cancelled = play (BeginAtomic Cancel ∷ Store 65536 8 1 false ∷ Store 65544 8
 
 -- an inner block that cancels, in a block that stored to the same word before
 abbrev pub inner_cancelled : Played
-inner_cancelled = play (BeginAtomic Cancel ∷ Store 65536 8 1 false ∷ BeginAtomic Cancel ∷ Store 65536 8 2 false ∷ Raise Cancel true ∷ EndAtomic ∷ []) [] (0 ∷ 0 ∷ 0 ∷ 0 ∷ 0 ∷ 0 ∷ 0 ∷ 0 ∷ [])
+inner_cancelled = play (BeginAtomic Cancel ∷ Store 65536 8 1 false ∷ BeginAtomic Cancel ∷ Store 65536 8 2 false ∷ Raise Cancel true ∷ EndAtomic ∷ []) []
+    (0 ∷ 0 ∷ 0 ∷ 0 ∷ 0 ∷ 0 ∷ 0 ∷ 0 ∷ [])
 
 -- an inner block that commits, in a block that cancels
 abbrev pub outer_cancelled : Played
-outer_cancelled = play (BeginAtomic Cancel ∷ BeginAtomic NoExcept ∷ Store 65536 8 1 false ∷ EndAtomic ∷ Raise Cancel true ∷ []) [] (0 ∷ 0 ∷ 0 ∷ 0 ∷ 0 ∷ 0 ∷ 0 ∷ [])
+outer_cancelled = play (BeginAtomic Cancel ∷ BeginAtomic NoExcept ∷ Store 65536 8 1 false ∷ EndAtomic ∷ Raise Cancel true ∷ []) []
+    (0 ∷ 0 ∷ 0 ∷ 0 ∷ 0 ∷ 0 ∷ 0 ∷ [])

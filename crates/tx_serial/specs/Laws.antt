@@ -22,7 +22,7 @@ EndsAs None e = e ≡ StepsOut
 EndsAs (Some end) e = e ≡ end
 
 -- The order of a run replays in the indivisible world, with the same output, input left and end.
-pub record Replayed {S : Type 0} (a : Thread S) (p : MemoryLayout) (start : World S) (result : Outcome) : Type 0 where
+pub record Replayed {S : Type 0} (a : Thread S) (p : MemoryLayout) (start : World S) (result : Outcome S) : Type 0 where
   pub world : World S
   pub replays : Replays a p start result.order world
   pub out : result.out ≡ world.out

@@ -11,3 +11,4 @@ pub mod Trace
 pub mod Laws
 pub mod Bound
 pub mod Steps
+pub mod Past

@@ -142,9 +142,13 @@ no_waits = record { word = 0; least = 0; count = 0 }
 abbrev pub waits_at : Waits → ℕ → ℕ → ℕ
 waits_at ws x b = cond ((ws.word == x) && (ws.least == b)) ws.count 0
 
--- one more, up to 2^32 - 1
+-- the greatest count of them
+abbrev pub most_waits : ℕ
+most_waits = 4294967295
+
+-- one more, up to the greatest count
 abbrev pub wait_more : Waits → ℕ → ℕ → Waits
-wait_more ws x b = record { word = x; least = b; count = min (waits_at ws x b + 1) 4294967295 }
+wait_more ws x b = record { word = x; least = b; count = min (waits_at ws x b + 1) most_waits }
 
 -- The clash that thread t, whose transaction has the birth b, shows its policy, where u is the blocking thread whose
 -- birth is least.

@@ -3,7 +3,8 @@ use Rattle.std.specs.Prelude.{ℕ, zero, suc, ◌≡◌, ◌==◌, ◌<◌, ◌�
 use Rattle.tx_events.specs.declared.BlockKind.{BlockKind}
 use Rattle.tx_events.specs.declared.BlockKind.TheVariants.{NoExcept, Commit, Cancel}
 use Rattle.tx_events.specs.declared.Event.{Event}
-use Rattle.tx_events.specs.declared.Event.TheVariants.{Silent, Load, Store, Out, Inp, Spawn, Join, BeginAtomic, EndAtomic, Raise, BeginSync, EndSync, Done, Stop}
+use Rattle.tx_events.specs.declared.Event.TheVariants.{Silent, Load, Store, Out, Inp, Spawn, Join, BeginAtomic, EndAtomic, Raise, BeginSync, EndSync, Done,
+  Stop}
 use Rattle.tx_events.specs.declared.Reply.TheVariants.{Nothing}
 use Rattle.tx_events.specs.Thread.{Thread}
 use Rattle.tx_events.specs.Memory.{MemoryLayout, word_bound}
@@ -95,7 +96,8 @@ pub record InBlock {S : Type 0} (a : Thread S) (p : MemoryLayout) (memory outsid
   pub accessed : (x : ℕ) → inner.accessed x ≡ l.held x
   pub stored : (x : ℕ) → inner.stored x ≡ l.wrote x
   pub even : Even ss inner.copies
-  pub agrees : (x : ℕ) → l.held x ≡ true → (inner.memory x ≡ memory x) ⊎ ((cancelling (a.next l.state) ≡ true) × (newest inner.copies inner.memory x ≡ memory x))
+  pub agrees : (x : ℕ) → l.held x ≡ true → (inner.memory x ≡ memory x) ⊎
+      ((cancelling (a.next l.state) ≡ true) × (newest inner.copies inner.memory x ≡ memory x))
   pub levels : (x : ℕ) → l.held x ≡ true → LevelsAt x (memory x) ss inner.copies
   pub unsaved : (x : ℕ) → l.wrote x ≡ false → NoneAt x ss
 

@@ -1,7 +1,8 @@
 -- The trace of an order: what a replay of it in the indivisible world reads, writes, enters, leaves, starts and joins.
 use Rattle.std.specs.Prelude.{ℕ, ℤ, ◌≡◌, Bool, true, false, nat_lt, List, [], ◌∷◌, ◌++◌, Option, Some, None}
 use Rattle.tx_events.specs.declared.Event.{Event}
-use Rattle.tx_events.specs.declared.Event.TheVariants.{Silent, Load, Store, Out, Inp, Spawn, Join, BeginAtomic, EndAtomic, Raise, BeginSync, EndSync, Done, Stop}
+use Rattle.tx_events.specs.declared.Event.TheVariants.{Silent, Load, Store, Out, Inp, Spawn, Join, BeginAtomic, EndAtomic, Raise, BeginSync, EndSync, Done,
+  Stop}
 use Rattle.tx_events.specs.declared.Item.{Item}
 use Rattle.tx_events.specs.declared.What.{What}
 use Rattle.tx_events.specs.declared.What.TheVariants.{Read, Write, Enter, Leave, Spawned, Joined}
@@ -52,7 +53,8 @@ join_items t id (Some u) = record { t = t; what = Joined (number_of id) } ∷ []
 
 -- The items of a step of thread t, in the state s: of its event, or of its whole atomic block. A block is outer where no
 -- other block of the thread is open around it.
-abbrev pub step_items : {S : Type 0} (a : Thread S) (p : MemoryLayout) (t : ℕ) (w : World S) (s : S) (e : Event) (v : World S) → EventStep a p t w s e v → List Item
+abbrev pub step_items : {S : Type 0} (a : Thread S) (p : MemoryLayout) (t : ℕ) (w : World S) (s : S) (e : Event) (v : World S) → EventStep a p t w s e v
+    → List Item
 step_items a p t w s (BeginAtomic kind) v d =
     item_if (is_empty (a.blocks s)) t Enter ++ (inside_items t d.1.run ++ leave_items (is_empty (a.blocks s)) t (outcome d.1))
 step_items a p t w s (Load addr size vol) v d = access_items p t (Load addr size vol)

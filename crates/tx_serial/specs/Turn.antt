@@ -9,14 +9,16 @@ use Rattle.tx_events.specs.declared.Trap.TheVariants.{BadAddress, TooManyThreads
 use Rattle.tx_events.specs.declared.End.{End}
 use Rattle.tx_events.specs.declared.End.TheVariants.{Abort, Trapped}
 use Rattle.tx_events.specs.declared.Event.{Event}
-use Rattle.tx_events.specs.declared.Event.TheVariants.{Silent, Load, Store, Out, Inp, Spawn, Join, BeginAtomic, EndAtomic, Raise, BeginSync, EndSync, Done, Stop}
+use Rattle.tx_events.specs.declared.Event.TheVariants.{Silent, Load, Store, Out, Inp, Spawn, Join, BeginAtomic, EndAtomic, Raise, BeginSync, EndSync, Done,
+  Stop}
 use Rattle.tx_events.specs.declared.Reply.TheVariants.{Nothing, Loaded, Byte, Id}
 use Rattle.tx_events.specs.declared.TurnKind.{TurnKind}
 use Rattle.tx_events.specs.declared.TurnKind.TheVariants.{Ran, Waited, BlockWait, JoinWait, Rolled, Undone, Released, Idle}
 use Rattle.tx_events.specs.Thread.{Thread}
 use Rattle.tx_events.specs.Memory.{update, MemoryLayout, can_access, word_of, word_bound, load, store}
 use Rattle.tx_events.specs.World.{lock_in, lock_out, target, byte_of, input_after}
-use Rattle.tx_serial.specs.Machine.{Save, Tx, NoTx, OpenTx, GivingUp, Closing, Local, Machine, least, birth_of, blocker, lock_owner, busy, no_waits, wait_more, clash_of, kept_or, oldest, forget, forget_all, hand, note, no_save, is_noted}
+use Rattle.tx_serial.specs.Machine.{Save, Tx, NoTx, OpenTx, GivingUp, Closing, Local, Machine, least, birth_of, blocker, lock_owner, busy, no_waits, wait_more,
+  clash_of, kept_or, oldest, forget, forget_all, hand, note, no_save, is_noted}
 
 -- What a turn leads to: the machine after it, and its kind.
 pub record Turned (S : Type 0) : Type 0 where
@@ -99,15 +101,19 @@ joins t id m l (Some u) = cond u.ended (ran (order_gains t (steps t m l))) (stay
 -- the rows of a thread that has no transaction
 abbrev pub out_does : {S : Type 0} → Thread S → MemoryLayout → ℕ → Machine S → Local S → Event → Turned S
 out_does a p t m l Silent = ran (steps t m (record l { state = a.after l.state Nothing }))
-out_does a p t m l (Load addr size vol) = cond (can_access p addr size) (load_out a t m l addr size (blocker t false (word_of addr) m)) (halts t m (Trapped BadAddress))
-out_does a p t m l (Store addr size value vol) = cond (can_access p addr size) (store_out a t m l addr size value (blocker t true (word_of addr) m)) (halts t m (Trapped BadAddress))
+out_does a p t m l (Load addr size vol) = cond (can_access p addr size) (load_out a t m l addr size (blocker t false (word_of addr) m))
+    (halts t m (Trapped BadAddress))
+out_does a p t m l (Store addr size value vol) = cond (can_access p addr size) (store_out a t m l addr size value (blocker t true (word_of addr) m))
+    (halts t m (Trapped BadAddress))
 out_does a p t m l (BeginAtomic kind) = begins t m l (a.after l.state Nothing) (lock_owner t m.lock.holder)
 out_does a p t m l BeginSync = sync_in t m (record l { state = a.after l.state Nothing }) (lock_owner t m.lock.holder)
 out_does a p t m l EndSync = ran (record (order_gains t (steps t m (record l { state = a.after l.state Nothing }))) { lock = lock_out m.lock })
-out_does a p t m l (Spawn f x) = cond (nat_lt m.started p.limit) (ran (spawns t m (record l { state = a.after l.state (Id (pos m.started)) }) (a.child l.state m.started f x))) (halts t m (Trapped TooManyThreads))
+out_does a p t m l (Spawn f x) = cond (nat_lt m.started p.limit)
+    (ran (spawns t m (record l { state = a.after l.state (Id (pos m.started)) }) (a.child l.state m.started f x))) (halts t m (Trapped TooManyThreads))
 out_does a p t m l (Join id) = joins t id m (record l { state = a.after l.state Nothing }) (target t id m.threads)
 out_does a p t m l (Out byte) = ran (record (order_gains t (steps t m (record l { state = a.after l.state Nothing }))) { out = m.out ++ byte ∷ [] })
-out_does a p t m l Inp = ran (record (order_gains t (steps t m (record l { state = a.after l.state (Byte (byte_of m.input)) }))) { input = input_after m.input })
+out_does a p t m l Inp = ran
+    (record (order_gains t (steps t m (record l { state = a.after l.state (Byte (byte_of m.input)) }))) { input = input_after m.input })
 out_does a p t m l Done = ran (order_gains t (steps t m (record l { state = a.after l.state Nothing; ended = true })))
 out_does a p t m l (Stop e) = halts t m e
 -- by the laws of a thread's blocks these never come here
@@ -187,8 +193,10 @@ raises p t m l s b k ss Cancel false = halts t m Abort
 -- the rows of a thread whose transaction is open
 abbrev pub in_does : {S : Type 0} → Thread S → MemoryLayout → (Clash → Choice) → ℕ → Machine S → Local S → ℕ → S → List Save → Event → Turned S
 in_does a p answer t m l b k ss Silent = ran (steps t m (record l { state = a.after l.state Nothing; tx = OpenTx b k ss }))
-in_does a p answer t m l b k ss (Load addr size vol) = cond (can_access p addr size) (load_in a p answer t m l b k ss addr size (blocker t false (word_of addr) m)) (halts t m (Trapped BadAddress))
-in_does a p answer t m l b k ss (Store addr size value vol) = cond (can_access p addr size) (store_in a p answer t m l b k ss addr size value (blocker t true (word_of addr) m)) (halts t m (Trapped BadAddress))
+in_does a p answer t m l b k ss (Load addr size vol) = cond (can_access p addr size)
+    (load_in a p answer t m l b k ss addr size (blocker t false (word_of addr) m)) (halts t m (Trapped BadAddress))
+in_does a p answer t m l b k ss (Store addr size value vol) = cond (can_access p addr size)
+    (store_in a p answer t m l b k ss addr size value (blocker t true (word_of addr) m)) (halts t m (Trapped BadAddress))
 in_does a p answer t m l b k ss (BeginAtomic kind) = ran (steps t m (record l { state = a.after l.state Nothing; tx = OpenTx b k (no_save ∷ ss) }))
 in_does a p answer t m l b k ss EndAtomic = commits p t m l (a.after l.state Nothing) b k ss
 in_does a p answer t m l b k ss (Raise kind can) = raises p t m l (a.after l.state Nothing) b k ss kind can
@@ -225,7 +233,8 @@ given_back l b k ss x (Some y) = record l { held = without l.held x; wrote = wit
 abbrev pub gives_back : {S : Type 0} → MemoryLayout → ℕ → Machine S → Local S → ℕ → S → List Save → Option ℕ → Turned S
 gives_back p t m l b k ss None = stays Idle m
 gives_back p t m l b k ss (Some x) = record {
-  machine = record (steps t m (given_back l b k ss x (least (without l.held x) (word_bound p)))) { memory = update m.memory x (kept_or (oldest ss x) (m.memory x)) };
+  machine = record
+      (steps t m (given_back l b k ss x (least (without l.held x) (word_bound p)))) { memory = update m.memory x (kept_or (oldest ss x) (m.memory x)) };
   kind = Undone x;
 }
 
@@ -267,4 +276,5 @@ first_thread s (suc n) = None
 
 -- The machine at the start: thread 0 alone, and nothing held.
 abbrev pub first_machine : {S : Type 0} → (ℕ → ℕ) → List ℕ → S → Machine S
-first_machine memory input main = record { memory = memory; threads = first_thread main; started = 1; lock = record { holder = None; depth = 0 }; births = 0; waits = λ _. no_waits; out = []; input = input; order = []; end = None }
+first_machine memory input main = record { memory = memory; threads = first_thread main; started = 1; lock = record { holder = None; depth = 0 }; births = 0;
+    waits = λ _. no_waits; out = []; input = input; order = []; end = None }

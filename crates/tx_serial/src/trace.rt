@@ -9,7 +9,8 @@ use tx_events::Actor;
 
 /// An order that replays has a trace, and only one.
 pub fn one_trace<A: Actor>()
-    ensures exists { (p : MemoryLayout) (start v : World A.State) (order : List ℕ) → Replays A.thread p start order v → (items : List Item) × TraceOf A.thread p start order items }
+    ensures exists { (p : MemoryLayout) (start v : World A.State) (order : List ℕ) → Replays A.thread p start order v
+        → (items : List Item) × TraceOf A.thread p start order items }
     ensures unique { (p : MemoryLayout) (start : World A.State) (order : List ℕ) (items other : List Item) →
         TraceOf A.thread p start order items → TraceOf A.thread p start order other → other ≡ items }
 {}

@@ -1,15 +1,16 @@
 //! Under the rule of the policy `older` there is no circle of waits for words.
 ghost use Rattle.tx_events.specs.declared.TheConstants.{THREAD_LIMIT};
-ghost use Rattle.std.specs.Prelude.{◌≡◌, ℕ, ◌<◌, ◌≤◌, true};
+ghost use Rattle.std.specs.Prelude.{◌≡◌, ℕ, ◌<◌, ◌≤◌, true, List, []};
 ghost use Rattle.choosers.specs.declared.Clash.{Clash};
 ghost use Rattle.choosers.specs.declared.Choice.{Choice};
 ghost use Rattle.choosers.specs.Answers.{answer, is_older, Older};
 ghost use Rattle.tx_events.specs.Memory.{MemoryLayout};
 ghost use Rattle.tx_events.specs.declared.TurnKind.TheVariants.{Waited, Rolled};
 ghost use Rattle.tx_serial.specs.Machine.{Machine, tx_in, birth_of};
-ghost use Rattle.tx_serial.specs.Turn.{turn};
+ghost use Rattle.tx_serial.specs.Turn.{Slot, turn, first_machine};
+ghost use Rattle.tx_serial.specs.Run.{AnsweredBy, EachTurn, not_begun};
 ghost use Rattle.tx_serial.specs.Sound.{Sound};
-ghost use Rattle.tx_serial.specs.Circle.{AnswersAt, AnswersBy, IsEldest, IsYoungest, Blocks, WaitsOn};
+ghost use Rattle.tx_serial.specs.Circle.{AnswersAt, AnswersBy, IsEldest, IsYoungest, Blocks, WaitsOn, OlderTurn};
 
 use tx_events::Actor;
 
@@ -44,4 +45,12 @@ pub fn no_circle_of_waits<A: Actor>()
 /// The policy `older` answers what its rule allows, at every machine.
 pub fn older_keeps_rule<A: Actor>()
     ensures { (p : MemoryLayout) (m : Machine A.State) → AnswersBy is_older A.thread p (answer Older) m }
+{}
+
+/// And so in each turn of a run whose answers are all of that rule.
+pub fn older_turns<A: Actor>()
+    ensures { (p : MemoryLayout) (memory : ℕ → ℕ) (input : List ℕ) (main : A.State) (slots : List Slot) →
+        p.limit ≤ THREAD_LIMIT → A.is_reached main → A.thread.blocks main ≡ [] →
+        AnsweredBy (λ clash choice. is_older clash choice ≡ true) A.thread p slots (not_begun (first_machine memory input main)) →
+        EachTurn (OlderTurn A.thread p) A.thread p slots (not_begun (first_machine memory input main)) }
 {}
