@@ -15,6 +15,9 @@ use Rattle.elab_ctx.specs.declared.env.TypeName.{TypeName}
 use Rattle.elab_ctx.specs.declared.env.FuncDecl.{FuncDecl}
 use Rattle.elab_ctx.specs.declared.env.EnumRec.{EnumRec}
 use Rattle.elab_ctx.specs.declared.env.DefaultInit.{DefaultInit}
+use Rattle.elab_ctx.specs.declared.env.Special.{Special as SpecialRec}
+use Rattle.elab_ctx.specs.declared.env.Special.TheVariants as special_rec
+use Rattle.elab_ctx.specs.declared.env.Traits.{Traits as TraitsRec}
 use Rattle.elab_ctx.specs.declared.env.Variable.{Variable as VariableRec}
 use Rattle.elab_ctx.specs.declared.env.This.{This as ThisRec}
 use Rattle.elab_ctx.specs.declared.env.Returns.{Returns as ReturnsRec}
@@ -66,6 +69,27 @@ pub record This : Type 0 where
   pub typ : Typ
   pub place : ℕ
 
+-- a special member of a class (C++14 clause 12): it is not there, it does what is done to each part, or it is a function of the unit
+pub data Special : Type 0 where
+  absent : Special
+  trivial : Special
+  function : ℕ → Special
+
+-- what holds of a complete class as a whole
+pub record Traits : Type 0 where
+  pub default : Special
+  pub copy : Special
+  -- an implicit copy takes objects that are `const` too
+  pub copies_const : Bool
+  pub destructor : Special
+  -- there is an implicit copy assignment
+  pub is_assignable : Bool
+  pub is_abstract : Bool
+  -- it has a part that is volatile
+  pub is_volatile : Bool
+  -- it is copied byte by byte (C++14 3.9)
+  pub is_trivially_copyable : Bool
+
 pub data Returns : Type 0 where
   known : Typ → Returns
   deduced : Option Typ → Returns
@@ -100,7 +124,8 @@ pub record Ctx : Type 0 where
   pub scopes : List Names
   pub types : List Named
   pub classes : List Class
-  -- the final overriders of each class
+  -- of each class what holds of it once it is complete, and its final overriders
+  pub traits : List Traits
   pub slots : List (List SlotFunc)
   pub defaults : List Default
   pub funcs : List Func
@@ -136,6 +161,14 @@ enumerator_of e = record { typ = typ_of e.ty; word = e.word }
 abbrev pub default_of : List Tree → DefaultInit → Default
 default_of trees d = record { class = d.class; member = d.member; init = tree_at trees d.init; frame = map typ_of d.frame.items }
 
+abbrev pub special_of : SpecialRec → Special
+special_of special_rec.Absent = absent
+special_of special_rec.Trivial = trivial
+special_of (special_rec.Function k) = function k
+
+abbrev pub traits_of : TraitsRec → Traits
+traits_of t = record { default = special_of t.default; copy = special_of t.copy; copies_const = t.copies_const; destructor = special_of t.destructor; is_assignable = t.is_assignable; is_abstract = t.is_abstract; is_volatile = t.is_volatile; is_trivially_copyable = t.is_trivially_copyable }
+
 abbrev pub variable_of : VariableRec → Variable
 variable_of v = record { typ = option_map typ_of v.ty; place = v.place }
 
@@ -159,7 +192,7 @@ abbrev pub closure_of : ClosureRec → Closure
 closure_of c = record { at = c.at; class = c.class; captures = map capture_of c.captures.items }
 
 abbrev pub ctx_of : Env → Ctx
-ctx_of e = record { source = e.source; scopes = e.scopes; types = map named_of e.types.items; classes = classes_of e.classes.items; slots = map (λ slots. map slot_of slots.items) e.slots.items; defaults = map (default_of (trees_of e.default_nodes.items)) e.defaults.items; funcs = map func_of e.funcs.items; enumerators = map enumerator_of e.enumerators.items; variables = map variable_of e.variables.items; this = option_map this_of e.this; class = e.class; returns = returns_of e.returns; breaks = e.breaks; continues = e.continues; label = e.label; labels = labels_of e.labels; lambda = option_map lambda_of e.lambda; closures = map closure_of e.closures.items }
+ctx_of e = record { source = e.source; scopes = e.scopes; types = map named_of e.types.items; classes = classes_of e.classes.items; traits = map traits_of e.traits.items; slots = map (λ slots. map slot_of slots.items) e.slots.items; defaults = map (default_of (trees_of e.default_nodes.items)) e.defaults.items; funcs = map func_of e.funcs.items; enumerators = map enumerator_of e.enumerators.items; variables = map variable_of e.variables.items; this = option_map this_of e.this; class = e.class; returns = returns_of e.returns; breaks = e.breaks; continues = e.continues; label = e.label; labels = labels_of e.labels; lambda = option_map lambda_of e.lambda; closures = map closure_of e.closures.items }
 
 abbrev pub work_of : WorkRec → Work
 work_of w = record { frame = map typ_of w.frame.items; globals = map global_of w.globals.items }

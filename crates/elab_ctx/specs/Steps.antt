@@ -3,6 +3,8 @@ use Rattle.std.specs.Prelude.{ℕ, Bool, true, false, List, [], ◌∷◌, Optio
 use Rattle.cpp_lex.specs.Tokens.{Lexeme}
 use Rattle.cpp_ast.specs.Trees as syntax
 use Rattle.cpp_types.specs.declared.classes.At.{At}
+use Rattle.cpp_tree.specs.Trees.{Tree, Trees}
+use Rattle.elab_ctx.specs.Ctx.{Work}
 use Rattle.cpp_tree.specs.declared.faults.ElabFault.{ElabFault}
 use Rattle.cpp_tree.specs.declared.faults.ElabFault.TheVariants.{Ill}
 use Rattle.cpp_tree.specs.declared.faults.IllRule.{IllRule}
@@ -26,6 +28,29 @@ check at rule false = Err (Ill at rule)
 abbrev pub each_of : {R : Type 0} → (R → syntax.Tree → Result R ElabFault) → R → syntax.Trees → Result R ElabFault
 each_of step r syntax.none = Ok r
 each_of step r (syntax.more t ts) = and_then (step r t) (λ x. each_of step x ts)
+
+-- An expression, and whether it is an integer literal of value 0, parentheses aside (C++14 4.10)
+pub record Operand : Type 0 where
+  pub tree : Tree
+  pub zero : Bool
+
+-- a typed tree, and what is made behind it
+pub record Made : Type 0 where
+  pub tree : Tree
+  pub work : Work
+
+pub record MadeAll : Type 0 where
+  pub trees : Trees
+  pub work : Work
+
+-- an operand, and what is made behind it
+pub record Typed : Type 0 where
+  pub operand : Operand
+  pub work : Work
+
+pub record TypedAll : Type 0 where
+  pub operands : List Operand
+  pub work : Work
 
 -- the spelling of a token
 abbrev pub spelling : List Lexeme → ℕ → List ℕ

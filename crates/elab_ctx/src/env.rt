@@ -48,6 +48,35 @@ pub struct DefaultInit {
     pub frame: Vec<Ty>,
 }
 
+/// A special member of a class (C++14 clause 12).
+#[derive(Clone, Copy, Debug, PartialEq, Eq)]
+pub enum Special {
+    /// It is not there, or can't be called.
+    Absent,
+    /// It does to each part what is to be done, and is no function.
+    Trivial,
+    /// A function of the unit, written or implicit.
+    Function(u32),
+}
+
+/// What holds of a complete class as a whole.
+#[derive(Clone, Copy, Debug, PartialEq, Eq)]
+pub struct Traits {
+    pub default: Special,
+    pub copy: Special,
+    /// Whether an implicit copy takes objects that are `const` too.
+    pub copies_const: bool,
+    pub destructor: Special,
+    /// Whether there is an implicit copy assignment.
+    pub is_assignable: bool,
+    /// Whether a final overrider is pure (C++14 10.4).
+    pub is_abstract: bool,
+    /// Whether a part of it is volatile.
+    pub is_volatile: bool,
+    /// Whether it is copied byte by byte (C++14 3.9).
+    pub is_trivially_copyable: bool,
+}
+
 /// A variable of the function at hand, a parameter too.
 #[derive(Drop)]
 pub struct Variable {
@@ -135,6 +164,8 @@ pub struct Env {
     pub scopes: Scopes,
     pub types: Vec<TypeName>,
     pub classes: Vec<ClassRec>,
+    /// For each class what holds of it once it is complete.
+    pub traits: Vec<Traits>,
     /// For each class the final overriders of its slots.
     pub slots: Vec<Vec<SlotRec>>,
     pub defaults: Vec<DefaultInit>,
