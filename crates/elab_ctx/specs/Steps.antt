@@ -29,9 +29,10 @@ abbrev pub each_of : {R : Type 0} → (R → syntax.Tree → Result R ElabFault)
 each_of step r syntax.none = Ok r
 each_of step r (syntax.more t ts) = and_then (step r t) (λ x. each_of step x ts)
 
--- An expression, and whether it is an integer literal of value 0, parentheses aside (C++14 4.10)
+-- An expression, its place with the parentheses around it, and whether it is an integer literal of value 0 (C++14 4.10)
 pub record Operand : Type 0 where
   pub tree : Tree
+  pub at : At
   pub zero : Bool
 
 -- a typed tree, and what is made behind it

@@ -1,0 +1,5 @@
+pub mod Constants
+pub mod Initialising
+pub mod Objects
+pub mod Operators
+pub mod Values
