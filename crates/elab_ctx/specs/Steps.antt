@@ -2,6 +2,7 @@
 use Rattle.std.specs.Prelude.{ℕ, Bool, true, false, List, [], ◌∷◌, Option, Some, None, Result, Ok, Err, slice_get, option_map, unwrap_or}
 use Rattle.cpp_lex.specs.Tokens.{Lexeme}
 use Rattle.cpp_ast.specs.Trees as syntax
+use Rattle.cpp_ast.specs.declared.arena.At.{At as SyntaxAt}
 use Rattle.cpp_types.specs.declared.classes.At.{At}
 use Rattle.cpp_tree.specs.Trees.{Tree, Trees}
 use Rattle.elab_ctx.specs.Ctx.{Work}
@@ -23,6 +24,10 @@ expect at rule None = Err (Ill at rule)
 abbrev pub check : At → IllRule → Bool → Result Bool ElabFault
 check at rule true = Ok true
 check at rule false = Err (Ill at rule)
+
+-- the place of a syntax node
+abbrev pub at_of : SyntaxAt → At
+at_of p = record { source = p.source; offset = p.offset }
 
 -- trees, one behind the other, where each changes a state
 abbrev pub each_of : {R : Type 0} → (R → syntax.Tree → Result R ElabFault) → R → syntax.Trees → Result R ElabFault
@@ -56,3 +61,10 @@ pub record TypedAll : Type 0 where
 -- the spelling of a token
 abbrev pub spelling : List Lexeme → ℕ → List ℕ
 spelling s k = unwrap_or (option_map (λ (l : Lexeme). l.bytes) (slice_get s k)) []
+
+abbrev pub value_at : List Lexeme → ℕ → ℕ
+value_at s k = unwrap_or (option_map (λ (l : Lexeme). l.value) (slice_get s k)) 0
+
+-- the place of a token in a source
+abbrev pub token_place : List Lexeme → ℕ → ℕ → At
+token_place s source k = record { source = source; offset = unwrap_or (option_map (λ (l : Lexeme). l.from) (slice_get s k)) 0 }

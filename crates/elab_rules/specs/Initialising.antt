@@ -65,10 +65,14 @@ argument o = record { typ = typ_in o.tree; cat = cat_of o.tree; literal = o.zero
 abbrev pub arguments : List Operand → List Argument
 arguments os = map argument os
 
+abbrev pub kept_if : Bool → ℕ → List ℕ → List ℕ
+kept_if true i is = i ∷ is
+kept_if false i is = is
+
 -- the places from `i` on of the functions that pass a test
 abbrev pub places_from : (Func → Bool) → ℕ → List Func → List ℕ
 places_from test i [] = []
-places_from test i (f ∷ fs) = if test f then i ∷ places_from test (suc i) fs else places_from test (suc i) fs
+places_from test i (f ∷ fs) = kept_if (test f) i (places_from test (suc i) fs)
 
 abbrev pub places_of : (Func → Bool) → List Func → List ℕ
 places_of test fs = places_from test 0 fs

@@ -1,5 +1,11 @@
+pub mod Calls
+pub mod Casts
 pub mod Constants
+pub mod Expressions
 pub mod Initialising
+pub mod Names
 pub mod Objects
 pub mod Operators
+pub mod Strings
+pub mod Types
 pub mod Values

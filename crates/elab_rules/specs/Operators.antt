@@ -97,18 +97,18 @@ arithmetic_of op at _ _ a b = Err (Ill at BadOperand)
 
 -- Pointers and numbers (C++14 5.7)
 
+abbrev pub is_object_type : Form → Bool
+is_object_type void = false
+is_object_type (func s) = false
+is_object_type f = true
+
+abbrev pub is_complete : Ctx → Option ℕ → Bool
+is_complete c (Some n) = is_some (completion_of c.classes n)
+is_complete c None = true
+
 -- objects of the type have a size
 abbrev pub is_sized : Ctx → Typ → Bool
-is_sized c t = is_object (form_in t) && has_complete (held t)
-  where
-    is_object : Form → Bool
-    is_object void = false
-    is_object (func s) = false
-    is_object f = true
-
-    has_complete : Option ℕ → Bool
-    has_complete (Some n) = is_some (completion_of c.classes n)
-    has_complete None = true
+is_sized c t = is_object_type (form_in t) && is_complete c (held t)
 
 abbrev pub is_function : Typ → Bool
 is_function (typ (func s) c v) = true
@@ -221,17 +221,22 @@ abbrev pub assigned : At → Option IntKind → Operand → Tree → Result Tree
 assigned at (Some k) a v = Ok (node (Assign k (is_volatile_typ (typ_in a.tree))) (typ_in a.tree) Lvalue at (two a.tree v))
 assigned at None a v = Err (Ill at BadOperand)
 
-abbrev pub class_assigned : Ctx → Work → At → Operand → Operand → Result Made ElabFault
-class_assigned c w at a b = class_assigned_in (form_in (typ_in a.tree))
-  where
-    source : Typ → Result Made ElabFault
-    source t = and_then (check b.at NoCopy (not (is_volatile_typ (typ_in b.tree)))) (λ z. Ok (with_tree (λ (s : Tree). node CopyAssign (typ_in a.tree) Lvalue at (three a.tree s (copies c.classes at t))) (object_of c w b.at b.tree)))
+-- the class object `a` is assigned the object `b`, as one of type `t` and, of a class, as one of class `n`
+abbrev pub copy_assigned : Ctx → Work → At → Operand → Operand → (Tree → Tree) → Typ → Result Made ElabFault
+copy_assigned c w at a b as_object t = and_then (check b.at NoCopy (not (is_volatile_typ (typ_in b.tree)))) (λ z.
+    Ok (with_tree (λ (s : Tree). node CopyAssign (typ_in a.tree) Lvalue at (three a.tree (as_object s) (copies c.classes at t))) (object_of c w b.at b.tree)))
 
-    class_assigned_in : Form → Result Made ElabFault
-    class_assigned_in (class n) = and_then (check b.at NoConversion (is_same_or_base c.classes (class_number (typ_in b.tree)) (Some n))) (λ x. and_then (check at NoCopy ((traits_at c n).is_assignable && not (is_volatile_typ (typ_in a.tree)))) (λ y.
-        and_then (check b.at NoCopy (not (is_volatile_typ (typ_in b.tree)))) (λ z. Ok (with_tree (λ (s : Tree). node CopyAssign (typ_in a.tree) Lvalue at (three a.tree (as_source b.at n s) (copies c.classes at (typ_in a.tree)))) (object_of c w b.at b.tree)))))
-    class_assigned_in (tx_ex t) = and_then (check b.at NoConversion (form_eq (form_in (typ_in b.tree)) (tx_ex t))) (λ x. source t)
-    class_assigned_in f = Err (Ill at NoCopy)
+abbrev pub same_object : Tree → Tree
+same_object s = s
+
+abbrev pub class_assigned_in : Ctx → Work → At → Operand → Operand → Form → Result Made ElabFault
+class_assigned_in c w at a b (class n) = and_then (check b.at NoConversion (is_same_or_base c.classes (class_number (typ_in b.tree)) (Some n))) (λ x.
+    and_then (check at NoCopy ((traits_at c n).is_assignable && not (is_volatile_typ (typ_in a.tree)))) (λ y. copy_assigned c w at a b (as_source b.at n) (typ_in a.tree)))
+class_assigned_in c w at a b (tx_ex t) = and_then (check b.at NoConversion (form_eq (form_in (typ_in b.tree)) (tx_ex t))) (λ x. copy_assigned c w at a b same_object t)
+class_assigned_in c w at a b f = Err (Ill at NoCopy)
+
+abbrev pub class_assigned : Ctx → Work → At → Operand → Operand → Result Made ElabFault
+class_assigned c w at a b = class_assigned_in c w at a b (form_in (typ_in a.tree))
 
 abbrev pub assignment : Ctx → Work → At → Operand → Operand → Result Made ElabFault
 assignment c w at a b = and_then (target at a) (λ y. if is_class_typ (typ_in a.tree) then class_assigned c w at a b else
@@ -298,15 +303,15 @@ same_lvalues a b = is_lvalue (cat_of a.tree) && is_lvalue (cat_of b.tree) && typ
 abbrev pub both_of_class : Operand → Operand → Bool
 both_of_class a b = is_class_typ (typ_in a.tree) && form_eq (form_in (typ_in a.tree)) (form_in (typ_in b.tree))
 
+abbrev pub two_numbers : At → Tree → Option IntKind → Option IntKind → Operand → Operand → Result Tree ElabFault
+two_numbers at test (Some j) (Some k) a b = Ok (conditional_node at (plain (int (usual_of j k))) Prvalue test (as_kind (usual_of j k) a) (as_kind (usual_of j k) b))
+two_numbers at test _ _ a b = Err (Ill at BadOperand)
+
 abbrev pub two_values : At → Tree → Form → Form → Operand → Operand → Result Tree ElabFault
 two_values at test (ptr t) (ptr u) a b = and_then (check at BadOperand (typ_eq t u)) (λ y. Ok (conditional_node at (plain (ptr t)) Prvalue test (value a) (value b)))
 two_values at test (ptr t) f a b = and_then (check at BadOperand (is_null b)) (λ y. Ok (conditional_node at (plain (ptr t)) Prvalue test (value a) (as_pointer t b)))
 two_values at test f (ptr t) a b = and_then (check at BadOperand (is_null a)) (λ y. Ok (conditional_node at (plain (ptr t)) Prvalue test (as_pointer t a) (value b)))
-two_values at test f g a b = if form_eq f g && is_some (kind_in f) then Ok (conditional_node at (plain f) Prvalue test (value a) (value b)) else usual (arithmetic f) (arithmetic g)
-  where
-    usual : Option IntKind → Option IntKind → Result Tree ElabFault
-    usual (Some j) (Some k) = Ok (conditional_node at (plain (int (usual_of j k))) Prvalue test (as_kind (usual_of j k) a) (as_kind (usual_of j k) b))
-    usual _ _ = Err (Ill at BadOperand)
+two_values at test f g a b = if form_eq f g && is_some (kind_in f) then Ok (conditional_node at (plain f) Prvalue test (value a) (value b)) else two_numbers at test (arithmetic f) (arithmetic g) a b
 
 abbrev pub two_objects : Ctx → Work → At → Tree → Operand → Operand → Result Made ElabFault
 two_objects c w at test a b = and_then (class_from c w (unqualified (typ_in a.tree)) a.at a) (λ (x : Made). and_then (class_from c x.work (unqualified (typ_in a.tree)) b.at b) (λ (y : Made). Ok (record { tree = conditional_node at (unqualified (typ_in a.tree)) Prvalue test x.tree y.tree; work = y.work })))
