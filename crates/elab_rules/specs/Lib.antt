@@ -1,3 +1,4 @@
+pub mod Braces
 pub mod Calls
 pub mod Casts
 pub mod Constants
@@ -6,6 +7,7 @@ pub mod Initialising
 pub mod Names
 pub mod Objects
 pub mod Operators
+pub mod Statements
 pub mod Strings
 pub mod Types
 pub mod Values
