@@ -3,6 +3,7 @@
 
 pub mod calls;
 pub mod choice;
+pub mod laws;
 #[cfg(test)]
 mod tests;
 

@@ -1,0 +1,2 @@
+pub mod Ctx
+pub mod Steps

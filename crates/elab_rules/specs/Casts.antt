@@ -1,0 +1,119 @@
+-- Casts, `sizeof`, `throw` and literals (C++14 2.14, 5.2.3, 5.2.9, 5.3.3, 5.4, 15.1).
+use Rattle.std.specs.Prelude.{ℕ, suc, ◌==◌, nat_le, Bool, true, false, not, ◌&&◌, ◌||◌, List, [], ◌∷◌, ◌++◌, length, map, Option, Some, None, is_some, Result, Ok, Err, if◌then◌else◌, slice_get, unwrap_or, codes, decimal}
+use Rattle.tx_ints.specs.declared.kinds.IntKind.{IntKind}
+use Rattle.tx_ints.specs.declared.kinds.IntKind.TheVariants.{Bool as BoolKind, Char, ULong}
+use Rattle.cpp_types.specs.Typ.{Typ, typ, Form, void, int, enum, null, ptr, ref, array, func, class, closure, tx_ex}
+use Rattle.cpp_types.specs.Class.{Class, held}
+use Rattle.cpp_types.specs.Conversion.{referred, is_lvalue}
+use Rattle.cpp_types.specs.declared.classes.At.{At}
+use Rattle.cpp_types.specs.declared.ranks.Cat.{Cat}
+use Rattle.cpp_types.specs.declared.ranks.Cat.TheVariants.{Lvalue, Prvalue}
+use Rattle.cpp_tree.specs.declared.kinds.TKind.{TKind}
+use Rattle.cpp_tree.specs.declared.kinds.TKind.TheVariants.{Literal, Throw, Rethrow, Retype, Materialize, Global as GlobalNode}
+use Rattle.cpp_tree.specs.declared.program.Linkage.TheVariants.{Internal}
+use Rattle.cpp_tree.specs.declared.program.CellKind.TheVariants.{Number}
+use Rattle.cpp_tree.specs.declared.faults.ElabFault.{ElabFault}
+use Rattle.cpp_tree.specs.declared.faults.ElabFault.TheVariants.{Ill, Limit}
+use Rattle.cpp_tree.specs.declared.faults.LimitKind.TheVariants.{Exception}
+use Rattle.cpp_tree.specs.declared.faults.IllRule.TheVariants.{NoConversion, BadOperand, BadInit, Incomplete, BadThrow, NotTriviallyCopyable, NoCopy}
+use Rattle.cpp_tree.specs.Trees.{Tree, node, Trees, none, more, one, two, typ_in, cat_of}
+use Rattle.cpp_tree.specs.Units.{Global, Cell}
+use Rattle.cpp_tree.specs.Notation.{plain}
+use Rattle.cpp_tree.specs.Typing.{form_in, is_volatile_typ, unqualified, is_class_typ, is_void, kind_in, is_class_prvalue}
+use Rattle.elab_ctx.specs.Ctx.{Ctx, Work}
+use Rattle.elab_ctx.specs.Steps.{and_then, expect, check, Operand, Made}
+use Rattle.elab_rules.specs.Values.{size_type, retyped, number, valued, converted}
+use Rattle.elab_rules.specs.Objects.{size_of, fields, traits_at}
+use Rattle.elab_rules.specs.Initialising.{initial, object_of, class_from, from_values, with_tree, class_number}
+use Rattle.elab_rules.specs.Operators.{value, dropped, is_sized, is_function}
+
+-- Casts
+
+-- scalars that a cast takes to one another, whatever their kinds: integers and enums
+abbrev pub is_numeric : Form → Bool
+is_numeric (int k) = true
+is_numeric (enum n s) = true
+is_numeric f = false
+
+abbrev pub is_exception_form : Form → Bool
+is_exception_form (tx_ex t) = true
+is_exception_form f = false
+
+-- an initialiser as an expression: that of a `std::tx_exception` builds the value in it, and a `Retype` says what the expression is
+abbrev pub as_expression : At → Typ → Tree → Tree
+as_expression at t e = if is_exception_form (form_in t) && not (is_exception_form (form_in (typ_in e))) then node Retype t Prvalue at (one e) else e
+
+-- the object that a cast to a reference refers to; another type is that of the node
+abbrev pub reference_cast : At → Typ → Tree → Tree
+reference_cast at u (node Retype t Lvalue p kids) = node Retype u Lvalue at kids
+reference_cast at u e = retyped at u Lvalue e
+
+-- a cast to a scalar, a class, a reference or `void` (C++14 5.2.9, 5.4)
+abbrev pub scalar_cast : Ctx → Work → At → Typ → Operand → Result Made ElabFault
+scalar_cast c w at t o = if is_numeric (form_in (typ_in (value o))) && is_numeric (form_in t) then Ok (record { tree = converted at t (value o); work = w })
+    else initial c w (unqualified t) (record o { at = at })
+
+abbrev pub cast_in : Ctx → Work → At → Typ → Form → Operand → Result Made ElabFault
+cast_in c w at t void o = Ok (with_tree (λ (e : Tree). retyped at (plain void) Prvalue e) (dropped c w o))
+cast_in c w at t (ref u) o = and_then (initial c w t o) (λ (m : Made). Ok (with_tree (reference_cast at u) m))
+cast_in c w at t (func s) o = Err (Ill at BadOperand)
+cast_in c w at t (array u n) o = Err (Ill at BadOperand)
+cast_in c w at t f o = if is_class_typ t then and_then (from_values c w (unqualified t) at (o ∷ [])) (λ (m : Made). Ok (with_tree (as_expression at (unqualified t)) m)) else scalar_cast c w at t o
+
+abbrev pub cast : Ctx → Work → At → Typ → Operand → Result Made ElabFault
+cast c w at t o = cast_in c w at t (form_in t) o
+
+-- `T(a, ..)` (C++14 5.2.3)
+abbrev pub functional : Ctx → Work → At → Typ → List Operand → Result Made ElabFault
+functional c w at t (o ∷ []) = cast c w at t o
+functional c w at t [] = if is_class_typ t then and_then (from_values c w (unqualified t) at []) (λ (m : Made). Ok (with_tree (as_expression at (unqualified t)) m)) else (
+    if is_void t then Ok (record { tree = node Retype (plain void) Prvalue at (one (number ULong 0 at)); work = w }) else and_then (check at BadInit (is_some (kind_in (form_in t)))) (λ y. Ok (record { tree = node (Literal 0) (unqualified t) Prvalue at none; work = w })))
+functional c w at t os = if is_class_typ t then and_then (from_values c w (unqualified t) at os) (λ (m : Made). Ok (with_tree (as_expression at (unqualified t)) m)) else Err (Ill at BadInit)
+
+-- `sizeof` (C++14 5.3.3)
+abbrev pub size_literal : Ctx → At → At → Typ → Result Tree ElabFault
+size_literal c at operand t = and_then (check at BadOperand (not (is_function (referred t)) && not (is_void (referred t)))) (λ y. and_then (check at Incomplete (is_sized c (referred t))) (λ z. Ok (number ULong (size_of c.classes (referred t)) at)))
+
+-- `throw` (C++14 15.1, profile: integers, enums and what is copied byte by byte)
+
+abbrev pub is_thrown_scalar : Form → Bool
+is_thrown_scalar (int k) = true
+is_thrown_scalar (enum n s) = true
+is_thrown_scalar f = false
+
+abbrev pub within_exception : Ctx → At → Typ → Result Bool ElabFault
+within_exception c at t = if nat_le (size_of c.classes t) 64 then Ok true else Err (Limit at Exception)
+
+abbrev pub throw_node : Ctx → At → Typ → Tree → Tree
+throw_node c at t e = node Throw (unqualified t) Prvalue at (more e (fields c.classes at t))
+
+abbrev pub throw_object : Ctx → Work → At → Operand → Result Made ElabFault
+throw_object c w at o = and_then (check o.at NoCopy (not (is_volatile_typ (typ_in o.tree)))) (λ y. and_then (within_exception c at (typ_in o.tree)) (λ z. Ok (with_tree (throw_node c at (typ_in o.tree)) (object_of c w o.at o.tree))))
+
+abbrev pub throw_in : Ctx → Work → At → Form → Operand → Result Made ElabFault
+throw_in c w at (class n) o = and_then (check at NotTriviallyCopyable (traits_at c n).is_trivially_copyable) (λ y. throw_object c w at o)
+throw_in c w at (tx_ex t) o = throw_object c w at o
+throw_in c w at f o = and_then (check at BadThrow (is_thrown_scalar (form_in (typ_in (value o))))) (λ y. Ok (record { tree = throw_node c at (typ_in (value o)) (value o); work = w }))
+
+abbrev pub throw : Ctx → Work → At → List Operand → Result Made ElabFault
+throw c w at [] = Ok (record { tree = node Rethrow (plain void) Prvalue at none; work = w })
+throw c w at (o ∷ os) = throw_in c w at (form_in (typ_in o.tree)) o
+
+-- String literals (C++14 2.14.5): a global of its own for each place
+
+abbrev pub string_symbol : At → List ℕ
+string_symbol at = codes "string:" ++ decimal at.source ++ codes ":" ++ decimal at.offset
+
+-- the type of a string of these bytes
+abbrev pub string_type : List ℕ → Typ
+string_type bytes = plain (array (typ (int Char) true false) (suc (length bytes)))
+
+abbrev pub byte_cells : ℕ → List ℕ → List Cell
+byte_cells i [] = []
+byte_cells i (b ∷ bs) = if b == 0 then byte_cells (suc i) bs else record { offset = i; size = 1; what = Number; value = b; symbol = [] } ∷ byte_cells (suc i) bs
+
+abbrev pub string_global : At → List ℕ → Global
+string_global at bytes = record { symbol = string_symbol at; typ = string_type bytes; linkage = Internal; init = byte_cells 0 bytes; defined = true }
+
+abbrev pub string_made : Work → At → List ℕ → Made
+string_made w at bytes = record { tree = node (GlobalNode (length w.globals)) (string_type bytes) Lvalue at none; work = record w { globals = w.globals ++ string_global at bytes ∷ [] } }

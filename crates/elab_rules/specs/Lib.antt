@@ -1,0 +1,13 @@
+pub mod Braces
+pub mod Calls
+pub mod Casts
+pub mod Constants
+pub mod Expressions
+pub mod Initialising
+pub mod Names
+pub mod Objects
+pub mod Operators
+pub mod Statements
+pub mod Strings
+pub mod Types
+pub mod Values

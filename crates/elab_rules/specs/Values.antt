@@ -1,0 +1,111 @@
+-- Values, conversions as nodes, and temporaries (C++14 clause 4, 8.5.3, 12.2).
+use Rattle.std.specs.Prelude.{ℕ, Bool, true, false, ◌&&◌, ◌+◌, List, [], ◌∷◌, Option, Some, None, Result, Ok, Err, if◌then◌else◌}
+use Rattle.tx_ints.specs.declared.kinds.IntKind.{IntKind}
+use Rattle.tx_ints.specs.declared.kinds.IntKind.TheVariants.{Bool as BoolKind, Int, ULong, Long}
+use Rattle.tx_ints.specs.declared.kinds.BinOp.{BinOp}
+use Rattle.tx_ints.specs.declared.kinds.BinOp.TheVariants.{Add}
+use Rattle.cpp_types.specs.Typ.{Typ, typ, Form, void, int, enum, null, ptr, ref, array, func, class, closure, tx_ex}
+use Rattle.cpp_types.specs.Equal.{kind_eq, typ_eq}
+use Rattle.cpp_types.specs.Class.{Class}
+use Rattle.cpp_types.specs.Conversion.{conversion_of, decayed, referred, is_object_form}
+use Rattle.cpp_types.specs.declared.classes.At.{At}
+use Rattle.cpp_types.specs.declared.ranks.Cat.{Cat}
+use Rattle.cpp_types.specs.declared.ranks.Cat.TheVariants.{Lvalue, Prvalue}
+use Rattle.cpp_types.specs.declared.ranks.Step.{Step}
+use Rattle.cpp_types.specs.declared.ranks.Step.TheVariants.{Identity, NullPointer}
+use Rattle.cpp_types.specs.declared.ranks.Binding.{Binding}
+use Rattle.cpp_types.specs.declared.ranks.Binding.TheVariants.{Value, Direct, Temporary}
+use Rattle.cpp_types.specs.declared.ranks.Conversion.{Conversion}
+use Rattle.cpp_tree.specs.declared.kinds.TKind.{TKind}
+use Rattle.cpp_tree.specs.declared.kinds.TKind.TheVariants.{Literal, Load, Convert, Retype, Binary, Materialize, Store}
+use Rattle.cpp_tree.specs.declared.faults.ElabFault.{ElabFault}
+use Rattle.cpp_tree.specs.declared.faults.IllRule.TheVariants.{NoConversion}
+use Rattle.cpp_tree.specs.Trees.{Tree, node, Trees, none, more, one, two, typ_in, cat_of}
+use Rattle.cpp_tree.specs.Notation.{plain}
+use Rattle.cpp_tree.specs.Typing.{form_in, is_volatile_typ, unqualified, is_class_typ, kind_in, is_class_prvalue}
+use Rattle.elab_ctx.specs.Ctx.{Ctx, Work, with_item, next_place}
+use Rattle.elab_ctx.specs.Steps.{and_then, expect, Operand, Made}
+
+-- Nodes
+
+abbrev pub place_of : Tree → At
+place_of (node kind t cat at kids) = at
+
+abbrev pub bool_type : Typ
+bool_type = plain (int BoolKind)
+
+abbrev pub int_type : Typ
+int_type = plain (int Int)
+
+abbrev pub size_type : Typ
+size_type = plain (int ULong)
+
+-- the same word with another type or category
+abbrev pub retyped : At → Typ → Cat → Tree → Tree
+retyped at t cat e = node Retype t cat at (one e)
+
+abbrev pub number : IntKind → ℕ → At → Tree
+number k w at = node (Literal w) (plain (int k)) Prvalue at none
+
+abbrev pub operated : BinOp → IntKind → Typ → At → Tree → Tree → Tree
+operated op k t at a b = node (Binary op k) t Prvalue at (two a b)
+
+-- what lies at an offset from the address that an expression gives
+abbrev pub part_at : ℕ → Typ → At → Tree → Tree
+part_at offset t at object = node (Binary Add ULong) t Lvalue at (two object (number ULong offset at))
+
+-- Values (C++14 4.1 to 4.3)
+
+abbrev pub loaded : At → Option IntKind → Tree → Tree
+loaded at (Some k) e = node (Load k (is_volatile_typ (typ_in e))) (unqualified (typ_in e)) Prvalue at (one e)
+loaded at None e = e
+
+abbrev pub value_in : At → Form → Cat → Tree → Tree
+value_in at (func s) cat e = retyped at (plain (decayed (typ_in e))) Prvalue e
+value_in at (array t n) cat e = retyped at (plain (decayed (typ_in e))) Prvalue e
+value_in at f Lvalue e = loaded at (kind_in f) e
+value_in at f Prvalue e = e
+
+-- the value of an expression: a pointer for a function or an array, what a scalar holds, and an object of a class as it is
+abbrev pub valued : At → Tree → Tree
+valued at e = value_in at (form_in (typ_in e)) (cat_of e) e
+
+-- Conversions of values (C++14 4.5 to 4.12)
+
+abbrev pub retyped_if : At → Bool → Typ → Tree → Tree
+retyped_if at true t v = v
+retyped_if at false t v = retyped at t Prvalue v
+
+abbrev pub between : At → Option IntKind → Option IntKind → Typ → Tree → Tree
+between at (Some j) (Some k) t v = if kind_eq j k then retyped_if at (typ_eq t (typ_in v)) t v else node (Convert k) t Prvalue at (one v)
+between at _ _ t v = v
+
+-- a scalar's value as one of another type
+abbrev pub converted : At → Typ → Tree → Tree
+converted at t v = between at (kind_in (form_in (typ_in v))) (kind_in (form_in t)) (unqualified t) v
+
+-- a number in a kind of numbers
+abbrev pub in_kind : At → IntKind → Tree → Tree
+in_kind at k v = converted at (plain (int k)) v
+
+abbrev pub stepped : At → Step → Typ → Tree → Tree
+stepped at NullPointer t v = retyped at (unqualified t) Prvalue v
+stepped at step t v = converted at t v
+
+-- Objects and temporaries
+
+-- what builds the object that a class prvalue stands for; one of a `std::tx_exception` is built as the value in it
+abbrev pub builder : Tree → Tree
+builder (node Retype (typ (tx_ex t) c v) Prvalue at (more e none)) = e
+builder t = t
+
+abbrev pub temporary : Work → Typ → At → Tree → Trees → Made
+temporary w t at init destroys = record { tree = node (Materialize (next_place w) false) t Lvalue at (more init destroys); work = with_item w t }
+
+abbrev pub stored_as : At → Option IntKind → Typ → Tree → Tree
+stored_as at (Some k) t v = node (Store k (is_volatile_typ t)) t Prvalue at (one v)
+stored_as at None t v = v
+
+-- a scalar, or the slot of a reference, that has a value
+abbrev pub stored : At → Typ → Tree → Tree
+stored at t v = stored_as at (kind_in (form_in t)) t v

@@ -1,0 +1,2 @@
+//! What the syntax trees of a unit mean: its typed program, as definitions.
+#![tactic(auto)]
