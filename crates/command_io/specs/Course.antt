@@ -41,6 +41,12 @@ module _ {A : Type 0} (wants : List Wanted) (Decides : List (List ℕ) → A →
     pub comes : Comes old a writes between
     pub stops : StopsWriting between writes new Failed
 
+  -- memory ran out where a file had passed its limit, and nothing was written
+  pub record EndsAtLimit (old new : HostState) : Type 0 where
+    pub index : ℕ
+    pub w : Wanted
+    pub passes : PassesLimit old wants index w new
+
   -- memory ran out at a write
   pub record EndsLater (old new : HostState) : Type 0 where
     pub a : A
@@ -55,4 +61,4 @@ module _ {A : Type 0} (wants : List Wanted) (Decides : List (List ℕ) → A →
 
   -- memory ran out: before anything was written, or at a write
   abbrev pub RunsOut : HostState → HostState → Type 0
-  RunsOut old new = ReadsSome old wants new ⊎ EndsLater old new
+  RunsOut old new = ReadsSome old wants new ⊎ (EndsAtLimit old new ⊎ EndsLater old new)

@@ -4,6 +4,7 @@
 mod answer;
 mod code;
 mod emit;
+mod ends;
 mod laws;
 mod machine;
 mod names;
@@ -12,10 +13,10 @@ mod report;
 mod terms;
 #[cfg(test)]
 mod tests;
+mod run;
 mod top;
 mod tree;
-mod words;
 
 pub use answer::{Answer, End, Ran, Refusal, Status, Trap};
-pub use laws::{one_form, one_replay, one_tree};
+pub use laws::{one_replay, one_tree};
 pub use top::txcc;
