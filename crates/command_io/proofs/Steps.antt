@@ -26,19 +26,21 @@ front_before old new wants before after vs ys f = record { cut = ap (λ l. l ++ 
 
 -- reading stopped behind what was read first
 pub stops_behind : (old mid new : HostState) (ws vs : List Wanted) (xs : List (List ℕ)) (u : Unread) → ReadsWithin old ws xs mid → StopsReading mid vs new u → StopsReading old (ws ++ vs) new (behind (length ws) u)
-stops_behind old mid new ws vs xs (TooLong index) a (w, p) =
-    (w, record {
-      before = ws ++ p.before;
-      after = p.after;
-      texts = xs ++ p.texts;
-      between = p.between;
-      front = front_behind old mid p.between ws p.before (w ∷ p.after) vs xs p.texts a p.front;
-      at = ap (λ n. length ws + n) p.at ∙ sym (length-append ws p.before);
-      bytes = p.bytes;
-      bytes_are = p.bytes_are;
-      long = p.long;
-      state = p.state;
-    })
+stops_behind old mid new ws vs xs (TooLong index) a (w, p) = (
+  w,
+  record {
+    before = ws ++ p.before;
+    after = p.after;
+    texts = xs ++ p.texts;
+    between = p.between;
+    front = front_behind old mid p.between ws p.before (w ∷ p.after) vs xs p.texts a p.front;
+    at = ap (λ n. length ws + n) p.at ∙ sym (length-append ws p.before);
+    bytes = p.bytes;
+    bytes_are = p.bytes_are;
+    long = p.long;
+    state = p.state;
+  },
+)
 stops_behind old mid new ws vs xs Failed a p =
     record { before = ws ++ p.before; after = p.after; w = p.w; texts = xs ++ p.texts; between = p.between; front = front_behind old mid p.between ws p.before (p.w ∷ p.after) vs xs p.texts a p.front; fails = p.fails }
 stops_behind old mid new ws vs xs Memory a p =
@@ -46,19 +48,21 @@ stops_behind old mid new ws vs xs Memory a p =
 
 -- reading stopped before the last files
 pub stops_before : (old new : HostState) (ws vs : List Wanted) (u : Unread) → StopsReading old ws new u → StopsReading old (ws ++ vs) new u
-stops_before old new ws vs (TooLong index) (w, p) =
-    (w, record {
-      before = p.before;
-      after = p.after ++ vs;
-      texts = p.texts;
-      between = p.between;
-      front = front_before old p.between ws p.before (w ∷ p.after) vs p.texts p.front;
-      at = p.at;
-      bytes = p.bytes;
-      bytes_are = p.bytes_are;
-      long = p.long;
-      state = p.state;
-    })
+stops_before old new ws vs (TooLong index) (w, p) = (
+  w,
+  record {
+    before = p.before;
+    after = p.after ++ vs;
+    texts = p.texts;
+    between = p.between;
+    front = front_before old p.between ws p.before (w ∷ p.after) vs p.texts p.front;
+    at = p.at;
+    bytes = p.bytes;
+    bytes_are = p.bytes_are;
+    long = p.long;
+    state = p.state;
+  },
+)
 stops_before old new ws vs Failed p =
     record { before = p.before; after = p.after ++ vs; w = p.w; texts = p.texts; between = p.between; front = front_before old p.between ws p.before (p.w ∷ p.after) vs p.texts p.front; fails = p.fails }
 stops_before old new ws vs Memory p =
@@ -149,8 +153,8 @@ stops_at old mid new ws i w f h e made stops =
       after = map written_of (drop (i + 1) ws);
       w = written_of w;
       cut =
-        ap (map written_of) (sym (take-append-drop i ws) ∙ ap (λ l. take i ws ++ l) (drop_more ws i w h ∙ ap (λ v. v ∷ drop (i + 1) ws) (sym e)))
-        ∙ map-append written_of (take i ws) (w ∷ drop (i + 1) ws);
+          ap (map written_of) (sym (take-append-drop i ws) ∙ ap (λ l. take i ws ++ l) (drop_more ws i w h ∙ ap (λ v. v ∷ drop (i + 1) ws) (sym e)))
+          ∙ map-append written_of (take i ws) (w ∷ drop (i + 1) ws);
       stops = subst (λ s. FailsWrite s new (written_of w) f) made stops;
     }
 

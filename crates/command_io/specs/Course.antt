@@ -8,7 +8,6 @@ use Rattle.command_io.specs.Writes.{Written, StopsWriting, after_writes}
 -- `Decides texts a writes`: on these texts the command answers `a` and writes this.
 -- `Limits w a writes`: where the text of `w` passes its limit, it answers `a` and writes this.
 module _ {A : Type 0} (wants : List Wanted) (Decides : List (List ℕ) → A → List Written → Type 0) (Limits : Wanted → A → List Written → Type 0) where
-
   -- all files were read, and this was decided
   pub record DecidesOn (old : HostState) (a : A) (writes : List Written) (new : HostState) : Type 0 where
     pub texts : List (List ℕ)

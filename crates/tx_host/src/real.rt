@@ -97,11 +97,11 @@ fn written(faults: &mut Count, write: io::Result<()>) -> Result<(), WriteFault>
 
 impl<'a, F: Files, O: Print, E: Print> Host for RealHost<'a, F, O, E> {
     ghost state = { λ host. record {
-        files = None;
-        seen = map seen_of host.reads.items;
-        out = None;
-        err = None;
-        faults = host.faults.value;
+      files = None;
+      seen = map seen_of host.reads.items;
+      out = None;
+      err = None;
+      faults = host.faults.value;
     } };
 
     ghost small = { λ host. host.faults.small };

@@ -65,11 +65,11 @@ impl SteadyHost {
 
 impl Host for SteadyHost {
     ghost state = { λ host. record {
-        files = Some (shown host).files;
-        seen = (shown host).seen;
-        out = Some (shown host).out;
-        err = Some (shown host).err;
-        faults = 0;
+      files = Some (shown host).files;
+      seen = (shown host).seen;
+      out = Some (shown host).out;
+      err = Some (shown host).err;
+      faults = 0;
     } };
 
     ghost small = { λ _. Prim.search rules };

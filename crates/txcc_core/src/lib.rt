@@ -10,10 +10,10 @@ mod machine;
 mod names;
 mod parser;
 mod report;
+mod run;
 mod terms;
 #[cfg(test)]
 mod tests;
-mod run;
 mod top;
 mod tree;
 

@@ -50,7 +50,11 @@ pub fn form_of(run: &Run) -> Option<Form<'_>>
     ensures some { IfSome result (λ f. IsFirstPath run.now f.steps f.file.now) }
     ensures none { IfNone result ((steps : ℕ) (file : List ℕ) → IsFirstPath run.now steps file → ⊥) }
 {
-    if run.fold || run.options.input_file.is_some() || run.options.order_file.is_some() || run.options.record_file.is_some() {
+    if run.fold
+        || run.options.input_file.is_some()
+        || run.options.order_file.is_some()
+        || run.options.record_file.is_some()
+    {
         return None;
     }
     match (&run.options.picker, run.options.policy) {
