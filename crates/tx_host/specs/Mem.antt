@@ -1,6 +1,6 @@
 -- What a host in memory shows, and which of its calls fail.
 use Rattle.std.specs.Prelude.{◌≡◌, ℕ, ◌+◌, ◌/◌, List, ◌++◌, Option, Some, None, Contains, length, map, take}
-use Rattle.tx_host.specs.Told.{Seen, Files, with_read, set_file, one_more}
+use Rattle.tx_host.specs.Told.{Seen, Files, HostState, with_read, set_file, one_more}
 use Rattle.tx_host.specs.Kept.{seen_of, files_of}
 use Rattle.tx_host.specs.declared.mem.MemHost.{MemHost}
 
@@ -14,6 +14,10 @@ pub record Shown : Type 0 where
   pub faults : ℕ
   pub calls : ℕ
   pub fails : List ℕ
+
+-- what it tells of that
+abbrev pub told : Shown → HostState
+told host = record { files = Some host.files; seen = host.seen; out = Some host.out; err = Some host.err; faults = host.faults }
 
 -- what a host in memory shows
 abbrev pub shown : MemHost → Shown

@@ -1,5 +1,5 @@
 -- What a host tells of what went in and out.
-use Rattle.std.specs.Prelude.{◌≡◌, ℕ, ◌<◌, ◌+◌, ◌-◌, ◌^◌, List, [], ◌∷◌, ◌++◌, ◌⊎◌, Option, Some, None, unwrap_or, take, min, if◌then◌else◌}
+use Rattle.std.specs.Prelude.{◌≡◌, ℕ, ◌<◌, ◌≤◌, ◌+◌, ◌-◌, ◌^◌, List, [], ◌∷◌, ◌++◌, ◌⊎◌, Option, Some, None, unwrap_or, take, min, if◌then◌else◌}
 use Rattle.std.specs.Str.{bytes_eq}
 
 -- a read that answered: the name, the limit and the bytes
@@ -55,6 +55,54 @@ pub record SetsPart (old new : Option Files) (name bytes : List ℕ) : Type 0 wh
 -- a fault was counted, or the count stood at its last value
 abbrev pub HasRisen : ℕ → ℕ → Type 0
 HasRisen old new = (old < new) ⊎ (old ≡ 2 ^ 64 - 1)
+
+-- what a host tells at one moment: what each file holds, where it tells it, the reads that answered, the bytes written to the output
+-- and to the error output, where it tells them, and how many calls failed
+pub record HostState : Type 0 where
+  pub files : Option Files
+  pub seen : List Seen
+  pub out : Option (List ℕ)
+  pub err : Option (List ℕ)
+  pub faults : ℕ
+
+-- the host after a read that answered, and after a write of the output, of the error output, of a file
+abbrev pub after_read : HostState → List ℕ → ℕ → List ℕ → HostState
+after_read host name limit bytes = record host { seen = with_read host.seen name limit bytes }
+
+abbrev pub after_out : HostState → List ℕ → HostState
+after_out host bytes = record host { out = with_more host.out bytes }
+
+abbrev pub after_err : HostState → List ℕ → HostState
+after_err host bytes = record host { err = with_more host.err bytes }
+
+abbrev pub after_file : HostState → List ℕ → List ℕ → HostState
+after_file host name bytes = record host { files = with_file host.files name bytes }
+
+-- a call failed, and a fault was counted; the count never falls
+pub record CountsFault (old new : ℕ) : Type 0 where
+  pub risen : HasRisen old new
+  pub kept : old ≤ new
+
+-- a read failed: nothing else changed
+pub record FailsRead (old new : HostState) : Type 0 where
+  pub fault : CountsFault old.faults new.faults
+  pub rest : new ≡ record old { faults = new.faults }
+
+-- a write failed: a prefix of the bytes was written, and nothing else changed
+pub record FailsOut (old new : HostState) (bytes : List ℕ) : Type 0 where
+  pub fault : CountsFault old.faults new.faults
+  pub part : GainsPart old.out new.out bytes
+  pub rest : new ≡ record old { out = new.out; faults = new.faults }
+
+pub record FailsErr (old new : HostState) (bytes : List ℕ) : Type 0 where
+  pub fault : CountsFault old.faults new.faults
+  pub part : GainsPart old.err new.err bytes
+  pub rest : new ≡ record old { err = new.err; faults = new.faults }
+
+pub record FailsFile (old new : HostState) (name bytes : List ℕ) : Type 0 where
+  pub fault : CountsFault old.faults new.faults
+  pub part : SetsPart old.files new.files name bytes
+  pub rest : new ≡ record old { files = new.files; faults = new.faults }
 
 -- one more, where a count stands still at its last value
 abbrev pub one_more : ℕ → ℕ

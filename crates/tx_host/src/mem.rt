@@ -3,7 +3,7 @@
 ghost use Rattle.std.specs.Prelude.{◌≡◌, ◌⊎◌, ◌↔◌, [], Some, None, IfOk, OnOk, IsErrOf, IsTrue};
 ghost use Rattle.std.specs.Option.{option_copied};
 ghost use Rattle.tx_host.specs.Kept.{files_of};
-ghost use Rattle.tx_host.specs.Mem.{shown, IsToFail, IsHeldFront, counted, faulted, with_seen, with_written, with_out, with_err, half};
+ghost use Rattle.tx_host.specs.Mem.{shown, told, IsToFail, IsHeldFront, counted, faulted, with_seen, with_written, with_out, with_err, half};
 
 use crate::count::Count;
 use crate::faults::{ReadFault, WriteFault};
@@ -116,15 +116,7 @@ fn first_half(bytes: &[u8]) -> &[u8]
 }
 
 impl Host for MemHost {
-    ghost files = { λ host. Some (shown host).files };
-
-    ghost seen = { λ host. (shown host).seen };
-
-    ghost out = { λ host. Some (shown host).out };
-
-    ghost err = { λ host. Some (shown host).err };
-
-    ghost faults = { λ host. (shown host).faults };
+    ghost state = { λ host. told (shown host) };
 
     ghost small = { λ host. host.faults.small };
 

@@ -28,8 +28,7 @@ pub struct RealHost<'a, F, O, E> {
 impl<'a, F: Files, O: Print, E: Print> RealHost<'a, F, O, E> {
     /// A host that has read nothing, over the runtime's files and its two outputs.
     pub fn new(files: &'a F, out: &'a O, err: &'a E, alloc: Global) -> RealHost<'a, F, O, E>
-        ensures seen { ⟦<RealHost<'a, F, O, E> as Host>⟧.seen result ≡ [] }
-        ensures faults { ⟦<RealHost<'a, F, O, E> as Host>⟧.faults result ≡ 0 }
+        ensures { ⟦<RealHost<'a, F, O, E> as Host>⟧.state result ≡ record { files = None; seen = []; out = None; err = None; faults = 0 } }
     {
         RealHost {
             files,
@@ -43,7 +42,7 @@ impl<'a, F: Files, O: Print, E: Print> RealHost<'a, F, O, E> {
 
     /// How many calls failed.
     pub fn faults(&self) -> u64
-        ensures { result ≡ ⟦<RealHost<'a, F, O, E> as Host>⟧.faults self.now }
+        ensures { result ≡ (⟦<RealHost<'a, F, O, E> as Host>⟧.state self.now).faults }
     {
         self.faults.value()
     }
@@ -97,15 +96,13 @@ fn written(faults: &mut Count, write: io::Result<()>) -> Result<(), WriteFault>
 }
 
 impl<'a, F: Files, O: Print, E: Print> Host for RealHost<'a, F, O, E> {
-    ghost files = { λ _. None };
-
-    ghost seen = { λ host. map seen_of host.reads.items };
-
-    ghost out = { λ _. None };
-
-    ghost err = { λ _. None };
-
-    ghost faults = { λ host. host.faults.value };
+    ghost state = { λ host. record {
+      files = None;
+      seen = map seen_of host.reads.items;
+      out = None;
+      err = None;
+      faults = host.faults.value;
+    } };
 
     ghost small = { λ host. host.faults.small };
 

@@ -64,15 +64,13 @@ impl SteadyHost {
 }
 
 impl Host for SteadyHost {
-    ghost files = { λ host. Some (shown host).files };
-
-    ghost seen = { λ host. (shown host).seen };
-
-    ghost out = { λ host. Some (shown host).out };
-
-    ghost err = { λ host. Some (shown host).err };
-
-    ghost faults = { λ _. 0 };
+    ghost state = { λ host. record {
+      files = Some (shown host).files;
+      seen = (shown host).seen;
+      out = Some (shown host).out;
+      err = Some (shown host).err;
+      faults = 0;
+    } };
 
     ghost small = { λ _. Prim.search rules };
 

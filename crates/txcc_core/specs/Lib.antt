@@ -5,7 +5,7 @@ pub mod SourceRun
 pub mod Below
 pub mod Code
 pub mod Machine
-pub mod Words
 pub mod Report
 pub mod TopCall
-pub mod Writes
+pub mod FirstPath
+pub mod Ends

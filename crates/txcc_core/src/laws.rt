@@ -1,18 +1,11 @@
 //! Laws of the definitions. A function here does nothing: its clause is the law.
 
 ghost use Rattle.std.specs.Prelude.{◌≡◌, ℕ, List};
-ghost use Rattle.txcc_core.specs.Words.{AsksFor};
 ghost use Rattle.txcc_core.specs.Syntax.{Source};
 ghost use Rattle.txcc_core.specs.Grammar.{Accepts};
 ghost use Rattle.txcc_core.specs.SourceRun.{World, Replays};
 
 use cpp_lex::one_reading;
-
-/// Words ask for one run at most.
-pub fn one_form()
-    ensures { (words : List (List ℕ)) (m n : ℕ) (file other : List ℕ) →
-        AsksFor words m file → AsksFor words n other → (m ≡ n) × (file ≡ other) }
-{}
 
 /// A text has one tree.
 pub fn one_tree()

@@ -4,18 +4,19 @@
 mod answer;
 mod code;
 mod emit;
+mod ends;
 mod laws;
 mod machine;
 mod names;
 mod parser;
 mod report;
+mod run;
 mod terms;
 #[cfg(test)]
 mod tests;
 mod top;
 mod tree;
-mod words;
 
 pub use answer::{Answer, End, Ran, Refusal, Status, Trap};
-pub use laws::{one_form, one_replay, one_tree};
+pub use laws::{one_replay, one_tree};
 pub use top::txcc;

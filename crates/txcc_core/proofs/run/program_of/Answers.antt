@@ -1,7 +1,7 @@
 use Rattle.std.proofs.Common.{subst, sym, map}
 use Rattle.cpp_lex.specs.Tokens.{lexeme_of, IsTokens}
 use Rattle.txcc_core.proofs.Says.{none_accepted, map_none}
-use Rattle.txcc_core.proofs.top.program_of.Goals as goal
+use Rattle.txcc_core.proofs.run.program_of.Goals as goal
 
 pub returns-clause-none : goal.returns-clause-none
 returns-clause-none c =

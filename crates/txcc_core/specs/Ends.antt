@@ -1,0 +1,42 @@
+-- How a command ends, whatever it decides.
+use Rattle.std.specs.Prelude.{◌≡◌, ℕ, List, [], ◌∷◌, ◌++◌, Some, None, codes, Result, Ok, Err}
+use Rattle.tx_host.specs.Told.{HostState, HasRisen}
+use Rattle.tx_host.specs.declared.faults.WriteFault.TheVariants.{Failed, Memory}
+use Rattle.command_io.specs.Reads.{Wanted, kind_name}
+use Rattle.command_io.specs.Writes.{Written, to_err, after_writes, StopsWriting}
+use Rattle.command_io.specs.Course.{Answered, HostFails, RunsOut}
+use Rattle.txcc_core.specs.declared.answer.Refusal.{Refusal}
+use Rattle.txcc_core.specs.declared.answer.Answer.{Answer}
+use Rattle.txcc_core.specs.declared.answer.Status.{Status}
+use Rattle.txcc_core.specs.declared.answer.Status.TheVariants.{HostFault, Memory as NoMemory, Limit}
+
+-- an answer with a status alone
+abbrev pub bare : Status → Answer
+bare status = record { status = status; ran = None; refusal = None }
+
+-- a refusal: its number, and its line, which the error output gains with a byte 10 at its end
+pub record Refuses (number : ℕ) (line : List ℕ) (status : Status) (a : Answer) (writes : List Written) : Type 0 where
+  pub refusal : Refusal
+  pub answer : a ≡ record { status = status; ran = None; refusal = Some refusal }
+  pub number_is : refusal.number ≡ number
+  pub line_is : refusal.line.items ≡ line
+  pub writes_are : writes ≡ to_err (line ++ codes "\n") ∷ []
+
+-- the line of a file that passes its limit
+abbrev pub limit_line : Wanted → List ℕ
+limit_line w = w.name ++ (codes ": Limit " ++ kind_name w.kind)
+
+abbrev pub IsLimited : Wanted → Answer → List Written → Type 0
+IsLimited w a writes = Refuses 7 (limit_line w) Limit a writes
+
+-- the command read its files and wrote what it decides, or a file passed its limit, or a call of the host failed, or memory ran out
+pub data Ends (wants : List Wanted) (Decides : List (List ℕ) → Answer → List Written → Type 0) (old new : HostState) (a : Answer) : Type 0 where
+  answers : Answered wants Decides IsLimited old a new → Ends wants Decides old new a
+  fails : a ≡ bare HostFault → HostFails wants Decides IsLimited old new → Ends wants Decides old new a
+  runs_out : a ≡ bare NoMemory → RunsOut wants Decides IsLimited old new → Ends wants Decides old new a
+
+-- what the writes of a decision come to
+pub data Finishes (old new : HostState) (decided : Answer) (writes : List Written) (a : Answer) : Type 0 where
+  made : a ≡ decided → new ≡ after_writes old writes → Finishes old new decided writes a
+  failed : a ≡ bare HostFault → StopsWriting old writes new Failed → Finishes old new decided writes a
+  out_of_memory : a ≡ bare NoMemory → StopsWriting old writes new Memory → Finishes old new decided writes a
