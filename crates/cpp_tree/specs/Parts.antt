@@ -222,12 +222,9 @@ abbrev pub scalars_within : ℕ → List Class → ℕ → ℕ → List Scalar
 scalars_within zero classes n at = []
 scalars_within (suc depth) classes n at = scalars_from classes (scalars_within depth classes) n at (count_of_parts classes n) 0
 
-abbrev pub class_scalars : List Class → ℕ → ℕ → List Scalar
-class_scalars classes n at = scalars_within (depth_of classes n) classes n at
-
--- the scalars of an object of this type: those of its base, its members and its elements, in order
+-- the scalars of an object of this type: those of its base, its members and its elements, in order; no class nests deeper than there are classes
 abbrev pub scalars_of : List Class → Typ → List Scalar
-scalars_of classes t = object_scalars classes (class_scalars classes) t 0
+scalars_of classes t = object_scalars classes (scalars_within (length classes) classes) t 0
 
 abbrev pub is_field_of : Scalar → TKind → Bool
 is_field_of s (Field offset kind) = offset == s.offset && kind_eq s.kind kind

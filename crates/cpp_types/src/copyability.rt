@@ -102,8 +102,8 @@ fn is_hindrance(function: &FuncRec, class: u32, name: &[u8]) -> bool
         || names_destructor(&function.name)
 }
 
-// Whether two names are one.
-fn is_name(a: &[u8], b: &[u8]) -> bool
+/// Whether two names are one.
+pub fn is_name(a: &[u8], b: &[u8]) -> bool
     ensures { result ≡ name_eq a.now b.now }
 {
     a == b
@@ -119,9 +119,9 @@ fn names_destructor(name: &[u8]) -> bool
     }
 }
 
-// Whether the one parameter is a reference to the class.
+/// Whether the one parameter is a reference to the class.
 #[tactic(auto, using(crate::proofs::Views::signature_view))]
-fn takes_only(function: &FnTy, class: u32) -> bool
+pub fn takes_only(function: &FnTy, class: u32) -> bool
     ensures { result ≡ takes_itself class (signature_of function.now) }
 {
     is_one_reference(&function.params, class)

@@ -1,0 +1,5 @@
+//! What typed nodes ask of their operands: loads, stores and operators, and the words of calls.
+#![tactic(auto)]
+
+pub mod access;
+pub mod words;
