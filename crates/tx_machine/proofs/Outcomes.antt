@@ -13,13 +13,13 @@ use Rattle.tx_events.specs.declared.End.TheVariants.{Exit, Abort, Terminate, Tra
 use Rattle.tx_events.specs.declared.Trap.{Trap}
 use Rattle.tx_events.specs.Memory.{MemoryLayout}
 use Rattle.tx_events.specs.Thread.{Thread, Lawful}
-use Rattle.tx_events.specs.World.{World, Replays, first_world}
-use Rattle.tx_serial.specs.Bound.{Tally, no_tally, tallied, AtMost, zeros}
-use Rattle.tx_serial.specs.Kinds.{Asked, GoesOn}
+use Rattle.tx_events.specs.World.{first_world}
+use Rattle.tx_serial.specs.Bound.{zeros}
+use Rattle.tx_serial.specs.Kinds.{GoesOn}
 use Rattle.tx_serial.specs.Machine.{Machine, Local}
-use Rattle.tx_serial.specs.Run.{Progress, advance, advances, not_begun, picks, state_in, trap_place, Outcome, RunOf, Stops, NoEndBefore, AnsweredBy, EachTurn, is_answer}
+use Rattle.tx_serial.specs.Run.{Progress, advance, advances, not_begun, picks, state_in, trap_place, RunOf, Stops, NoEndBefore, AnsweredBy, EachTurn, is_answer}
 use Rattle.tx_serial.specs.Shows.{ShownByReplay}
-use Rattle.tx_serial.specs.Turn.{Slot, turn, turns, first_machine}
+use Rattle.tx_serial.specs.Turn.{Slot, turn, first_machine}
 use Rattle.tx_serial.proofs.GrowingRuns.{advances_grow}
 use Rattle.tx_serial.proofs.KindConditions.{idle_exact}
 use Rattle.tx_serial.proofs.OlderRuns.{older_each}
@@ -33,7 +33,7 @@ use Rattle.tx_serial.proofs.TurnBound.{ends_alone}
 use Rattle.tx_serial.proofs.TurnSteps as steps
 use Rattle.tx_runtime.specs.Runtime as runtime
 use Rattle.tx_machine.specs.declared.run.Finished.{Finished}
-use Rattle.tx_machine.specs.Course.{counts_of, Plays, Played, Asks}
+use Rattle.tx_machine.specs.Course.{Played, Asks}
 use Rattle.tx_machine.specs.Finished.{end_or_out, stands_at, outcome_of, zeros_in, RunsTo}
 use Rattle.tx_machine.specs.Watch.{Sight}
 

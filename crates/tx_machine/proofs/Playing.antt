@@ -1,5 +1,5 @@
 -- A play grows by one turn at a time.
-use Rattle.std.proofs.Common.{ℕ, ◌≡◌, ◌<◌, ◌≤◌, ◌+◌, ◌-◌, ◌^◌, ◌⊎◌, inl, inr, refl, ap, sym, ◌∙◌, subst, length, List, [], ◌∷◌, ◌++◌, Option, Some, None, is_some, true, false, Bool, arith}
+use Rattle.std.proofs.Common.{ℕ, ◌≡◌, ◌<◌, ◌≤◌, ◌+◌, ◌-◌, ◌^◌, inr, refl, ap, sym, ◌∙◌, subst, length, List, [], ◌∷◌, ◌++◌, Option, Some, None, is_some, true, false, Bool, arith}
 use Rattle.choosers.specs.declared.Clash.{Clash}
 use Rattle.choosers.specs.declared.Choice.{Choice}
 use Rattle.choosers.specs.declared.Seen.{Seen}
@@ -14,7 +14,7 @@ use Rattle.tx_serial.proofs.OnePolicy.{lengths}
 use Rattle.tx_serial.proofs.GrowingRuns.{picks_grow, length_grows, advances_grow, going_grows, answered_grows, picks_to_grow}
 use Rattle.tx_runtime.specs.Runtime.{machine_of}
 use Rattle.tx_machine.specs.declared.course.Course.{Course}
-use Rattle.tx_machine.specs.Course.{Shows, IsBounded, OneTurn, Plays, Played, Asks}
+use Rattle.tx_machine.specs.Course.{Shows, OneTurn, Plays, Played, Asks}
 use Rattle.tx_machine.specs.Watch.{Sight, watched, watched_turn}
 
 watched_grows : {S P W : Type 0} (sight : Sight S P W) (a : Thread S) (p : MemoryLayout) (qs : List Slot) (q : Slot) (r : Progress S) (w : W)

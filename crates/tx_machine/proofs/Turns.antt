@@ -1,26 +1,21 @@
 -- One turn of a course is one turn of a run.
-use Rattle.std.proofs.Common.{ℕ, ◌≡◌, ◌+◌, true, refl, ap, sym, ◌∙◌, subst, length, List, [], ◌∷◌, ◌++◌, Option, Some, None, arith, Bool, Bor}
-use Rattle.std.specs.Prelude.{Result, Ok, Err, OnOk, option_copied}
+use Rattle.std.proofs.Common.{ℕ, ◌≡◌, ◌+◌, true, refl, ap, sym, ◌∙◌, subst, length, List, [], ◌∷◌, ◌++◌, Option, Some, None, arith, Bool}
+use Rattle.std.specs.Option.{option_map}
 use Rattle.choosers.specs.declared.Clash.{Clash}
 use Rattle.choosers.specs.declared.Choice.{Choice}
 use Rattle.choosers.specs.declared.Seen.{Seen}
 use Rattle.tx_events.specs.declared.actor.Actor.{Ghosts}
 use Rattle.tx_events.specs.declared.TurnKind.{TurnKind}
 use Rattle.tx_events.specs.Memory.{MemoryLayout}
-use Rattle.tx_events.specs.Thread.{Thread}
 use Rattle.tx_serial.specs.Kinds.{Asked}
-use Rattle.tx_serial.specs.Machine.{Machine, Local}
+use Rattle.tx_serial.specs.Machine.{Local}
 use Rattle.tx_serial.specs.Turn.{turn}
-use Rattle.tx_serial.specs.Run.{Progress, advance, count_in, inside, seen, state_in}
+use Rattle.tx_serial.specs.Run.{Progress, count_in, inside, seen, state_in}
 use Rattle.tx_runtime.specs.Here.{Chosen}
 use Rattle.tx_runtime.specs.Runtime.{machine_of, ShowsActor}
 use Rattle.tx_machine.specs.declared.course.Course.{Course}
 use Rattle.tx_machine.specs.Course.{Shows, OneTurn, counts_of}
-use Rattle.tx_machine.specs.Watch.{Sight, option_map}
-
-pub map_ok : {X E P Q : Type 0} (r : Result X E) → OnOk r P → (P → Q) → OnOk r Q
-map_ok (Ok x) h f = f h
-map_ok (Err e) h f = tt
+use Rattle.tx_machine.specs.Watch.{Sight}
 
 -- what an observer is shown of an actor is what it sees of its state
 pub shown_place : {A S P : Type 0} (state : A → S) (place : A → P) (read : S → P) → ((a : A) → place a ≡ read (state a))

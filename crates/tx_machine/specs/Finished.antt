@@ -14,7 +14,7 @@ use Rattle.tx_serial.specs.Bound.{Tally, no_tally, tallied, AtMost}
 use Rattle.tx_serial.specs.Circle.{OlderTurn}
 use Rattle.tx_serial.specs.Laws.{Replayed}
 use Rattle.tx_serial.specs.Machine.{Machine}
-use Rattle.tx_serial.specs.Run.{Outcome, RunOf, AnsweredBy, PicksTo, EachTurn, Progress, advance, not_begun, state_in, trap_place, is_trapped, is_answer, sum_of, Together}
+use Rattle.tx_serial.specs.Run.{Outcome, RunOf, AnsweredBy, PicksTo, EachTurn, advance, not_begun, state_in, trap_place, is_trapped, is_answer, sum_of, Together}
 use Rattle.tx_serial.specs.Shows.{ShownByReplay}
 use Rattle.tx_serial.specs.Turn.{Slot, first_machine}
 use Rattle.tx_runtime.specs.Runtime.{machine_of}

@@ -1,15 +1,12 @@
 -- What an observer has seen of a run.
-use Rattle.std.specs.Prelude.{ℕ, List, [], ◌∷◌, Option, Some, None}
+use Rattle.std.specs.Prelude.{ℕ, List, [], ◌∷◌, Option}
+use Rattle.std.specs.Option.{option_map}
 use Rattle.tx_events.specs.declared.End.{End}
 use Rattle.tx_events.specs.declared.TurnKind.{TurnKind}
 use Rattle.tx_events.specs.Memory.{MemoryLayout}
 use Rattle.tx_events.specs.Thread.{Thread}
 use Rattle.tx_serial.specs.Turn.{Slot, turn}
 use Rattle.tx_serial.specs.Run.{Progress, advance, state_in}
-
-abbrev pub option_map : {X Y : Type 0} → (X → Y) → Option X → Option Y
-option_map f None = None
-option_map f (Some x) = Some (f x)
 
 -- What an observer is shown and told: what it sees of a thread in a state, what it has seen once it is shown a thread before
 -- its turn, and what it has seen once it is told the kind of that turn and the program's end.

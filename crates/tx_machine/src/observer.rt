@@ -2,7 +2,7 @@
 ghost use Rattle.std.specs.Prelude.{◌≡◌, ℕ, Option, OnOk, ⊤, option_copied};
 ghost use Rattle.tx_events.specs.declared.TurnKind.{TurnKind};
 ghost use Rattle.tx_events.specs.declared.End.{End};
-ghost use Rattle.tx_machine.specs.Watch.{option_map};
+ghost use Rattle.std.specs.Option.{option_map};
 
 use std::alloc::AllocError;
 use tx_events::{Actor, End, TurnKind};

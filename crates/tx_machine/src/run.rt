@@ -57,7 +57,7 @@ pub struct Finished<A: Actor> {
 impl<A: Actor> Finished<A> {
     ghost use Rattle.std.specs.Prelude.{Option, option_copied};
     ghost use Rattle.tx_machine.specs.Ran.{IsRan};
-    ghost use Rattle.tx_machine.specs.Watch.{option_map};
+    ghost use Rattle.std.specs.Option.{option_map};
     ghost use Rattle.tx_machine.specs.Course.{counts_of};
 
     /// The bytes of output.

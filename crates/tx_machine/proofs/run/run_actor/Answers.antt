@@ -1,4 +1,4 @@
-use Rattle.std.proofs.Common.{rules, refl, inl, ap, ◌≡◌, ◌≤◌, ◌∙◌, [], arith}
+use Rattle.std.proofs.Common.{rules, refl, inl, ap, ◌≡◌, ◌∙◌, [], arith}
 use Rattle.tx_events.specs.declared.TheConstants.{THREAD_LIMIT}
 use Rattle.tx_memory.specs.View.{layout_of}
 use Rattle.tx_runtime.specs.Runtime.{machine_of, layout_at}

@@ -1,8 +1,8 @@
-use Rattle.std.proofs.Common.{rules, refl, ap, sym, ◌≡◌, ◌∙◌, ◌<◌, ◌≤◌, ◌^◌, ◌-◌, length, None, is_some, arith}
-use Rattle.tx_runtime.specs.Runtime.{machine_of, layout_at}
+use Rattle.std.proofs.Common.{rules, refl, ap, sym, ◌≡◌, ◌∙◌, None, is_some, arith}
+use Rattle.tx_runtime.specs.Runtime.{machine_of}
 use Rattle.tx_runtime.proofs.ThreadTables.{on_err}
 use Rattle.tx_serial.specs.Run.{not_begun}
-use Rattle.tx_machine.specs.Course.{Shows, IsBounded}
+use Rattle.tx_machine.specs.Course.{Shows}
 use Rattle.tx_machine.proofs.Playing.{begun, onward, few, no_end, stopped, bounded, failed}
 use Rattle.tx_machine.proofs.course.Course.play.Goals as goal
 

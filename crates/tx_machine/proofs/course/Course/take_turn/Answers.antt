@@ -3,12 +3,12 @@ use Rattle.std.specs.Prelude.{option_copied}
 use Rattle.std.proofs.lemmas.Bool.{eq-eqb}
 use Rattle.tx_runtime.specs.Runtime.{machine_of, layout_at, inside_of}
 use Rattle.tx_serial.specs.Run.{inside}
-use Rattle.tx_machine.specs.Watch.{Sight}
-use Rattle.tx_machine.proofs.Turns.{map_ok, one_turn, shown_place, seen_is}
+use Rattle.tx_runtime.proofs.ThreadTables.{on_ok}
+use Rattle.tx_machine.proofs.Turns.{one_turn, shown_place, seen_is}
 use Rattle.tx_machine.proofs.course.Course.take_turn.Goals as goal
 
 pub returns-clause-turned : goal.returns-clause-turned
-returns-clause-turned g c = map_ok c.after.result c.after.ensures (λ told r shows.
+returns-clause-turned g c = on_ok c.after.result (λ told r shows.
     let t = c.pick-thread.result in
     let old = c.args.self.now.runtime in
     let count : c.len-turn.result ≡ length c.args.self.now.picked.items = search rules in
@@ -22,4 +22,4 @@ returns-clause-turned g c = map_ok c.after.result c.after.ensures (λ told r sho
     refl
     refl
     (c.inside-self.ensures ∙ (c.in_ok-kind.ensures.inside t ∙ ap (λ b. cond b (inside g.A.Actor.thread t (machine_of old) c.in_ok-kind.kind) (inside_of old t)) (eq-eqb t t refl)))
-    c.count.ensures)
+    c.count.ensures) c.after.ensures
