@@ -1,5 +1,32 @@
 -- A play grows by one turn at a time.
-use Rattle.std.proofs.Common.{ℕ, ◌≡◌, ◌<◌, ◌≤◌, ◌+◌, ◌-◌, ◌^◌, inr, refl, ap, sym, ◌∙◌, subst, length, List, [], ◌∷◌, ◌++◌, Option, Some, None, is_some, true, false, Bool, arith}
+use Rattle.std.proofs.Common.{
+  ℕ,
+  ◌≡◌,
+  ◌<◌,
+  ◌≤◌,
+  ◌+◌,
+  ◌-◌,
+  ◌^◌,
+  inr,
+  refl,
+  ap,
+  sym,
+  ◌∙◌,
+  subst,
+  length,
+  List,
+  [],
+  ◌∷◌,
+  ◌++◌,
+  Option,
+  Some,
+  None,
+  is_some,
+  true,
+  false,
+  Bool,
+  arith,
+}
 use Rattle.choosers.specs.declared.Clash.{Clash}
 use Rattle.choosers.specs.declared.Choice.{Choice}
 use Rattle.choosers.specs.declared.Seen.{Seen}
@@ -35,8 +62,10 @@ pub record Going {A K G P W : Type 0} {g : Ghosts A K} (p : MemoryLayout) (polic
   pub picks : course.picked.items ≡ picks slots
   pub taken : length slots ≡ count
 
-module _ {A K G P W : Type 0} {g : Ghosts A K} (p : MemoryLayout) (policy : Clash → Choice → Type 0) (step : G → Seen → ℕ → G → Type 0) (sight : Sight g.State P W) where
-  pub begun : (course : Course A K g) (before : G) (saw : W) → Shows course (not_begun (machine_of course.runtime)) → Going p policy step sight 0 (machine_of course.runtime) course before before saw saw
+module _ {A K G P W : Type 0} {g : Ghosts A K} (p : MemoryLayout) (policy : Clash → Choice → Type 0) (step : G → Seen → ℕ → G → Type 0)
+    (sight : Sight g.State P W) where
+  pub begun : (course : Course A K g) (before : G) (saw : W) → Shows course (not_begun (machine_of course.runtime))
+      → Going p policy step sight 0 (machine_of course.runtime) course before before saw saw
   begun course before saw shows = record {
     slots = [];
     plays = record { going = tt; answered = tt; picked = refl; watched = refl };
@@ -48,7 +77,8 @@ module _ {A K G P W : Type 0} {g : Ghosts A K} (p : MemoryLayout) (policy : Clas
     none [] e = refl
     none (x ∷ xs) e = absurd (omega (arith, e))
 
-  module _ (taken : ℕ) (first : Machine g.State) (course : Course A K g) (before mid : G) (saw seen-so-far : W) (h : Going p policy step sight taken first course before mid saw seen-so-far) where
+  module _ (taken : ℕ) (first : Machine g.State) (course : Course A K g) (before mid : G) (saw seen-so-far : W)
+      (h : Going p policy step sight taken first course before mid saw seen-so-far) where
     abbrev so_far : Progress g.State
     so_far = advances g.thread p h.slots (not_begun first)
 
@@ -64,7 +94,9 @@ module _ {A K G P W : Type 0} {g : Ghosts A K} (p : MemoryLayout) (policy : Clas
             going = going_grows g.thread p h.slots one.slot (not_begun first) h.plays.going end;
             answered = answered_grows g.thread p policy h.slots one.slot (not_begun first) h.plays.answered one.answered;
             picked = picks_to_grow g.thread p step h.slots one.slot (not_begun first) before mid after h.plays.picked one.picked;
-            watched = one.watched ∙ (ap (watched_turn sight g.thread p one.slot so_far) h.plays.watched ∙ sym (watched_grows sight g.thread p h.slots one.slot (not_begun first) saw));
+            watched = one.watched
+                ∙ (ap (watched_turn sight g.thread p one.slot so_far) h.plays.watched
+                ∙ sym (watched_grows sight g.thread p h.slots one.slot (not_begun first) saw));
           };
           shows = subst (Shows next) (sym (advances_grow g.thread p h.slots one.slot (not_begun first))) one.shows;
           picks = one.picks ∙ (ap (λ xs. xs ++ one.slot.thread ∷ []) h.picks ∙ sym (picks_grow h.slots one.slot));
@@ -74,7 +106,8 @@ module _ {A K G P W : Type 0} {g : Ghosts A K} (p : MemoryLayout) (policy : Clas
     pub few : (bound : ℕ) → taken < bound → bound < 2 ^ 32 → length course.picked.items < 2 ^ 32 - 1
     few bound below small = let n = ap length h.picks ∙ (lengths h.slots ∙ h.taken) in omega (arith, n, below, small)
 
-    pub stopped : (bound : ℕ) → taken ≤ bound → is_some (machine_of course.runtime).end ≡ true → Played p policy step sight bound first course before mid saw seen-so-far
+    pub stopped : (bound : ℕ) → taken ≤ bound → is_some (machine_of course.runtime).end ≡ true
+        → Played p policy step sight bound first course before mid saw seen-so-far
     stopped bound within ended = record {
       slots = h.slots;
       plays = h.plays;
@@ -97,7 +130,8 @@ module _ {A K G P W : Type 0} {g : Ghosts A K} (p : MemoryLayout) (policy : Clas
       stopped = λ none. h.taken ∙ all;
     }
 
-    pub failed : (after : G) → ((r : Progress g.State) → Shows course r → (t : ℕ) × step mid (seen r) t after) → (slots : List Slot) × Asks g.thread p policy step first slots before after
+    pub failed : (after : G) → ((r : Progress g.State) → Shows course r → (t : ℕ) × step mid (seen r) t after)
+        → (slots : List Slot) × Asks g.thread p policy step first slots before after
     failed after asked = (
       h.slots,
       record { going = h.plays.going; answered = h.plays.answered; mid = mid; picked = h.plays.picked; once = inr (asked so_far h.shows) },

@@ -32,7 +32,8 @@ one_longer : {X : Type 0} (xs : List X) (x : X) → length (xs ++ x ∷ []) ≡ 
 one_longer [] x = refl
 one_longer (y ∷ xs) x = let rest = one_longer xs x in omega (arith, rest)
 
-module _ {A K G P W : Type 0} {g : Ghosts A K} (p : MemoryLayout) (answers : Clash → Choice → Type 0) (allows : Clash → Choice → Bool) (step : G → Seen → ℕ → G → Type 0)
+module _ {A K G P W : Type 0} {g : Ghosts A K} (p : MemoryLayout) (answers : Clash → Choice → Type 0) (allows : Clash → Choice → Bool)
+    (step : G → Seen → ℕ → G → Type 0)
     (sight : Sight g.State P W) (old new : Course A K g) where
   pub one_turn : (before after : G) (saw mid sees : W) (r : Progress g.State) (t : ℕ) (kind : TurnKind)
       → Shows old r
@@ -48,10 +49,12 @@ module _ {A K G P W : Type 0} {g : Ghosts A K} (p : MemoryLayout) (answers : Cla
       → OneTurn p (λ c choice. answers c choice × (allows c choice ≡ true)) step sight old new before after saw sees r
   one_turn before after saw mid sees r t kind shows chosen picked was is picks thread last into counts =
       let done = turn g.thread p (λ _. chosen.choice) t r.machine in
-      let machine : machine_of new.runtime ≡ done.machine = ap (λ d. d.machine) chosen.turned ∙ ap (λ m. (turn g.thread p (λ _. chosen.choice) t m).machine) shows.machine in
+      let machine : machine_of new.runtime ≡ done.machine = ap (λ d. d.machine) chosen.turned
+      ∙ ap (λ m. (turn g.thread p (λ _. chosen.choice) t m).machine) shows.machine in
       let same : kind ≡ done.kind = ap (λ d. d.kind) chosen.turned ∙ ap (λ m. (turn g.thread p (λ _. chosen.choice) t m).kind) shows.machine in
       let longer = ap length picks ∙ one_longer old.picked.items t in
-      let shown : mid ≡ sight.shown saw t (option_map sight.place (state_in (r.machine.threads t))) = was ∙ ap (λ m. sight.shown saw t (option_map sight.place (state_in (m.threads t)))) shows.machine in
+      let shown : mid ≡ sight.shown saw t (option_map sight.place (state_in (r.machine.threads t))) = was
+      ∙ ap (λ m. sight.shown saw t (option_map sight.place (state_in (m.threads t)))) shows.machine in
       record {
         slot = record { thread = t; answer = λ _. chosen.choice };
         answered = λ c asked. chosen.asked c (subst (λ m. Asked g.thread p t m c) (sym shows.machine) asked);

@@ -14,7 +14,21 @@ use Rattle.tx_serial.specs.Bound.{Tally, no_tally, tallied, AtMost}
 use Rattle.tx_serial.specs.Circle.{OlderTurn}
 use Rattle.tx_serial.specs.Laws.{Replayed}
 use Rattle.tx_serial.specs.Machine.{Machine}
-use Rattle.tx_serial.specs.Run.{Outcome, RunOf, AnsweredBy, PicksTo, EachTurn, advance, not_begun, state_in, trap_place, is_trapped, is_answer, sum_of, Together}
+use Rattle.tx_serial.specs.Run.{
+  Outcome,
+  RunOf,
+  AnsweredBy,
+  PicksTo,
+  EachTurn,
+  advance,
+  not_begun,
+  state_in,
+  trap_place,
+  is_trapped,
+  is_answer,
+  sum_of,
+  Together,
+}
 use Rattle.tx_serial.specs.Shows.{ShownByReplay}
 use Rattle.tx_serial.specs.Turn.{Slot, first_machine}
 use Rattle.tx_runtime.specs.Runtime.{machine_of}
@@ -61,13 +75,15 @@ pub record RunsTo {S G P W : Type 0} (a : Thread S) (p : MemoryLayout) (policy :
   pub watched : sees ≡ watched sight a p slots (not_begun (first_machine memory input main)) saw
   -- the order replays, with the same output, input left and end; and after each turn the machine is shown by the replay of its order
   pub replayed : Replayed a p (first_world memory input main) result
-  pub shows : EachTurn (λ q r. ShownByReplay a p (first_world memory input main) (advance a p q r).machine) a p slots (not_begun (first_machine memory input main))
+  pub shows : EachTurn (λ q r. ShownByReplay a p (first_world memory input main) (advance a p q r).machine) a p slots
+      (not_begun (first_machine memory input main))
   -- each turn is counted once; StepsOut comes at the bound alone; a place is there exactly after a trap
   pub counted : sum_of result.counts ≡ length result.picked
   pub out_at_bound : result.end ≡ StepsOut → length result.picked ≡ bound
   pub place : is_some result.place ≡ is_trapped result.end
   -- under the rule of the older no circle of waits stands
-  pub older : ((c : Clash) (choice : Choice) → policy c choice → is_older c choice ≡ true) → EachTurn (OlderTurn a p) a p slots (not_begun (first_machine memory input main))
+  pub older : ((c : Clash) (choice : Choice) → policy c choice → is_older c choice ≡ true)
+      → EachTurn (OlderTurn a p) a p slots (not_begun (first_machine memory input main))
   -- the recorded picks give it again, where the policy's answer is a function of the clash
   pub again : (answer : Clash → Choice) → ((c : Clash) (choice : Choice) → policy c choice → choice ≡ answer c) → (others : List Slot) (other : Outcome S)
       → RunOf a p bound (first_machine memory input main) others other → AnsweredBy (is_answer answer) a p others (not_begun (first_machine memory input main))

@@ -90,9 +90,11 @@ impl<A: Actor> Course<A> {
         ensures turned { OnOk result ((r : Progress A.State) → Shows self.old r → OneTurn (layout_at self.old.runtime)
             (λ c choice. FnReturnsAt F.Fn policy.now.answer c choice × (R.allows c choice ≡ true))
             (λ g s t h. (shown : Bor Seen) × (shown.now ≡ s) × G.step g shown t h)
-            (record { place = read; shown = W.after_shown; told = W.after_told }) self.old self.new picker.old.choose picker.new.choose (W.state observer.old) (W.state observer.new) r) }
+            (record { place = read; shown = W.after_shown; told = W.after_told }) self.old self.new picker.old.choose picker.new.choose (W.state observer.old)
+            (W.state observer.new) r) }
         ensures bounded { OnOk result (IsBounded self.new) }
-        ensures asked { OnErr result ((r : Progress A.State) → Shows self.old r → (t : ℕ) × (shown : Bor Seen) × (shown.now ≡ seen r) × G.step picker.old.choose shown t picker.new.choose) }
+        ensures asked { OnErr result ((r : Progress A.State) → Shows self.old r → (t : ℕ) × (shown : Bor Seen) × (shown.now ≡ seen r)
+            × G.step picker.old.choose shown t picker.new.choose) }
         ensures layout { layout_at self.new.runtime ≡ layout_at self.old.runtime }
         ensures picker { picker.new.limit ≡ picker.old.limit }
     {
@@ -132,7 +134,8 @@ impl<A: Actor> Course<A> {
         ensures played { OnOk result (Played (layout_at self.old.runtime)
             (λ c choice. FnReturnsAt F.Fn policy.now.answer c choice × (R.allows c choice ≡ true))
             (λ g s t h. (shown : Bor Seen) × (shown.now ≡ s) × G.step g shown t h)
-            (record { place = read; shown = W.after_shown; told = W.after_told }) bound (machine_of self.old.runtime) self.new picker.old.choose picker.new.choose (W.state observer.old) (W.state observer.new)) }
+            (record { place = read; shown = W.after_shown; told = W.after_told }) bound
+            (machine_of self.old.runtime) self.new picker.old.choose picker.new.choose (W.state observer.old) (W.state observer.new)) }
         ensures asked { OnErr result ((slots : List Slot) × Asks A.thread (layout_at self.old.runtime)
             (λ c choice. FnReturnsAt F.Fn policy.now.answer c choice × (R.allows c choice ≡ true))
             (λ g s t h. (shown : Bor Seen) × (shown.now ≡ s) × G.step g shown t h)

@@ -22,7 +22,8 @@ pub loop-turn-preserved : goal.loop-turn-preserved
 loop-turn-preserved g c =
     let none = no_end c.end.result c.is_some.result c.is_some.ensures c.if-is_some.false in
     record {
-      going = onward _ _ _ _ _ _ c.loop-turn.self _ _ _ _ c.loop-turn.invariant.going c.take_turn.new.self _ _ (sym c.end.ensures ∙ none) _ c.loop-turn.invariant.layout
+      going = onward _ _ _ _ _ _ c.loop-turn.self _ _ _ _ c.loop-turn.invariant.going c.take_turn.new.self _ _
+          (sym c.end.ensures ∙ none) _ c.loop-turn.invariant.layout
           (c.in_ok-take_turn.ensures.turned _ c.loop-turn.invariant.going.shows);
       bounded = c.in_ok-take_turn.ensures.bounded;
       layout = c.in_ok-take_turn.ensures.layout ∙ c.loop-turn.invariant.layout;
@@ -39,4 +40,5 @@ returns-in_err-take_turn-clause-asked g c = on_err c.from_residual.result (faile
     (λ r shows. let one = c.in_err-take_turn.ensures.asked r shows in (one.0, (one.1, one.2, one.3))))
 
 pub returns-clause-played : goal.returns-clause-played
-returns-clause-played g c = bounded _ _ _ _ _ _ c.loop-turn.self _ _ _ _ c.loop-turn.invariant.going c.args.bound (omega (arith, c.loop-turn.auto._turn-end, c.loop-turn-test.false))
+returns-clause-played g c = bounded _ _ _ _ _ _ c.loop-turn.self _ _ _ _ c.loop-turn.invariant.going c.args.bound
+    (omega (arith, c.loop-turn.auto._turn-end, c.loop-turn-test.false))

@@ -21,5 +21,7 @@ returns-clause-turned g c = on_ok c.after.result (λ told r shows.
     c.in_ok-push.ensures.items
     refl
     refl
-    (c.inside-self.ensures ∙ (c.in_ok-kind.ensures.inside t ∙ ap (λ b. cond b (inside g.A.Actor.thread t (machine_of old) c.in_ok-kind.kind) (inside_of old t)) (eq-eqb t t refl)))
+    (c.inside-self.ensures
+    ∙ (c.in_ok-kind.ensures.inside t ∙ ap (λ b. cond b (inside g.A.Actor.thread t (machine_of old) c.in_ok-kind.kind) (inside_of old t))
+    (eq-eqb t t refl)))
     c.count.ensures) c.after.ensures
