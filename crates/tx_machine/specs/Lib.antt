@@ -1,0 +1,4 @@
+pub mod Watch
+pub mod Course
+pub mod Finished
+pub mod Ran
