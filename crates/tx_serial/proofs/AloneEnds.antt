@@ -96,8 +96,8 @@ module _ {S : Type 0} (R : S → Type 0) (a : Thread S) (laws : Lawful S R a) (p
   pays_on : (t : ℕ) (m : Machine (S × Tally)) (l : Local (S × Tally)) (is : m.threads t ≡ Some l) (calm : is_giving l.tx ≡ false) (z w : ℕ) (kind : TurnKind)
       (s : S × Tally)
       → ByKind C p t m l is calm kind s → is_idle kind ≡ false → is_waiting kind ≡ false
-          → w + spent kind ≤ weight (word_bound p) (Some l) + earned_by kind (a.next l.state.0) → weight (word_bound p) (Some l) + z ≤ turns_for l.state.1
-          → w + suc z ≤ turns_for s.1
+      → w + spent kind ≤ weight (word_bound p) (Some l) + earned_by kind (a.next l.state.0) → weight (word_bound p) (Some l) + z ≤ turns_for l.state.1
+      → w + suc z ≤ turns_for s.1
   pays_on t m l is calm z w Ran s k i j h g = let e = ap (λ q. turns_for q.1) k.1 in omega (arith, e, h, g)
   pays_on t m l is calm z w (Undone x) s k i j h g = let e = ap (λ q. turns_for q.1) k in omega (arith, e, h, g)
   pays_on t m l is calm z w (Released x) s k i j h g = let e = ap (λ q. turns_for q.1) k in omega (arith, e, h, g)
@@ -126,13 +126,13 @@ module _ {S : Type 0} (R : S → Type 0) (a : Thread S) (laws : Lawful S R a) (p
           | true ↦ λ e.
               let same : (turn C p answer 0 m).machine ≡ m =
               ap (λ o. (turn_at C p answer 0 m o).machine) goes
-                  ∙ (ap (λ o. (turn_of C p answer 0 m o).machine) f.at ∙ ap (λ b. (cond b (stays Idle m) (turn_in C p answer 0 m l l.tx)).machine) e) in
+              ∙ (ap (λ o. (turn_of C p answer 0 m o).machine) f.at ∙ ap (λ b. (cond b (stays Idle m) (turn_in C p answer 0 m l l.tx)).machine) e) in
               let i : Some mv.now ≡ Some l = sym mv.at ∙ (ap (λ n. n.threads 0) same ∙ f.at) in
               let j : mv.now ≡ l = cc in
               absurd (true≢false (sym e ∙ (sym (ap (λ q. q.ended) j) ∙ up)))
           | false ↦ λ e.
               pays_on 0 m l f.at f.calm z (weight (word_bound p) (Some mv.now)) kind mv.now.state mv.state
-                  (awake answer m l l.tx kind (kind_of_turn RC C counted_laws p small answer 0 m l sound (record { going = goes; is = f.at; up = e }))) ln.1
+              (awake answer m l l.tx kind (kind_of_turn RC C counted_laws p small answer 0 m l sound (record { going = goes; is = f.at; up = e }))) ln.1
               (subst (λ o. weight (word_bound p) o + spent kind ≤ weight (word_bound p) (Some l) + earned_by kind (a.next l.state.0)) mv.at py) (f.paid e)
         ] refl;
       }
@@ -153,13 +153,13 @@ module _ {S : Type 0} (R : S → Type 0) (a : Thread S) (laws : Lawful S R a) (p
         let next = turn_sound RC C counted_laws p small q.answer q.thread m sound in
         let also = turn_kept C p start q.answer q.thread m shown in
         elim (q.thread == 0) as
-            (λ b. (q.thread == 0) ≡ b → Paid (turns C p qs (turn C p q.answer q.thread m).machine) (z + cond b (suc (zeros qs)) (zeros qs))) [
+        (λ b. (q.thread == 0) ≡ b → Paid (turns C p qs (turn C p q.answer q.thread m).machine) (z + cond b (suc (zeros qs)) (zeros qs))) [
           | true ↦ λ e.
               let i = eqb-true q.thread 0 e in
               subst (λ n. Paid (turns C p qs (turn C p q.answer q.thread m).machine) n) (omega arith)
               (all_turns qs (turn C p q.answer q.thread m).machine (suc z) next also
               (subst (λ t. (turn C p q.answer t m).machine.end ≡ None → Paid (turn C p q.answer t m).machine (suc z)) (sym i)
-                  (one_turn q.answer m z sound before (quiet m shown))) h)
+              (one_turn q.answer m z sound before (quiet m shown))) h)
           | false ↦ λ d.
               let same = other_turn q.answer q.thread m z before d in
               all_turns qs (turn C p q.answer q.thread m).machine z next also (subst (λ n. n.end ≡ None → Paid n z) (sym same) before) h

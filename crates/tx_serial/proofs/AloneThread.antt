@@ -6,8 +6,22 @@ use Rattle.tx_events.specs.declared.End.{End}
 use Rattle.tx_events.specs.declared.BlockKind.{BlockKind}
 use Rattle.tx_events.specs.declared.BlockKind.TheVariants.{NoExcept, Commit, Cancel}
 use Rattle.tx_events.specs.declared.Event.{Event}
-use Rattle.tx_events.specs.declared.Event.TheVariants.{Silent, Load, Store, Out, Inp, Spawn, Join, BeginAtomic, EndAtomic, Raise, BeginSync, EndSync, Done,
-  Stop}
+use Rattle.tx_events.specs.declared.Event.TheVariants.{
+  Silent,
+  Load,
+  Store,
+  Out,
+  Inp,
+  Spawn,
+  Join,
+  BeginAtomic,
+  EndAtomic,
+  Raise,
+  BeginSync,
+  EndSync,
+  Done,
+  Stop,
+}
 use Rattle.tx_events.specs.declared.Reply.TheVariants.{Nothing}
 use Rattle.tx_events.specs.declared.TurnKind.{TurnKind}
 use Rattle.tx_events.specs.declared.TurnKind.TheVariants.{Ran, Idle, Undone, Released}
@@ -16,10 +30,48 @@ use Rattle.choosers.specs.declared.Choice.{Choice}
 use Rattle.tx_events.specs.Thread.{Thread}
 use Rattle.tx_events.specs.Memory.{update, MemoryLayout, can_access, word_of, word_bound}
 use Rattle.tx_events.specs.World.{Lock, target, lock_free, holder_free, lock_out}
-use Rattle.tx_serial.specs.Machine.{Machine, Local, Tx, NoTx, OpenTx, GivingUp, Closing, Save, blocker, busy, lock_owner, least, is_noted, conflicts_with,
-  birth_of, live_in, eldest}
-use Rattle.tx_serial.specs.Turn.{Turned, load_in, store_in, load_out, store_out, joins, begins, sync_in, sync_idle, commits, cancels_by, cancels, raises,
-  in_does, out_does, lets_go, gives_back, turn_in, turn_of, turn_at, turn}
+use Rattle.tx_serial.specs.Machine.{
+  Machine,
+  Local,
+  Tx,
+  NoTx,
+  OpenTx,
+  GivingUp,
+  Closing,
+  Save,
+  blocker,
+  busy,
+  lock_owner,
+  least,
+  is_noted,
+  conflicts_with,
+  birth_of,
+  live_in,
+  eldest,
+}
+use Rattle.tx_serial.specs.Turn.{
+  Turned,
+  load_in,
+  store_in,
+  load_out,
+  store_out,
+  joins,
+  begins,
+  sync_in,
+  sync_idle,
+  commits,
+  cancels_by,
+  cancels,
+  raises,
+  in_does,
+  out_does,
+  lets_go,
+  gives_back,
+  turn_in,
+  turn_of,
+  turn_at,
+  turn,
+}
 use Rattle.tx_serial.specs.Bound.{is_waiting, is_spawn}
 use Rattle.tx_serial.proofs.PendingWork.{Lone}
 use Rattle.tx_events.proofs.BlockRuns.{update_elsewhere}

@@ -39,8 +39,8 @@ module _ {S : Type 0} (R : S → Type 0) (a : Thread S) (p : MemoryLayout) where
           (λ d i. let less = h.drawn u i in omega (arith, less, births)));
       distinct = λ v u d. subst (λ f. tx_in (f v) ≡ true → tx_in (f u) ≡ true → birth_of (f v) ≡ birth_of (f u) → ⊥) (sym threads)
           (at_update a p
-              (λ o. tx_in o ≡ true → tx_in (update m.threads t (Some l') u) ≡ true → birth_of o ≡ birth_of (update m.threads t (Some l') u) → ⊥) m.threads t v
-              (Some l')
+          (λ o. tx_in o ≡ true → tx_in (update m.threads t (Some l') u) ≡ true → birth_of o ≡ birth_of (update m.threads t (Some l') u) → ⊥) m.threads t v
+          (Some l')
           (λ e. at_update a p (λ o. has_tx l'.tx ≡ true → tx_in o ≡ true → birth l'.tx ≡ birth_of o → ⊥) m.threads t u (Some l')
           (λ e'. absurd (eqb-false u v d (eqb-true u t e' ∙ sym (eqb-true v t e))))
           (λ d'. not_same u d'))
@@ -68,8 +68,12 @@ module _ {S : Type 0} (R : S → Type 0) (a : Thread S) (p : MemoryLayout) where
       let n = m.started in
       record {
         threads = λ u. at_update a p (λ o. SoundThread R a p o) m.threads n u new
-            (λ e. record { reached = reached; bounded = λ x i. absurd (false≢true i); holds = λ x i. absurd (false≢true i);
-            tx = (ap atomics none, λ x. refl) }) (λ d. h.threads u);
+            (λ e. record {
+              reached = reached;
+              bounded = λ x i. absurd (false≢true i);
+              holds = λ x i. absurd (false≢true i);
+              tx = (ap atomics none, λ x. refl);
+            }) (λ d. h.threads u);
         fresh = λ u i. update_elsewhere m.threads n new u (not_true (u == n) (λ e. let j = eqb-true u n e in absurd (omega (arith, i, j))))
             ∙ h.fresh u (omega (arith, i));
         drawn = λ u. at_update a p (λ o. tx_in o ≡ true → birth_of o < m.births) m.threads n u new (λ e i. absurd (false≢true i)) (λ d. h.drawn u);
@@ -77,5 +81,5 @@ module _ {S : Type 0} (R : S → Type 0) (a : Thread S) (p : MemoryLayout) where
             (λ o. tx_in o ≡ true → tx_in (update m.threads n new u) ≡ true → birth_of o ≡ birth_of (update m.threads n new u) → ⊥) m.threads n v new
             (λ e i. absurd (false≢true i))
             (λ d'. at_update a p (λ o. tx_in (m.threads v) ≡ true → tx_in o ≡ true → birth_of (m.threads v) ≡ birth_of o → ⊥) m.threads n u new
-                (λ e i j. absurd (false≢true j)) (λ d2. h.distinct v u d));
+            (λ e i j. absurd (false≢true j)) (λ d2. h.distinct v u d));
       }

@@ -6,8 +6,22 @@ use Rattle.tx_events.specs.declared.End.{End}
 use Rattle.tx_events.specs.declared.BlockKind.{BlockKind}
 use Rattle.tx_events.specs.declared.BlockKind.TheVariants.{NoExcept, Commit, Cancel}
 use Rattle.tx_events.specs.declared.Event.{Event}
-use Rattle.tx_events.specs.declared.Event.TheVariants.{Silent, Load, Store, Out, Inp, Spawn, Join, BeginAtomic, EndAtomic, Raise, BeginSync, EndSync, Done,
-  Stop}
+use Rattle.tx_events.specs.declared.Event.TheVariants.{
+  Silent,
+  Load,
+  Store,
+  Out,
+  Inp,
+  Spawn,
+  Join,
+  BeginAtomic,
+  EndAtomic,
+  Raise,
+  BeginSync,
+  EndSync,
+  Done,
+  Stop,
+}
 use Rattle.tx_events.specs.declared.Reply.{Reply}
 use Rattle.tx_events.specs.declared.Reply.TheVariants.{Nothing, Loaded, Byte, Id}
 use Rattle.choosers.specs.declared.Clash.{Clash}
@@ -16,11 +30,73 @@ use Rattle.choosers.specs.declared.Choice.TheVariants.{Wait, Yield}
 use Rattle.tx_events.specs.Thread.{Thread}
 use Rattle.tx_events.specs.Memory.{update, MemoryLayout, can_access, word_of, word_bound, load}
 use Rattle.tx_events.specs.World.{target, byte_of}
-use Rattle.tx_serial.specs.Machine.{greatest, count, waits_at, lock_owner, clash_of, Machine, Local, Tx, NoTx, OpenTx, GivingUp, Closing, Save, no_save,
-  held_by, wrote_by, live_in, is_live, birth, birth_of, conflicts_with, hand, note, forget, blocker, busy, least, eldest, is_noted, wait_more}
-use Rattle.tx_serial.specs.Turn.{Slot, Turned, bare, clashes, gives_up, closes, without, waited, load_in, store_in, load_out, store_out, joins, begins,
-  sync_in, sync_idle, outermost, commits, cancels_by, cancels, raises, in_does, out_does, lets_go, given_back, gives_back, turn_in, turn_of, turn_at, turn,
-  turns, first_machine, first_thread}
+use Rattle.tx_serial.specs.Machine.{
+  greatest,
+  count,
+  waits_at,
+  lock_owner,
+  clash_of,
+  Machine,
+  Local,
+  Tx,
+  NoTx,
+  OpenTx,
+  GivingUp,
+  Closing,
+  Save,
+  no_save,
+  held_by,
+  wrote_by,
+  live_in,
+  is_live,
+  birth,
+  birth_of,
+  conflicts_with,
+  hand,
+  note,
+  forget,
+  blocker,
+  busy,
+  least,
+  eldest,
+  is_noted,
+  wait_more,
+}
+use Rattle.tx_serial.specs.Turn.{
+  Slot,
+  Turned,
+  bare,
+  clashes,
+  gives_up,
+  closes,
+  without,
+  waited,
+  load_in,
+  store_in,
+  load_out,
+  store_out,
+  joins,
+  begins,
+  sync_in,
+  sync_idle,
+  outermost,
+  commits,
+  cancels_by,
+  cancels,
+  raises,
+  in_does,
+  out_does,
+  lets_go,
+  given_back,
+  gives_back,
+  turn_in,
+  turn_of,
+  turn_at,
+  turn,
+  turns,
+  first_machine,
+  first_thread,
+}
 use Rattle.tx_serial.specs.Bound.{with_more}
 
 -- the erased machine, where its threads are these
@@ -42,8 +118,18 @@ module _ {S X : Type 0} where
   erase_opt (Some l) = Some (erase_local l)
 
   abbrev pub erase : Machine (S × X) → Machine S
-  erase m = record { memory = m.memory; threads = λ u. erase_opt (m.threads u); started = m.started; lock = m.lock; births = m.births; waits = m.waits;
-      out = m.out; input = m.input; order = m.order; end = m.end }
+  erase m = record {
+    memory = m.memory;
+    threads = λ u. erase_opt (m.threads u);
+    started = m.started;
+    lock = m.lock;
+    births = m.births;
+    waits = m.waits;
+    out = m.out;
+    input = m.input;
+    order = m.order;
+    end = m.end;
+  }
 
   birth_same : (o : Option (Local (S × X))) → birth_of (erase_opt o) ≡ birth_of o
   birth_same None = refl
@@ -85,7 +171,7 @@ module _ {S X : Type 0} where
       let off = fun_ext (λ v. keeps_same t store x v (m.threads v)) in
       let age = fun_ext (λ v. birth_same (m.threads v)) in
       let most = ap (λ q. greatest q (λ v. birth_of (erase_opt (m.threads v))) m.started) off
-          ∙ ap (λ g. greatest (conflicts_with t store x m.threads) g m.started) age in
+      ∙ ap (λ g. greatest (conflicts_with t store x m.threads) g m.started) age in
       let many = ap (λ q. count q m.started) off in
       let least = birth_same (m.threads u) in
       λ i. record { mine = b; least = least i; greatest = most i; count = many i; waits = waits_at (m.waits t) x (least i) }
@@ -133,8 +219,10 @@ module _ {S X : Type 0} (x0 : X) (h : X → Event → Reply → X) (a : Thread S
 
   target_same : (id : ℤ) → target t id (erase m).threads ≡ erase_opt (target t id m.threads)
   target_same (negsuc n) = refl
-  target_same (pos n) = elim ((n == 0) || (n == t)) as (λ b. cond b None (erase_opt (m.threads n)) ≡ erase_opt (cond b None (m.threads n))) [ true ↦ refl
-      | false ↦ refl ]
+  target_same (pos n) = elim ((n == 0) || (n == t)) as (λ b. cond b None (erase_opt (m.threads n)) ≡ erase_opt (cond b None (m.threads n))) [
+    | true ↦ refl
+    | false ↦ refl
+  ]
 
   idle_erased : (o : Option ℕ) → Erased (sync_idle t m (record l { state = C.after l.state Nothing }) o)
       (sync_idle t (erase m) (erase_local (record l { state = C.after l.state Nothing })) o)
@@ -170,8 +258,8 @@ module _ {S X : Type 0} (x0 : X) (h : X → Event → Reply → X) (a : Thread S
       let l' : Local (S × X) = record l { state = C.after l.state (Id (pos m.started)) } in
       either (nat_lt m.started p.limit) _ _ _ _
       (threads_are _ (λ u. erase_opt (update (update m.threads m.started (Some (bare c))) t (Some l') u))
-          (update_erased (update m.threads m.started (Some (bare c))) t l'
-          ∙ ap (λ f. update f t (Some (erase_local l'))) (update_erased m.threads m.started (bare c))))
+      (update_erased (update m.threads m.started (Some (bare c))) t l'
+      ∙ ap (λ f. update f t (Some (erase_local l'))) (update_erased m.threads m.started (bare c))))
       refl
   out_erased (Join id) z i = subst
       (λ o. Erased (joins t id m (record l { state = C.after l.state Nothing }) (target t id m.threads))
@@ -195,7 +283,7 @@ module _ {S X : Type 0} (x0 : X) (h : X → Event → Reply → X) (a : Thread S
         (clashes p (answer (clash_of t store x (erase m) b u)) t (erase m) (erase_local l) b k.0 ss x u)
     asked_erased answer store x u =
         subst (λ c. Erased (clashes p (answer (clash_of t store x m b u)) t m l b k ss x u) (clashes p (answer c) t (erase m) (erase_local l) b k.0 ss x u))
-            (sym (clash_same t store x b u m))
+        (sym (clash_same t store x b u m))
         (clash_erased (answer (clash_of t store x m b u)) x u)
 
     load_in_erased : (answer : Clash → Choice) (addr size : ℕ) (o : Option ℕ)
@@ -208,8 +296,12 @@ module _ {S X : Type 0} (x0 : X) (h : X → Event → Reply → X) (a : Thread S
         → Erased (store_in C p answer t m l b k ss addr size value o) (store_in a p answer t (erase m) (erase_local l) b k.0 ss addr size value o)
     store_in_erased answer addr size value (Some u) = asked_erased answer true (word_of addr) u
     store_in_erased answer addr size value None = go
-        (record l { state = C.after l.state Nothing; held = update l.held (word_of addr) true; wrote = update l.wrote (word_of addr) true;
-        tx = OpenTx b k (note ss (word_of addr) (m.memory (word_of addr))) }) _ refl
+        (record l {
+          state = C.after l.state Nothing;
+          held = update l.held (word_of addr) true;
+          wrote = update l.wrote (word_of addr) true;
+          tx = OpenTx b k (note ss (word_of addr) (m.memory (word_of addr)));
+        }) _ refl
 
     closes_erased : (o : Option ℕ) → erase_tx {S = S} {X = X} (closes b o) ≡ closes b o
     closes_erased None = refl
@@ -277,7 +369,7 @@ module _ {S X : Type 0} (x0 : X) (h : X → Event → Reply → X) (a : Thread S
   go_erased b None = refl
   go_erased b (Some x) = go (record l { held = without l.held x; wrote = without l.wrote x; tx = closes b (least (without l.held x) (word_bound p)) }) _
       (ap (λ z. update (λ u. erase_opt (m.threads u)) t (Some (record (erase_local l) { held = without l.held x; wrote = without l.wrote x; tx = z })))
-          (closes_same (least (without l.held x) (word_bound p))))
+      (closes_same (least (without l.held x) (word_bound p))))
     where
       closes_same : (o : Option ℕ) → erase_tx {S = S} {X = X} (closes b o) ≡ closes b o
       closes_same None = refl

@@ -1,6 +1,30 @@
 -- A thread whose next event is no access has no waits.
-use Rattle.std.proofs.Common.{ℕ, ℤ, pos, zero, suc, ◌≡◌, ◌==◌, ◌≤◌, Bool, true, false, cond, refl, ap, sym, ◌∙◌, subst, List, [], ◌∷◌, Option, Some, None,
-  arith}
+use Rattle.std.proofs.Common.{
+  ℕ,
+  ℤ,
+  pos,
+  zero,
+  suc,
+  ◌≡◌,
+  ◌==◌,
+  ◌≤◌,
+  Bool,
+  true,
+  false,
+  cond,
+  refl,
+  ap,
+  sym,
+  ◌∙◌,
+  subst,
+  List,
+  [],
+  ◌∷◌,
+  Option,
+  Some,
+  None,
+  arith,
+}
 use Rattle.std.specs.Prelude.{nat_lt}
 use Rattle.std.proofs.lemmas.Bool.{eqb-true, true≢false}
 use Rattle.choosers.specs.declared.Clash.{Clash}
@@ -11,16 +35,75 @@ use Rattle.tx_events.specs.declared.End.{End}
 use Rattle.tx_events.specs.declared.BlockKind.{BlockKind}
 use Rattle.tx_events.specs.declared.BlockKind.TheVariants.{NoExcept, Commit, Cancel}
 use Rattle.tx_events.specs.declared.Event.{Event}
-use Rattle.tx_events.specs.declared.Event.TheVariants.{Silent, Load, Store, Out, Inp, Spawn, Join, BeginAtomic, EndAtomic, Raise, BeginSync, EndSync, Done,
-  Stop}
+use Rattle.tx_events.specs.declared.Event.TheVariants.{
+  Silent,
+  Load,
+  Store,
+  Out,
+  Inp,
+  Spawn,
+  Join,
+  BeginAtomic,
+  EndAtomic,
+  Raise,
+  BeginSync,
+  EndSync,
+  Done,
+  Stop,
+}
 use Rattle.tx_events.specs.declared.Reply.TheVariants.{Nothing, Id}
 use Rattle.tx_events.specs.Thread.{Thread, Lawful}
 use Rattle.tx_events.specs.Memory.{update, MemoryLayout, can_access, word_of, word_bound}
 use Rattle.tx_events.specs.World.{target}
-use Rattle.tx_serial.specs.Machine.{Machine, Local, Tx, NoTx, OpenTx, GivingUp, Closing, Save, Waits, no_waits, wait_more, birth_of, is_noted, least, blocker,
-  lock_owner, busy, clash_of}
-use Rattle.tx_serial.specs.Turn.{Slot, Turned, bare, waited, clashes, load_in, store_in, load_out, store_out, joins, begins, sync_in, sync_idle, commits,
-  cancels_by, cancels, raises, in_does, out_does, lets_go, gives_back, turn_in, turn_of, turn_at, turn, turns, first_machine}
+use Rattle.tx_serial.specs.Machine.{
+  Machine,
+  Local,
+  Tx,
+  NoTx,
+  OpenTx,
+  GivingUp,
+  Closing,
+  Save,
+  Waits,
+  no_waits,
+  wait_more,
+  birth_of,
+  is_noted,
+  least,
+  blocker,
+  lock_owner,
+  busy,
+  clash_of,
+}
+use Rattle.tx_serial.specs.Turn.{
+  Slot,
+  Turned,
+  bare,
+  waited,
+  clashes,
+  load_in,
+  store_in,
+  load_out,
+  store_out,
+  joins,
+  begins,
+  sync_in,
+  sync_idle,
+  commits,
+  cancels_by,
+  cancels,
+  raises,
+  in_does,
+  out_does,
+  lets_go,
+  gives_back,
+  turn_in,
+  turn_of,
+  turn_at,
+  turn,
+  turns,
+  first_machine,
+}
 use Rattle.tx_serial.specs.Run.{is_access}
 use Rattle.tx_serial.specs.Sound.{Sound}
 use Rattle.tx_serial.specs.Laws.{RestsAt, Rests}
@@ -43,7 +126,7 @@ module _ {S : Type 0} (a : Thread S) (p : MemoryLayout) (t : ℕ) (m : Machine S
   waits_on : (x v : ℕ) → is_access (a.next l.state) ≡ true → Kept (waited t m x v)
   waits_on x v e u = at_update a p (λ w. RestsAt a (m.threads u) w) m.waits t u (wait_more (m.waits t) x (birth_of (m.threads v)))
       (λ i. subst (λ o. RestsAt a o (wait_more (m.waits t) x (birth_of (m.threads v)))) (sym (ap m.threads (eqb-true u t i) ∙ is))
-          (λ j. absurd (true≢false (sym e ∙ j))))
+      (λ j. absurd (true≢false (sym e ∙ j))))
       (λ d. h u)
 
   either : (b : Bool) (x y : Turned S) → Kept x → Kept y → Kept (cond b x y)

@@ -8,8 +8,22 @@ use Rattle.tx_events.specs.declared.Trap.TheVariants.{BadAddress}
 use Rattle.tx_events.specs.declared.BlockKind.{BlockKind}
 use Rattle.tx_events.specs.declared.BlockKind.TheVariants.{NoExcept, Commit, Cancel}
 use Rattle.tx_events.specs.declared.Event.{Event}
-use Rattle.tx_events.specs.declared.Event.TheVariants.{Silent, Load, Store, Out, Inp, Spawn, Join, BeginAtomic, EndAtomic, Raise, BeginSync, EndSync, Done,
-  Stop}
+use Rattle.tx_events.specs.declared.Event.TheVariants.{
+  Silent,
+  Load,
+  Store,
+  Out,
+  Inp,
+  Spawn,
+  Join,
+  BeginAtomic,
+  EndAtomic,
+  Raise,
+  BeginSync,
+  EndSync,
+  Done,
+  Stop,
+}
 use Rattle.tx_events.specs.declared.Reply.TheVariants.{Nothing, Loaded}
 use Rattle.choosers.specs.declared.Clash.{Clash}
 use Rattle.choosers.specs.declared.Choice.{Choice}
@@ -18,20 +32,96 @@ use Rattle.tx_events.specs.Thread.{Thread}
 use Rattle.tx_events.specs.Memory.{update, MemoryLayout, can_access, word_of, read_at, merge, word_bound}
 use Rattle.tx_events.specs.Alone.{Inner, inner_load, inner_store, inner_by, leave, newest, begin, Goes, Leaves, Halts, Inside, goes_on}
 use Rattle.tx_events.specs.World.{alive, World, BlockEffect, SilentSteps, none, ends}
-use Rattle.tx_serial.specs.Machine.{clash_of, Machine, Local, OpenTx, GivingUp, Closing, Save, no_save, kept_or, oldest, forget, forget_all, hand, note,
-  is_noted, held_by, wrote_by, is_live, blocker, least}
-use Rattle.tx_serial.specs.Turn.{halts, steps, order_gains, waited, again, gives_up, clashes, load_in, store_in, closes, commits, cancels_by, cancels, raises,
-  in_does, without, lets_go, given_back, gives_back}
+use Rattle.tx_serial.specs.Machine.{
+  clash_of,
+  Machine,
+  Local,
+  OpenTx,
+  GivingUp,
+  Closing,
+  Save,
+  no_save,
+  kept_or,
+  oldest,
+  forget,
+  forget_all,
+  hand,
+  note,
+  is_noted,
+  held_by,
+  wrote_by,
+  is_live,
+  blocker,
+  least,
+}
+use Rattle.tx_serial.specs.Turn.{
+  halts,
+  steps,
+  order_gains,
+  waited,
+  again,
+  gives_up,
+  clashes,
+  load_in,
+  store_in,
+  closes,
+  commits,
+  cancels_by,
+  cancels,
+  raises,
+  in_does,
+  without,
+  lets_go,
+  given_back,
+  gives_back,
+}
 use Rattle.tx_serial.specs.Shows.{cancelling, Even, LevelsAt, NoneAt, InBlock, Giving, ShowsTx, ShowsLocal}
 use Rattle.tx_serial.proofs.WorldAgreement.{undoes, Going, Agreed}
 use Rattle.tx_events.proofs.WordLemmas.{access_below}
 use Rattle.tx_events.proofs.BlockRuns.{update_same, update_elsewhere, update_true, not_updated, AllAt, unstored}
-use Rattle.tx_serial.proofs.SavepointLevels.{bottom, none_oldest, even_note, levels_noted, levels_note_else, none_note_else, levels_hand, none_hand,
-  levels_forget, levels_forget_else, forget_none, even_forget, oldest_forget, oldest_forget_else, levels_pop}
+use Rattle.tx_serial.proofs.SavepointLevels.{
+  bottom,
+  none_oldest,
+  even_note,
+  levels_noted,
+  levels_note_else,
+  none_note_else,
+  levels_hand,
+  none_hand,
+  levels_forget,
+  levels_forget_else,
+  forget_none,
+  even_forget,
+  oldest_forget,
+  oldest_forget_else,
+  levels_pop,
+}
 use Rattle.tx_serial.proofs.SearchLemmas.{eldest_none, eldest_some}
 use Rattle.tx_serial.proofs.UntouchedThreads.{at_update, changed}
-use Rattle.tx_serial.proofs.TurnContext.{and_false, not_true, based, Known, everyone, own_mine, own_theirs, no_other, not_wrote, unheld, still_alone,
-  unheld_by, not_kept_off, none_held, in_step, sees, near, fresh_block, quiet, said, halted, either}
+use Rattle.tx_serial.proofs.TurnContext.{
+  and_false,
+  not_true,
+  based,
+  Known,
+  everyone,
+  own_mine,
+  own_theirs,
+  no_other,
+  not_wrote,
+  unheld,
+  still_alone,
+  unheld_by,
+  not_kept_off,
+  none_held,
+  in_step,
+  sees,
+  near,
+  fresh_block,
+  quiet,
+  said,
+  halted,
+  either,
+}
 
 module _ {S : Type 0} (a : Thread S) (p : MemoryLayout) (start : World S) (t : ℕ) (m : Machine S) (l : Local S) (k : Known a p start t m l) where
   as_is : Agreed a p start m
@@ -129,7 +219,7 @@ module _ {S : Type 0} (a : Thread S) (p : MemoryLayout) (start : World S) (t : �
     begin_kept kind is =
         let j : Inner S = record f.inner { state = a.after f.inner.state Nothing; copies = f.inner.memory ∷ f.inner.copies } in
         same_words (a.after l.state Nothing) (no_save ∷ ss) j (more j (BeginAtomic kind) is refl) (ap (λ s. a.after s Nothing) f.state) refl refl f.even
-            (sees_at (BeginAtomic kind) is refl)
+        (sees_at (BeginAtomic kind) is refl)
         (λ x e. let q = sees_at (BeginAtomic kind) is refl x e in (q, subst (λ v. LevelsAt x v ss f.inner.copies) (sym q) (f.levels x e)))
         (λ x e. (refl, f.unsaved x e))
 
@@ -158,9 +248,9 @@ module _ {S : Type 0} (a : Thread S) (p : MemoryLayout) (start : World S) (t : �
 
     load_kept : (addr size : ℕ) (vol : Bool) → a.next l.state ≡ Load addr size vol → can_access p addr size ≡ true → blocker t false (word_of addr) m ≡ None
         → Agreed a p start
-            (steps t m
-            (record l
-            { state = a.after l.state (Loaded (read_at addr size (m.memory (word_of addr)))); held = update l.held (word_of addr) true; tx = OpenTx b kk ss }))
+        (steps t m
+        (record l
+        { state = a.after l.state (Loaded (read_at addr size (m.memory (word_of addr)))); held = update l.held (word_of addr) true; tx = OpenTx b kk ss }))
     load_kept addr size vol is ok clear =
         let x = word_of addr in
         let l' : Local S = record l { state = a.after l.state (Loaded (read_at addr size (m.memory x))); held = update l.held x true; tx = OpenTx b kk ss } in
@@ -196,18 +286,26 @@ module _ {S : Type 0} (a : Thread S) (p : MemoryLayout) (start : World S) (t : �
     store_kept : (addr size value : ℕ) (vol : Bool) → a.next l.state ≡ Store addr size value vol → can_access p addr size ≡ true
         → blocker t true (word_of addr) m ≡ None
         → Agreed a p start
-            (record (steps t m
-            (record l
-            { state = a.after l.state Nothing; held = update l.held (word_of addr) true; wrote = update l.wrote (word_of addr) true; tx = OpenTx b kk
-            (note ss (word_of addr) (m.memory (word_of addr))) }))
-            { memory = update m.memory (word_of addr) (merge addr size value (m.memory (word_of addr))) })
+        (record (steps t m
+        (record l {
+          state = a.after l.state Nothing;
+          held = update l.held (word_of addr) true;
+          wrote = update l.wrote (word_of addr) true;
+          tx = OpenTx b kk
+              (note ss (word_of addr) (m.memory (word_of addr)));
+        }))
+        { memory = update m.memory (word_of addr) (merge addr size value (m.memory (word_of addr))) })
     store_kept addr size value vol is ok clear =
         let x = word_of addr in
         let e = Store addr size value vol in
         let v = m.memory x in
         let c = merge addr size value v in
-        let l' : Local S = record l { state = a.after l.state Nothing; held = update l.held x true; wrote = update l.wrote x true;
-            tx = OpenTx b kk (note ss x v) } in
+        let l' : Local S = record l {
+          state = a.after l.state Nothing;
+          held = update l.held x true;
+          wrote = update l.wrote x true;
+          tx = OpenTx b kk (note ss x v);
+        } in
         let unheld_there = not_kept_off a p m k.w t l k.here true x clear in
         let free : (u : ℕ) → (u == t) ≡ false → wrote_by (m.threads u) x ≡ false = λ u d. unheld_by a p m k.w t l k.here u x (unheld_there u d) in
         let j = inner_store a f.inner addr size value in
@@ -220,14 +318,16 @@ module _ {S : Type 0} (a : Thread S) (p : MemoryLayout) (start : World S) (t : �
         ] refl h)
         (taken_theirs x free)
         (λ u y d h. update_elsewhere m.memory x c y
-            (not_true (y == x) (λ i. true≢false (sym h ∙ (ap (held_by (m.threads u)) (eqb-true y x i) ∙ unheld_there u d)))))
+        (not_true (y == x) (λ i. true≢false (sym h ∙ (ap (held_by (m.threads u)) (eqb-true y x i) ∙ unheld_there u d)))))
         (λ y h own. let q = not_updated l.wrote x y own in everyone a p m k.w t l k.here y h (own_undoes is_open y q.1)
-            ∙ sym (update_elsewhere m.memory x c y q.0))
+        ∙ sym (update_elsewhere m.memory x c y q.0))
         (calm l')
         (record {
           ended = k.here.live.ended;
-          holds = λ y h. elim (y == x) as (λ q. cond q true (l.wrote y) ≡ true → cond q true (l.held y) ≡ true) [ true ↦ λ h'. refl
-              | false ↦ λ h'. k.here.live.holds y h' ] h;
+          holds = λ y h. elim (y == x) as (λ q. cond q true (l.wrote y) ≡ true → cond q true (l.held y) ≡ true) [
+            | true ↦ λ h'. refl
+            | false ↦ λ h'. k.here.live.holds y h'
+          ] h;
           bounded = taken_bounded addr size ok;
           tx = record {
             began = f.began;
@@ -299,13 +399,13 @@ module _ {S : Type 0} (a : Thread S) (p : MemoryLayout) (start : World S) (t : �
     commits_kept (n ∷ n' ∷ ts) (d ∷ []) e i j v is c g = absurd v
     commits_kept (n ∷ []) (d ∷ []) e i j v is c g =
         leaves e f.inner.memory is (g ∙ ap (leave a f.inner f.inner.memory) j) (sees_at e is c)
-            (λ x h. (unstored a p kk k.w.memory f.run x (f.stored x ∙ h)).0) (least l.held (word_bound p)) refl
+        (λ x h. (unstored a p kk k.w.memory f.run x (f.stored x ∙ h)).0) (least l.held (word_bound p)) refl
     commits_kept (n ∷ n' ∷ ts) (d ∷ d' ∷ cs) e i j v is c g =
         let next : Inner S = record f.inner { state = a.after f.inner.state Nothing; memory = f.inner.memory; copies = d' ∷ cs } in
         same_words (a.after l.state Nothing) (hand n n' ∷ ts) next (more next e is (g ∙ ap (leave a f.inner f.inner.memory) j))
-            (ap (λ s. a.after s Nothing) f.state) refl refl v (sees_at e is c)
+        (ap (λ s. a.after s Nothing) f.state) refl refl v (sees_at e is c)
         (λ x h. levels_hand x (m.memory x) n n' ts d d' cs
-            (subst (λ z. LevelsAt x (m.memory x) (n ∷ n' ∷ ts) z) j (subst (λ z. LevelsAt x (m.memory x) z f.inner.copies) i (f.levels x h))))
+        (subst (λ z. LevelsAt x (m.memory x) (n ∷ n' ∷ ts) z) j (subst (λ z. LevelsAt x (m.memory x) z f.inner.copies) i (f.levels x h))))
         (λ x h. none_hand x n n' ts (subst (NoneAt x) i (f.unsaved x h)))
 
     -- a word is put back where the next event is a Raise that cancels
@@ -321,17 +421,19 @@ module _ {S : Type 0} (a : Thread S) (p : MemoryLayout) (start : World S) (t : �
         let noted = eldest_some (is_noted n) (λ v. v) (word_bound p) x found in
         let none_at : (y : ℕ) → l.wrote y ≡ false → NoneAt y (n ∷ ts) = λ y h. subst (NoneAt y) i (f.unsaved y h) in
         let levels_at : (y : ℕ) → l.held y ≡ true → LevelsAt y (m.memory y) (n ∷ ts) f.inner.copies = λ y h. subst
-            (λ z. LevelsAt y (m.memory y) z f.inner.copies) i (f.levels y h) in
-        let wrote : l.wrote x ≡ true = elim (l.wrote x) as (λ z. l.wrote x ≡ z → z ≡ true) [ true ↦ λ h. refl
-            | false ↦ λ h. absurd (false≢true (ap is_some (sym (none_at x h).0) ∙ noted)) ] refl in
+        (λ z. LevelsAt y (m.memory y) z f.inner.copies) i (f.levels y h) in
+        let wrote : l.wrote x ≡ true = elim (l.wrote x) as (λ z. l.wrote x ≡ z → z ≡ true) [
+          | true ↦ λ h. refl
+          | false ↦ λ h. absurd (false≢true (ap is_some (sym (none_at x h).0) ∙ noted))
+        ] refl in
         quiet a p start t m l k (record (steps t m l') { memory = update m.memory x old }) refl refl refl refl
         (moved (update m.memory x old) l'
         (λ u y d h. own_mine a p m k.w t l k.here u y d h)
         (λ u y d h. own_theirs a p m k.w t l k.here u y d h)
         (λ u y d h. update_elsewhere m.memory x old y
-            (not_true (y == x) (λ e. true≢false (sym h ∙ (ap (held_by (m.threads u)) (eqb-true y x e) ∙ own_mine a p m k.w t l k.here u x d wrote)))))
+        (not_true (y == x) (λ e. true≢false (sym h ∙ (ap (held_by (m.threads u)) (eqb-true y x e) ∙ own_mine a p m k.w t l k.here u x d wrote)))))
         (λ y h own. everyone a p m k.w t l k.here y h (own_undoes is_open y own)
-            ∙ sym (update_elsewhere m.memory x old y (not_true (y == x) (λ e. true≢false (sym wrote ∙ (ap l.wrote (sym (eqb-true y x e)) ∙ own))))))
+        ∙ sym (update_elsewhere m.memory x old y (not_true (y == x) (λ e. true≢false (sym wrote ∙ (ap l.wrote (sym (eqb-true y x e)) ∙ own))))))
         (calm l')
         (record {
           ended = k.here.live.ended;
@@ -347,15 +449,17 @@ module _ {S : Type 0} (a : Thread S) (p : MemoryLayout) (start : World S) (t : �
             even = even_forget x n ts f.inner.copies (subst (λ z. Even z f.inner.copies) i f.even);
             agrees = λ y h. at_update a p
                 (λ z. (f.inner.memory y ≡ z) ⊎ ((cancelling (a.next l.state) ≡ true) × (newest f.inner.copies f.inner.memory y ≡ z))) m.memory x y old
-                (λ e. inr
-                    (c, subst (λ z. newest f.inner.copies f.inner.memory z ≡ old) (sym (eqb-true y x e))
-                    (newest_put x (m.memory x) n ts f.inner.copies f.inner.memory
-                    (subst (λ z. LevelsAt z (m.memory z) (n ∷ ts) f.inner.copies) (eqb-true y x e) (levels_at y h)))))
+                (λ e. inr (
+                  c,
+                  subst (λ z. newest f.inner.copies f.inner.memory z ≡ old) (sym (eqb-true y x e))
+                      (newest_put x (m.memory x) n ts f.inner.copies f.inner.memory
+                      (subst (λ z. LevelsAt z (m.memory z) (n ∷ ts) f.inner.copies) (eqb-true y x e) (levels_at y h))),
+                ))
                 (λ d. f.agrees y h);
             levels = λ y h. at_update a p (λ z. LevelsAt y z (forget n x ∷ ts) f.inner.copies) m.memory x y old
                 (λ e. subst (λ z. LevelsAt z old (forget n x ∷ ts) f.inner.copies) (sym (eqb-true y x e))
-                    (levels_forget x (m.memory x) n ts f.inner.copies
-                    (subst (λ z. LevelsAt z (m.memory z) (n ∷ ts) f.inner.copies) (eqb-true y x e) (levels_at y h))))
+                (levels_forget x (m.memory x) n ts f.inner.copies
+                (subst (λ z. LevelsAt z (m.memory z) (n ∷ ts) f.inner.copies) (eqb-true y x e) (levels_at y h))))
                 (λ d. levels_forget_else y x (m.memory y) n ts f.inner.copies d (levels_at y h));
             unsaved = λ y h. (forget_none y x n (none_at y h).0, (none_at y h).1);
           };
@@ -381,16 +485,16 @@ module _ {S : Type 0} (a : Thread S) (p : MemoryLayout) (start : World S) (t : �
     cancels_kept n [] (d ∷ []) e i j v is c g None found =
         leaves e d is (g ∙ ap (λ z. leave a f.inner (newest z f.inner.memory) z) j)
         (λ x h. (levels_pop x (m.memory x) n [] d [] (all_back n [] i found x h)
-            (subst (λ z. LevelsAt x (m.memory x) (n ∷ []) z) j (subst (λ z. LevelsAt x (m.memory x) z f.inner.copies) i (f.levels x h)))).0)
+        (subst (λ z. LevelsAt x (m.memory x) (n ∷ []) z) j (subst (λ z. LevelsAt x (m.memory x) z f.inner.copies) i (f.levels x h)))).0)
         (λ x h. (subst (λ z. AllAt x (k.w.memory x) z) j (unstored a p kk k.w.memory f.run x (f.stored x ∙ h)).1).0)
         (least l.held (word_bound p)) refl
     cancels_kept n (n' ∷ ts) (d ∷ d' ∷ cs) e i j v is c g None found =
         let next : Inner S = record f.inner { state = a.after f.inner.state Nothing; memory = d; copies = d' ∷ cs } in
         let popped : (x : ℕ) → l.held x ≡ true → (d x ≡ m.memory x) × LevelsAt x (m.memory x) (n' ∷ ts) (d' ∷ cs) = λ x h.
         levels_pop x (m.memory x) n (n' ∷ ts) d (d' ∷ cs) (all_back n (n' ∷ ts) i found x h)
-            (subst (λ z. LevelsAt x (m.memory x) (n ∷ n' ∷ ts) z) j (subst (λ z. LevelsAt x (m.memory x) z f.inner.copies) i (f.levels x h))) in
+        (subst (λ z. LevelsAt x (m.memory x) (n ∷ n' ∷ ts) z) j (subst (λ z. LevelsAt x (m.memory x) z f.inner.copies) i (f.levels x h))) in
         same_words (a.after l.state Nothing) (n' ∷ ts) next (more next e is (g ∙ ap (λ z. leave a f.inner (newest z f.inner.memory) z) j))
-            (ap (λ s. a.after s Nothing) f.state) refl refl v
+        (ap (λ s. a.after s Nothing) f.state) refl refl v
         (λ x h. (popped x h).0)
         (λ x h. (popped x h).1)
         (λ x h. (subst (NoneAt x) i (f.unsaved x h)).1)
@@ -464,13 +568,13 @@ module _ {S : Type 0} (a : Thread S) (p : MemoryLayout) (start : World S) (t : �
     in_kept_all answer (Load addr size vol) is = either a p start (can_access p addr size) _ _
         (λ ok. load_any answer addr size vol is ok (blocker t false (word_of addr) m) refl)
         (λ no. stops (Load addr size vol) (Trapped BadAddress) is
-            (subst (λ z. BlockEffect t k.w (cond z (Goes (inner_load a f.inner addr size)) (Halts (Trapped BadAddress))) (ends k.w (Trapped BadAddress)))
-            (sym no) refl))
+        (subst (λ z. BlockEffect t k.w (cond z (Goes (inner_load a f.inner addr size)) (Halts (Trapped BadAddress))) (ends k.w (Trapped BadAddress)))
+        (sym no) refl))
     in_kept_all answer (Store addr size value vol) is = either a p start (can_access p addr size) _ _
         (λ ok. store_any answer addr size value vol is ok (blocker t true (word_of addr) m) refl)
         (λ no. stops (Store addr size value vol) (Trapped BadAddress) is
-            (subst (λ z. BlockEffect t k.w (cond z (Goes (inner_store a f.inner addr size value)) (Halts (Trapped BadAddress)))
-            (ends k.w (Trapped BadAddress))) (sym no) refl))
+        (subst (λ z. BlockEffect t k.w (cond z (Goes (inner_store a f.inner addr size value)) (Halts (Trapped BadAddress)))
+        (ends k.w (Trapped BadAddress))) (sym no) refl))
     in_kept_all answer (BeginAtomic kind) is = begin_kept kind is
     in_kept_all answer EndAtomic is = commits_kept ss f.inner.copies EndAtomic refl refl f.even is refl refl
     in_kept_all answer (Raise kind can) is = raises_kept kind can is
@@ -507,8 +611,10 @@ module _ {S : Type 0} (a : Thread S) (p : MemoryLayout) (start : World S) (t : �
 
     within_held : (y : ℕ) → without l.held x y ≡ true → ((y == x) ≡ false) × (l.held y ≡ true)
     within_held y h = elim (y == x) as
-        (λ q. (y == x) ≡ q → cond q false (l.held y) ≡ true → ((y == x) ≡ false) × (l.held y ≡ true)) [ true ↦ λ e i. absurd (false≢true i)
-        | false ↦ λ e i. (e, i) ] refl h
+        (λ q. (y == x) ≡ q → cond q false (l.held y) ≡ true → ((y == x) ≡ false) × (l.held y ≡ true)) [
+          | true ↦ λ e i. absurd (false≢true i)
+          | false ↦ λ e i. (e, i)
+        ] refl h
 
     without_wrote : (y : ℕ) → without l.wrote x y ≡ true → l.wrote y ≡ true
     without_wrote y h = elim (y == x) as (λ q. cond q false (l.wrote y) ≡ true → l.wrote y ≡ true) [ true ↦ λ i. absurd (false≢true i) | false ↦ λ i. i ] h
@@ -529,8 +635,10 @@ module _ {S : Type 0} (a : Thread S) (p : MemoryLayout) (start : World S) (t : �
         (λ i. absurd (true≢false (sym is_giving ∙ i)))
         (record {
           ended = k.here.live.ended;
-          holds = λ y h. elim (y == x) as (λ q. cond q false (l.wrote y) ≡ true → cond q false (l.held y) ≡ true) [ true ↦ λ i. i
-              | false ↦ λ i. k.here.live.holds y i ] h;
+          holds = λ y h. elim (y == x) as (λ q. cond q false (l.wrote y) ≡ true → cond q false (l.held y) ≡ true) [
+            | true ↦ λ i. i
+            | false ↦ λ i. k.here.live.holds y i
+          ] h;
           bounded = λ y h. k.here.live.bounded y (within_held y h).1;
           tx = record {
             began = f.began;
@@ -588,8 +696,10 @@ module _ {S : Type 0} (a : Thread S) (p : MemoryLayout) (start : World S) (t : �
           (λ i. closed q)
           (record {
             ended = k.here.live.ended;
-            holds = λ y h. elim (y == x) as (λ q. cond q false (l.wrote y) ≡ true → cond q false (l.held y) ≡ true) [ true ↦ λ i. i
-                | false ↦ λ i. k.here.live.holds y i ] h;
+            holds = λ y h. elim (y == x) as (λ q. cond q false (l.wrote y) ≡ true → cond q false (l.held y) ≡ true) [
+              | true ↦ λ i. i
+              | false ↦ λ i. k.here.live.holds y i
+            ] h;
             bounded = λ y h. k.here.live.bounded y (kept_of l.held y h);
             tx = closing q found;
           }))

@@ -8,16 +8,56 @@ use Rattle.tx_events.specs.declared.Trap.TheVariants.{BadAddress}
 use Rattle.tx_events.specs.declared.End.{End}
 use Rattle.tx_events.specs.declared.End.TheVariants.{Trapped}
 use Rattle.tx_events.specs.declared.Event.{Event}
-use Rattle.tx_events.specs.declared.Event.TheVariants.{Silent, Load, Store, Out, Inp, Spawn, Join, BeginAtomic, EndAtomic, Raise, BeginSync, EndSync, Done,
-  Stop}
+use Rattle.tx_events.specs.declared.Event.TheVariants.{
+  Silent,
+  Load,
+  Store,
+  Out,
+  Inp,
+  Spawn,
+  Join,
+  BeginAtomic,
+  EndAtomic,
+  Raise,
+  BeginSync,
+  EndSync,
+  Done,
+  Stop,
+}
 use Rattle.tx_events.specs.declared.Reply.TheVariants.{Nothing}
 use Rattle.tx_events.specs.declared.TurnKind.{TurnKind}
 use Rattle.tx_events.specs.declared.TurnKind.TheVariants.{Ran, Waited, BlockWait, JoinWait, Rolled, Undone, Released, Idle}
 use Rattle.tx_events.specs.Thread.{Thread}
 use Rattle.tx_events.specs.Memory.{MemoryLayout, can_access, word_of, word_bound}
 use Rattle.tx_serial.specs.Machine.{Machine, Local, Tx, NoTx, OpenTx, GivingUp, Closing, Save, least, blocker, clash_of}
-use Rattle.tx_serial.specs.Turn.{ran, order_gains, steps, number_of, Turned, stays, halts, load_in, store_in, load_out, store_out, begins, sync_in, sync_idle,
-  joins, clashes, cancels, cancels_by, in_does, out_does, lets_go, gives_back, turn_in, turn_of, turn_at, turn}
+use Rattle.tx_serial.specs.Turn.{
+  ran,
+  order_gains,
+  steps,
+  number_of,
+  Turned,
+  stays,
+  halts,
+  load_in,
+  store_in,
+  load_out,
+  store_out,
+  begins,
+  sync_in,
+  sync_idle,
+  joins,
+  clashes,
+  cancels,
+  cancels_by,
+  in_does,
+  out_does,
+  lets_go,
+  gives_back,
+  turn_in,
+  turn_of,
+  turn_at,
+  turn,
+}
 use Rattle.tx_serial.specs.Kinds.{Accesses, Shut, Unended, NewestNotes, KindOut, KindIn, KindGiving, KindClosing, KindBy, GoesOn, is_ran}
 
 module _ {S : Type 0} (a : Thread S) (p : MemoryLayout) (answer : Clash → Choice) (t : ℕ) (m : Machine S) (l : Local S) where
@@ -30,11 +70,11 @@ module _ {S : Type 0} (a : Thread S) (p : MemoryLayout) (answer : Clash → Choi
   out_access (Load addr size vol) store x u g found =
       given (can_access p addr size) (load_out a t m l addr size (blocker t false (word_of addr) m)) (halts t m (Trapped BadAddress)) (Waited x u) g.0
       (subst (λ o. (load_out a t m l addr size o).kind ≡ Waited x u)
-          (sym (ap (λ z. blocker t false z m) (sym g.2) ∙ (ap (λ z. blocker t z x m) (sym g.1) ∙ found))) (ap (λ z. Waited z u) (sym g.2)))
+      (sym (ap (λ z. blocker t false z m) (sym g.2) ∙ (ap (λ z. blocker t z x m) (sym g.1) ∙ found))) (ap (λ z. Waited z u) (sym g.2)))
   out_access (Store addr size value vol) store x u g found =
       given (can_access p addr size) (store_out a t m l addr size value (blocker t true (word_of addr) m)) (halts t m (Trapped BadAddress)) (Waited x u) g.0
       (subst (λ o. (store_out a t m l addr size value o).kind ≡ Waited x u)
-          (sym (ap (λ z. blocker t true z m) (sym g.2) ∙ (ap (λ z. blocker t z x m) (sym g.1) ∙ found))) (ap (λ z. Waited z u) (sym g.2)))
+      (sym (ap (λ z. blocker t true z m) (sym g.2) ∙ (ap (λ z. blocker t z x m) (sym g.1) ∙ found))) (ap (λ z. Waited z u) (sym g.2)))
   out_access Silent store x u g found = absurd g
   out_access (Out c) store x u g found = absurd g
   out_access Inp store x u g found = absurd g
@@ -73,7 +113,7 @@ module _ {S : Type 0} (a : Thread S) (p : MemoryLayout) (answer : Clash → Choi
       ap (λ z. (out_does a p t m l z).kind) g.joins
       ∙ (ap (λ o. (joins t g.id m (record l { state = a.after l.state Nothing }) o).kind) g.there
       ∙ (ap (λ b. (cond b (ran (order_gains t (steps t m (record l { state = a.after l.state Nothing })))) (stays (JoinWait (number_of g.id)) m)).kind) g.runs
-          ∙ ap JoinWait (sym g.number)))
+      ∙ ap JoinWait (sym g.number)))
 
   out_exact : (k : TurnKind) → KindOut a p t m l k → is_ran k ≡ false → (out_does a p t m l (a.next l.state)).kind ≡ k
   out_exact Ran g r = absurd (true≢false r)
@@ -92,15 +132,15 @@ module _ {S : Type 0} (a : Thread S) (p : MemoryLayout) (answer : Clash → Choi
     in_access c k (Load addr size vol) store x u g found said h =
         given (can_access p addr size) (load_in a p answer t m l b kk ss addr size (blocker t false (word_of addr) m)) (halts t m (Trapped BadAddress)) k g.0
         (subst (λ o. (load_in a p answer t m l b kk ss addr size o).kind ≡ k)
-            (sym (ap (λ z. blocker t false z m) (sym g.2) ∙ (ap (λ z. blocker t z x m) (sym g.1) ∙ found)))
+        (sym (ap (λ z. blocker t false z m) (sym g.2) ∙ (ap (λ z. blocker t z x m) (sym g.1) ∙ found)))
         (subst (λ z. (clashes p (answer (clash_of t false z m b u)) t m l b kk ss z u).kind ≡ k) g.2
         (subst (λ z. (clashes p (answer (clash_of t z x m b u)) t m l b kk ss x u).kind ≡ k) g.1
         (subst (λ z. (clashes p z t m l b kk ss x u).kind ≡ k) (sym said) h))))
     in_access c k (Store addr size value vol) store x u g found said h =
         given (can_access p addr size) (store_in a p answer t m l b kk ss addr size value (blocker t true (word_of addr) m))
-            (halts t m (Trapped BadAddress)) k g.0
+        (halts t m (Trapped BadAddress)) k g.0
         (subst (λ o. (store_in a p answer t m l b kk ss addr size value o).kind ≡ k)
-            (sym (ap (λ z. blocker t true z m) (sym g.2) ∙ (ap (λ z. blocker t z x m) (sym g.1) ∙ found)))
+        (sym (ap (λ z. blocker t true z m) (sym g.2) ∙ (ap (λ z. blocker t z x m) (sym g.1) ∙ found)))
         (subst (λ z. (clashes p (answer (clash_of t true z m b u)) t m l b kk ss z u).kind ≡ k) g.2
         (subst (λ z. (clashes p (answer (clash_of t z x m b u)) t m l b kk ss x u).kind ≡ k) g.1
         (subst (λ z. (clashes p z t m l b kk ss x u).kind ≡ k) (sym said) h))))

@@ -8,8 +8,25 @@ use Rattle.tx_events.specs.Memory.{MemoryLayout}
 use Rattle.tx_serial.specs.Machine.{Machine}
 use Rattle.tx_serial.specs.Turn.{Slot}
 use Rattle.tx_serial.specs.Kinds.{Asked}
-use Rattle.tx_serial.specs.Run.{Progress, advance, advances, not_begun, count_in, inside, state_in, picks, slots_of, PickedBy, AnsweredBy, is_answer,
-  NoEndBefore, Stops, trap_place, Outcome, RunOf}
+use Rattle.tx_serial.specs.Run.{
+  Progress,
+  advance,
+  advances,
+  not_begun,
+  count_in,
+  inside,
+  state_in,
+  picks,
+  slots_of,
+  PickedBy,
+  AnsweredBy,
+  is_answer,
+  NoEndBefore,
+  Stops,
+  trap_place,
+  Outcome,
+  RunOf,
+}
 use Rattle.tx_serial.proofs.PolicyAnswers.{turn_same}
 
 pub picks_of : (answer : Clash → Choice) (ts : List ℕ) → picks (slots_of answer ts) ≡ ts

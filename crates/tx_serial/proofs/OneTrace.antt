@@ -2,8 +2,22 @@
 use Rattle.std.proofs.Common.{ℕ, ◌≡◌, true, false, refl, ap, sym, ◌∙◌, subst, List, [], ◌∷◌, ◌++◌, append_assoc, append-nil}
 use Rattle.std.proofs.lemmas.Bool.{false≢true}
 use Rattle.tx_events.specs.declared.Event.{Event}
-use Rattle.tx_events.specs.declared.Event.TheVariants.{Silent, Load, Store, Out, Inp, Spawn, Join, BeginAtomic, EndAtomic, Raise, BeginSync, EndSync, Done,
-  Stop}
+use Rattle.tx_events.specs.declared.Event.TheVariants.{
+  Silent,
+  Load,
+  Store,
+  Out,
+  Inp,
+  Spawn,
+  Join,
+  BeginAtomic,
+  EndAtomic,
+  Raise,
+  BeginSync,
+  EndSync,
+  Done,
+  Stop,
+}
 use Rattle.tx_events.specs.declared.Item.{Item}
 use Rattle.tx_events.specs.declared.Reply.TheVariants.{Nothing}
 use Rattle.tx_events.specs.declared.What.TheVariants.{Enter}
@@ -46,9 +60,9 @@ module _ {S : Type 0} (a : Thread S) (p : MemoryLayout) (t : ℕ) where
     same_at : (s : S) (e : Event) (d : EventStep a p t w s e v) (c : EventStep a p t w s e u) → step_items a p t w s e v d ≡ step_items a p t w s e u c
     same_at s (BeginAtomic kind) d c =
         ap (λ zs. item_if (is_empty (a.blocks s)) t Enter ++ (zs ++ leave_items (is_empty (a.blocks s)) t (outcome d.1)))
-            (same_block (a.after s Nothing) w.memory d.1 c.1)
+        (same_block (a.after s Nothing) w.memory d.1 c.1)
         ∙ ap (λ z. item_if (is_empty (a.blocks s)) t Enter ++ (inside_items t c.1.run ++ leave_items (is_empty (a.blocks s)) t z))
-            (same_outcome a p (a.after s Nothing) w.memory d.1 c.1)
+        (same_outcome a p (a.after s Nothing) w.memory d.1 c.1)
     same_at s (Load addr size vol) d c = refl
     same_at s (Store addr size value vol) d c = refl
     same_at s (Spawn f x) d c = refl
@@ -68,9 +82,9 @@ module _ {S : Type 0} (a : Thread S) (p : MemoryLayout) (t : ℕ) where
     same_items h g =
         let from : h.from ≡ g.from = one_state h.from g.from (sym h.is ∙ g.is) in
         let before = same_before a p g.from h.before g.before (subst (λ z. SilentSteps a z h.before) from h.silents) g.silents
-            (loud a p t w v h.before (a.next h.before) h.does) (loud a p t w u g.before (a.next g.before) g.does) in
+        (loud a p t w v h.before (a.next h.before) h.does) (loud a p t w u g.before (a.next g.before) g.does) in
         subst (λ z. (d : EventStep a p t w z (a.next z) v) → step_items a p t w z (a.next z) v d ≡ step_items a p t w g.before (a.next g.before) u g.does)
-            (sym before) (λ d. same_at g.before (a.next g.before) d g.does) h.does
+        (sym before) (λ d. same_at g.before (a.next g.before) d g.does) h.does
       where
         one_state : (s r : S) → alive s ≡ alive r → s ≡ r
         one_state s r e = let i : ◌≡◌ {A = Alive S} (record { state = s; ended = false }) (record { state = r; ended = false }) = cc in ap (λ z. z.state) i
@@ -82,7 +96,7 @@ module _ {S : Type 0} (a : Thread S) (p : MemoryLayout) where
       ap (λ zs. zs ++ items_of a p h.0 order v h.2) (same_items a p t w h.0 g.0 h.1 g.1)
       ∙ ap (λ zs. step_items a p t w g.1.before (a.next g.1.before) g.0 g.1.does ++ zs)
       (subst (λ z. (r : Replays a p z order v) → items_of a p z order v r ≡ items_of a p g.0 order u g.2) (sym (same_step a p t w h.0 g.0 h.1 g.1))
-          (λ r. same_trace order g.0 v u r g.2) h.2)
+      (λ r. same_trace order g.0 v u r g.2) h.2)
 
   pub one_trace : (start : World S) (order : List ℕ) (items other : List Item) → TraceOf a p start order items → TraceOf a p start order other → other ≡ items
   one_trace start order items other h g = g.is ∙ (same_trace order start g.world h.world g.replays h.replays ∙ sym h.is)
@@ -90,11 +104,11 @@ module _ {S : Type 0} (a : Thread S) (p : MemoryLayout) where
   -- the last step of a replay, and its items behind those of the steps before it
   pub split : (t : ℕ) (order : List ℕ) (w v : World S) (h : Replays a p w (order ++ t ∷ []) v)
       → (u : World S) × (r : Replays a p w order u) × (s : Step a p t u v)
-          × (items_of a p w (order ++ t ∷ []) v h ≡ (items_of a p w order u r ++ step_items a p t u s.before (a.next s.before) v s.does))
+      × (items_of a p w (order ++ t ∷ []) v h ≡ (items_of a p w order u r ++ step_items a p t u s.before (a.next s.before) v s.does))
   split t [] w v h = subst
       (λ z. (u : World S) × (r : Replays a p w [] u) × (s : Step a p t u z) ×
-          ((step_items a p t w h.1.before (a.next h.1.before) h.0 h.1.does ++ []) ≡
-          (items_of a p w [] u r ++ step_items a p t u s.before (a.next s.before) z s.does)))
+      ((step_items a p t w h.1.before (a.next h.1.before) h.0 h.1.does ++ []) ≡
+      (items_of a p w [] u r ++ step_items a p t u s.before (a.next s.before) z s.does)))
       (sym h.2) (w, refl, h.1, append-nil (step_items a p t w h.1.before (a.next h.1.before) h.0 h.1.does))
   split t (q ∷ order) w v h =
       let rest = split t order h.0 v h.2 in
@@ -111,5 +125,11 @@ module _ {S : Type 0} (a : Thread S) (p : MemoryLayout) where
   trace_grows start order t items more h g =
       let last = split t order start g.world g.replays in
       let same = one_trace start order (items_of a p start order last.0 last.1) items (record { world = last.0; replays = last.1; is = refl }) h in
-      record { before = last.0; after = g.world; replayed = last.1; step = last.2; replays = g.replays;
-          is = g.is ∙ (last.3 ∙ ap (λ zs. zs ++ step_items a p t last.0 last.2.before (a.next last.2.before) g.world last.2.does) (sym same)) }
+      record {
+        before = last.0;
+        after = g.world;
+        replayed = last.1;
+        step = last.2;
+        replays = g.replays;
+        is = g.is ∙ (last.3 ∙ ap (λ zs. zs ++ step_items a p t last.0 last.2.before (a.next last.2.before) g.world last.2.does) (sym same));
+      }

@@ -3,8 +3,22 @@ use Rattle.std.proofs.Common.{suc, ◌≡◌, Bool, true, false, refl, List, [],
 use Rattle.std.proofs.lemmas.Bool.{false≢true}
 use Rattle.tx_events.specs.declared.BlockKind.{BlockKind}
 use Rattle.tx_events.specs.declared.Event.{Event}
-use Rattle.tx_events.specs.declared.Event.TheVariants.{Silent, Load, Store, Out, Inp, Spawn, Join, BeginAtomic, EndAtomic, Raise, BeginSync, EndSync, Done,
-  Stop}
+use Rattle.tx_events.specs.declared.Event.TheVariants.{
+  Silent,
+  Load,
+  Store,
+  Out,
+  Inp,
+  Spawn,
+  Join,
+  BeginAtomic,
+  EndAtomic,
+  Raise,
+  BeginSync,
+  EndSync,
+  Done,
+  Stop,
+}
 use Rattle.tx_events.specs.Thread.{Open, Atomic, Sync, atomics, blocks_after, may_come, rest_of, in_atomic, in_kind, in_sync, no_atomic, is_empty}
 
 -- the blocks after an event that neither begins nor ends an atomic one

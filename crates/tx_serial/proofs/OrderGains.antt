@@ -10,15 +10,58 @@ use Rattle.tx_events.specs.declared.End.TheVariants.{Trapped}
 use Rattle.tx_events.specs.declared.Event.{Event}
 use Rattle.tx_events.specs.declared.Trap.TheVariants.{BadAddress, TooManyThreads}
 use Rattle.tx_events.specs.declared.TurnKind.TheVariants.{JoinWait}
-use Rattle.tx_events.specs.declared.Event.TheVariants.{Silent, Load, Store, Out, Inp, Spawn, Join, BeginAtomic, EndAtomic, Raise, BeginSync, EndSync, Done,
-  Stop}
+use Rattle.tx_events.specs.declared.Event.TheVariants.{
+  Silent,
+  Load,
+  Store,
+  Out,
+  Inp,
+  Spawn,
+  Join,
+  BeginAtomic,
+  EndAtomic,
+  Raise,
+  BeginSync,
+  EndSync,
+  Done,
+  Stop,
+}
 use Rattle.tx_events.specs.declared.Reply.TheVariants.{Nothing, Id}
 use Rattle.tx_events.specs.Thread.{Thread}
 use Rattle.tx_events.specs.Memory.{update, MemoryLayout, can_access, word_of, word_bound}
 use Rattle.tx_events.specs.World.{target}
 use Rattle.tx_serial.specs.Machine.{Machine, Local, Tx, NoTx, OpenTx, GivingUp, Closing, Save, is_noted, least, blocker, lock_owner, busy, clash_of}
-use Rattle.tx_serial.specs.Turn.{Turned, ran, order_gains, steps, stays, halts, spawns, number_of, clashes, load_in, store_in, load_out, store_out, joins,
-  begins, sync_in, sync_idle, closes, outermost, commits, cancels_by, cancels, raises, in_does, out_does, lets_go, gives_back, turn_in, turn}
+use Rattle.tx_serial.specs.Turn.{
+  Turned,
+  ran,
+  order_gains,
+  steps,
+  stays,
+  halts,
+  spawns,
+  number_of,
+  clashes,
+  load_in,
+  store_in,
+  load_out,
+  store_out,
+  joins,
+  begins,
+  sync_in,
+  sync_idle,
+  closes,
+  outermost,
+  commits,
+  cancels_by,
+  cancels,
+  raises,
+  in_does,
+  out_does,
+  lets_go,
+  gives_back,
+  turn_in,
+  turn,
+}
 use Rattle.tx_serial.specs.Kinds.{is_ran, GoesOn}
 use Rattle.tx_serial.specs.Run.{is_open}
 use Rattle.tx_serial.specs.Order.{enters_order, open_in, adds, order_after}
@@ -102,8 +145,8 @@ module _ {S : Type 0} (a : Thread S) (p : MemoryLayout) (t : ℕ) (m : Machine S
   outermost_grows s b =
       let l' : Local S = record l { state = s; tx = closes b (least l.held (word_bound p)) } in
       sym (ap (λ c. order_after c t m.order)
-          (ap (λ o. is_some o || not (open_in (update m.threads t (Some l') t))) goes
-          ∙ (ap (λ o. not (open_in o)) (update_same m.threads t (Some l')) ∙ ap not (closed b (least l.held (word_bound p))))))
+      (ap (λ o. is_some o || not (open_in (update m.threads t (Some l') t))) goes
+      ∙ (ap (λ o. not (open_in o)) (update_same m.threads t (Some l')) ∙ ap not (closed b (least l.held (word_bound p))))))
 
   module _ (b : ℕ) (kk : S) (ss : List Save) where
     clash_grows : (c : Choice) (x u : ℕ) → In (clashes p c t m l b kk ss x u)

@@ -1,6 +1,30 @@
 -- The turns of a thread that has no transaction.
-use Rattle.std.proofs.Common.{ℕ, ℤ, pos, negsuc, ◌≡◌, ◌==◌, ◌+◌, Bool, true, false, cond, refl, ap, sym, ◌∙◌, subst, List, [], ◌∷◌, ◌++◌, Option, Some, None,
-  arith}
+use Rattle.std.proofs.Common.{
+  ℕ,
+  ℤ,
+  pos,
+  negsuc,
+  ◌≡◌,
+  ◌==◌,
+  ◌+◌,
+  Bool,
+  true,
+  false,
+  cond,
+  refl,
+  ap,
+  sym,
+  ◌∙◌,
+  subst,
+  List,
+  [],
+  ◌∷◌,
+  ◌++◌,
+  Option,
+  Some,
+  None,
+  arith,
+}
 use Rattle.std.specs.Prelude.{◌&&◌, ◌||◌, nat_lt}
 use Rattle.std.proofs.lemmas.Bool.{eqb-true, eqb-false, true≢false, false≢true, eqb-true}
 use Rattle.tx_events.specs.declared.End.{End}
@@ -8,21 +32,71 @@ use Rattle.tx_events.specs.declared.End.TheVariants.{Trapped}
 use Rattle.tx_events.specs.declared.Trap.TheVariants.{BadAddress, TooManyThreads, BadJoin}
 use Rattle.tx_events.specs.declared.BlockKind.{BlockKind}
 use Rattle.tx_events.specs.declared.Event.{Event}
-use Rattle.tx_events.specs.declared.Event.TheVariants.{Silent, Load, Store, Out, Inp, Spawn, Join, BeginAtomic, EndAtomic, Raise, BeginSync, EndSync, Done,
-  Stop}
+use Rattle.tx_events.specs.declared.Event.TheVariants.{
+  Silent,
+  Load,
+  Store,
+  Out,
+  Inp,
+  Spawn,
+  Join,
+  BeginAtomic,
+  EndAtomic,
+  Raise,
+  BeginSync,
+  EndSync,
+  Done,
+  Stop,
+}
 use Rattle.tx_events.specs.declared.Reply.TheVariants.{Nothing, Loaded, Byte, Id}
 use Rattle.tx_events.specs.Thread.{Thread}
 use Rattle.tx_events.specs.Memory.{update, MemoryLayout, can_access, word_of, read_at, merge}
-use Rattle.tx_events.specs.World.{Alive, alive, World, Lock, lock_free, lock_in, lock_out, holder_free, EventStep, Joins, SilentSteps, none, one_more, goes,
-  ends, target, byte_of, input_after}
+use Rattle.tx_events.specs.World.{
+  Alive,
+  alive,
+  World,
+  Lock,
+  lock_free,
+  lock_in,
+  lock_out,
+  holder_free,
+  EventStep,
+  Joins,
+  SilentSteps,
+  none,
+  one_more,
+  goes,
+  ends,
+  target,
+  byte_of,
+  input_after,
+}
 use Rattle.tx_serial.specs.Machine.{Machine, Local, NoTx, OpenTx, no_save, lock_owner, held_by, wrote_by, is_live, live_in, blocker, busy, no_waits}
 use Rattle.tx_serial.specs.Turn.{halts, steps, order_gains, ran, waited, bare, load_out, store_out, joins, begins, sync_in, sync_idle, out_does}
 use Rattle.tx_serial.specs.Shows.{ShowsTx, ShowsLocal, ShowsThread}
 use Rattle.tx_serial.proofs.WorldAgreement.{undoes, Going, Agreed}
 use Rattle.tx_events.proofs.BlockRuns.{update_same, update_elsewhere}
 use Rattle.tx_serial.proofs.UntouchedThreads.{at_update, changed}
-use Rattle.tx_serial.proofs.TurnContext.{not_true, Here, Known, everyone, unwritten, own_mine, own_theirs, unheld, still_alone, unheld_by, not_kept_off,
-  not_busy, out_step, fresh_block, quiet, said, halted, either}
+use Rattle.tx_serial.proofs.TurnContext.{
+  not_true,
+  Here,
+  Known,
+  everyone,
+  unwritten,
+  own_mine,
+  own_theirs,
+  unheld,
+  still_alone,
+  unheld_by,
+  not_kept_off,
+  not_busy,
+  out_step,
+  fresh_block,
+  quiet,
+  said,
+  halted,
+  either,
+}
 
 module _ {S : Type 0} (a : Thread S) (p : MemoryLayout) where
   module _ (m : Machine S) (w : World S) (t : ℕ) (l : Local S) (k : Here a p m w t l) (tx : l.tx ≡ NoTx)
@@ -50,18 +124,18 @@ module _ {S : Type 0} (a : Thread S) (p : MemoryLayout) where
         → Going a p m.memory (update m.threads t (Some (record l { state = s'; ended = e }))) m.started lock' v
     plain v lock' s' e started lock threads memory alone = changed a p m.memory m.memory m.threads m.started m.lock lock' w v t l
         (record l { state = s'; ended = e }) (record { state = s'; ended = e }) k.g k.is (record {
-      started_is = started;
-      lock_is = lock;
-      there = ap (λ g. g t) threads ∙ update_same w.threads t _;
-      elsewhere = λ u d. ap (λ g. g u) threads ∙ update_elsewhere w.threads t _ u d;
-      mine = λ u x d h. own_mine a p m w t l k u x d h;
-      theirs = λ u x d h. own_theirs a p m w t l k u x d h;
-      memory_is = λ u x d h. refl;
-      outside_is = λ u x d h. ap (λ g. g x) memory;
-      free = λ x h own. ap (λ g. g x) memory ∙ everyone a p m w t l k x h (undoes_none x);
-      alone = alone;
-      shown = out_local m.memory v.memory s' e;
-    })
+          started_is = started;
+          lock_is = lock;
+          there = ap (λ g. g t) threads ∙ update_same w.threads t _;
+          elsewhere = λ u d. ap (λ g. g u) threads ∙ update_elsewhere w.threads t _ u d;
+          mine = λ u x d h. own_mine a p m w t l k u x d h;
+          theirs = λ u x d h. own_theirs a p m w t l k u x d h;
+          memory_is = λ u x d h. refl;
+          outside_is = λ u x d h. ap (λ g. g x) memory;
+          free = λ x h own. ap (λ g. g x) memory ∙ everyone a p m w t l k x h (undoes_none x);
+          alone = alone;
+          shown = out_local m.memory v.memory s' e;
+        })
 
     same_lock : (s' : S) (e : Bool) → (o u : ℕ) → m.lock.holder ≡ Some o → (u == o) ≡ false
         → live_in (update m.threads t (Some (record l { state = s'; ended = e })) u) ≡ false
@@ -74,34 +148,34 @@ module _ {S : Type 0} (a : Thread S) (p : MemoryLayout) where
         → Going a p (update m.memory x c) (update m.threads t (Some (record l { state = s'; ended = false }))) m.started m.lock v
     stored v s' x c started lock threads memory free = changed a p m.memory (update m.memory x c) m.threads m.started m.lock m.lock w v t l
         (record l { state = s'; ended = false }) (record { state = s'; ended = false }) k.g k.is (record {
-      started_is = started;
-      lock_is = lock ∙ k.g.lock_is;
-      there = ap (λ g. g t) threads ∙ update_same w.threads t _;
-      elsewhere = λ u d. ap (λ g. g u) threads ∙ update_elsewhere w.threads t _ u d;
-      mine = λ u y d h. own_mine a p m w t l k u y d h;
-      theirs = λ u y d h. own_theirs a p m w t l k u y d h;
-      memory_is = λ u y d h. update_elsewhere m.memory x c y (not_there u y d h);
-      outside_is = λ u y d h. ap (λ g. g y) memory ∙ update_elsewhere w.memory x c y (not_there u y d h);
-      free = λ y h own. ap (λ g. g y) memory ∙ ap (λ q. cond (y == x) c q) (everyone a p m w t l k y h (undoes_none y));
-      alone = same_lock s' false;
-      shown = out_local (update m.memory x c) v.memory s' false;
-    }) where
-      not_there : (u y : ℕ) → (u == t) ≡ false → held_by (m.threads u) y ≡ true → (y == x) ≡ false
-      not_there u y d h = not_true (y == x) (λ e. true≢false (sym h ∙ (ap (held_by (m.threads u)) (eqb-true y x e) ∙ free u d)))
+          started_is = started;
+          lock_is = lock ∙ k.g.lock_is;
+          there = ap (λ g. g t) threads ∙ update_same w.threads t _;
+          elsewhere = λ u d. ap (λ g. g u) threads ∙ update_elsewhere w.threads t _ u d;
+          mine = λ u y d h. own_mine a p m w t l k u y d h;
+          theirs = λ u y d h. own_theirs a p m w t l k u y d h;
+          memory_is = λ u y d h. update_elsewhere m.memory x c y (not_there u y d h);
+          outside_is = λ u y d h. ap (λ g. g y) memory ∙ update_elsewhere w.memory x c y (not_there u y d h);
+          free = λ y h own. ap (λ g. g y) memory ∙ ap (λ q. cond (y == x) c q) (everyone a p m w t l k y h (undoes_none y));
+          alone = same_lock s' false;
+          shown = out_local (update m.memory x c) v.memory s' false;
+        }) where
+          not_there : (u y : ℕ) → (u == t) ≡ false → held_by (m.threads u) y ≡ true → (y == x) ≡ false
+          not_there u y d h = not_true (y == x) (λ e. true≢false (sym h ∙ (ap (held_by (m.threads u)) (eqb-true y x e) ∙ free u d)))
 
   module _ (start : World S) (t : ℕ) (m : Machine S) (l : Local S) (k : Known a p start t m l) (tx : l.tx ≡ NoTx)
       (f : SilentSteps a k.here.s.state l.state × ((x : ℕ) → l.held x ≡ false)) where
     -- both go on by an event that leaves memory
     tells : (e : Event) (s' : S) (b : Bool) (lock' : Lock) (out input : List ℕ) → a.next l.state ≡ e
         → EventStep a p t k.w l.state e
-            (record k.w { lock = lock'; out = out; input = input; threads = update k.w.threads t (Some (record { state = s'; ended = b })) })
+        (record k.w { lock = lock'; out = out; input = input; threads = update k.w.threads t (Some (record { state = s'; ended = b })) })
         → ((o u : ℕ) → lock'.holder ≡ Some o → (u == o) ≡ false → live_in (update m.threads t (Some (record l { state = s'; ended = b })) u) ≡ false)
         → Agreed a p start (record (order_gains t (steps t m (record l { state = s'; ended = b }))) { lock = lock'; out = out; input = input })
     tells e s' b lock' out input is does alone =
         let v : World S = record k.w { lock = lock'; out = out; input = input; threads = update k.w.threads t (Some (record { state = s'; ended = b })) } in
         said a p start t m l k
-            (record (order_gains t (steps t m (record l { state = s'; ended = b }))) { lock = lock'; out = out; input = input }) v refl refl refl
-            (k.going ∙ sym k.goes)
+        (record (order_gains t (steps t m (record l { state = s'; ended = b }))) { lock = lock'; out = out; input = input }) v refl refl refl
+        (k.going ∙ sym k.goes)
         (out_step a p m k.w t l k.here v e k.going f.0 is does)
         (λ q. plain m k.w t l k.here tx f v lock' s' b refl refl refl refl alone)
 
@@ -168,8 +242,8 @@ module _ {S : Type 0} (a : Thread S) (p : MemoryLayout) where
         let value = same_word (word_of addr) (not_kept_off a p m k.w t l k.here false (word_of addr) e) in
         with_ended s' (λ z. Agreed a p start (order_gains t (steps t m z))) (tells_only (Load addr size vol) s' false is
         (ap (λ v. goes t k.w (a.after l.state (Loaded (read_at addr size v)))) (sym value)
-            ∙ ap (λ b. cond b (goes t k.w (a.after l.state (Loaded (read_at addr size (k.w.memory (word_of addr)))))) (ends k.w (Trapped BadAddress)))
-            (sym ok)))
+        ∙ ap (λ b. cond b (goes t k.w (a.after l.state (Loaded (read_at addr size (k.w.memory (word_of addr)))))) (ends k.w (Trapped BadAddress)))
+        (sym ok)))
 
     store_kept : (addr size value : ℕ) (vol : Bool) → a.next l.state ≡ Store addr size value vol → can_access p addr size ≡ true → (o : Option ℕ)
         → blocker t true (word_of addr) m ≡ o → Agreed a p start (store_out a t m l addr size value o).machine
@@ -183,12 +257,12 @@ module _ {S : Type 0} (a : Thread S) (p : MemoryLayout) where
         let v : World S = record k.w { memory = update k.w.memory x c; threads = update k.w.threads t (alive s') } in
         with_ended s' (λ z. Agreed a p start (record (order_gains t (steps t m z)) { memory = update m.memory x c }))
         (said a p start t m l k
-            (record (order_gains t (steps t m (record l { state = s'; ended = false }))) { memory = update m.memory x c }) v refl k.out k.input
-            (k.going ∙ sym k.goes)
+        (record (order_gains t (steps t m (record l { state = s'; ended = false }))) { memory = update m.memory x c }) v refl k.out k.input
+        (k.going ∙ sym k.goes)
         (out_step a p m k.w t l k.here v (Store addr size value vol) k.going f.0 is
         (ap (λ y. record k.w { memory = update k.w.memory x (merge addr size value y); threads = update k.w.threads t (alive s') }) (sym same)
         ∙ ap (λ b. cond b (record k.w { memory = update k.w.memory x (merge addr size value (k.w.memory x)); threads = update k.w.threads t (alive s') })
-            (ends k.w (Trapped BadAddress))) (sym ok)))
+        (ends k.w (Trapped BadAddress))) (sym ok)))
         (λ q. stored m k.w t l k.here tx f v s' x c refl refl refl refl free))
 
     bad_load : (addr size : ℕ) (vol : Bool) → a.next l.state ≡ Load addr size vol → can_access p addr size ≡ false
@@ -200,8 +274,10 @@ module _ {S : Type 0} (a : Thread S) (p : MemoryLayout) where
         → Agreed a p start (halts t m (Trapped BadAddress)).machine
     bad_store addr size value vol is ok = stops (Store addr size value vol) (Trapped BadAddress) is
         (ap (λ b. cond b
-        (record k.w { memory = update k.w.memory (word_of addr) (merge addr size value (k.w.memory (word_of addr)));
-        threads = update k.w.threads t (alive (a.after l.state Nothing)) }) (ends k.w (Trapped BadAddress))) (sym ok))
+        (record k.w {
+          memory = update k.w.memory (word_of addr) (merge addr size value (k.w.memory (word_of addr)));
+          threads = update k.w.threads t (alive (a.after l.state Nothing));
+        }) (ends k.w (Trapped BadAddress))) (sym ok))
 
     -- the lock's holder is t, or there is none
     only_t : (o : Option ℕ) (v : ℕ) → holder_free t o ≡ true → o ≡ Some v → v ≡ t
@@ -254,12 +330,12 @@ module _ {S : Type 0} (a : Thread S) (p : MemoryLayout) where
         (said a p start t m l k (record (order_gains t (steps t m (record l { state = s'; ended = false }))) { lock = lock_in t m.lock })
         (record k.w { lock = lock_in t k.w.lock; threads = update k.w.threads t (alive s') }) refl k.out k.input (k.going ∙ sym k.goes)
         (out_step a p m k.w t l k.here (record k.w { lock = lock_in t k.w.lock; threads = update k.w.threads t (alive s') }) BeginSync k.going f.0 is
-            (ap (lock_free t) same ∙ ok, refl))
+        (ap (lock_free t) same ∙ ok, refl))
         (λ q. plain m k.w t l k.here tx f (record k.w { lock = lock_in t k.w.lock; threads = update k.w.threads t (alive s') })
-            (lock_in t m.lock) s' false refl (ap (lock_in t) same) refl refl
+        (lock_in t m.lock) s' false refl (ap (lock_in t) same) refl refl
         (λ o u h d. let i : t ≡ o = cc in
         at_update a p (λ z. live_in z ≡ false) m.threads t u (Some (record l { state = s'; ended = false }))
-            (λ e'. absurd (eqb-false u o d (eqb-true u t e' ∙ i))) (λ d'. not_busy a p m k.w t l k.here e u d'))))
+        (λ e'. absurd (eqb-false u o d (eqb-true u t e' ∙ i))) (λ d'. not_busy a p m k.w t l k.here e u d'))))
 
     sync_any : a.next l.state ≡ BeginSync → (o : Option ℕ) → lock_owner t m.lock.holder ≡ o
         → Agreed a p start (sync_in t m (record l { state = a.after l.state Nothing }) o).machine
@@ -275,7 +351,7 @@ module _ {S : Type 0} (a : Thread S) (p : MemoryLayout) where
         (record k.w { lock = lock_out k.w.lock; threads = update k.w.threads t (alive s') }) refl k.out k.input (k.going ∙ sym k.goes)
         (out_step a p m k.w t l k.here (record k.w { lock = lock_out k.w.lock; threads = update k.w.threads t (alive s') }) EndSync k.going f.0 is refl)
         (λ q. plain m k.w t l k.here tx f (record k.w { lock = lock_out k.w.lock; threads = update k.w.threads t (alive s') }) (lock_out m.lock) s' false refl
-            (ap lock_out same) refl refl
+        (ap lock_out same) refl refl
         (λ o u h d. same_lock m k.w t l k.here tx f s' false o u (held_before (nat_lt 1 m.lock.depth) m.lock.holder o h) d)))
       where
         held_before : (b : Bool) (h : Option ℕ) (o : ℕ) → cond b h None ≡ Some o → h ≡ Some o
@@ -288,7 +364,7 @@ module _ {S : Type 0} (a : Thread S) (p : MemoryLayout) where
         let v : World S = record k.w { out = k.w.out ++ c ∷ []; threads = update k.w.threads t (alive s') } in
         with_ended s' (λ z. Agreed a p start (record (order_gains t (steps t m z)) { out = m.out ++ c ∷ [] }))
         (said a p start t m l k (record (order_gains t (steps t m (record l { state = s'; ended = false }))) { out = m.out ++ c ∷ [] }) v refl
-            (ap (λ z. z ++ c ∷ []) k.out) k.input (k.going ∙ sym k.goes)
+        (ap (λ z. z ++ c ∷ []) k.out) k.input (k.going ∙ sym k.goes)
         (out_step a p m k.w t l k.here v (Out c) k.going f.0 is refl)
         (λ q. plain m k.w t l k.here tx f v m.lock s' false refl k.here.g.lock_is refl refl (same_lock m k.w t l k.here tx f s' false)))
 
@@ -298,10 +374,10 @@ module _ {S : Type 0} (a : Thread S) (p : MemoryLayout) where
         let v : World S = record k.w { input = input_after k.w.input; threads = update k.w.threads t (alive s') } in
         with_ended s' (λ z. Agreed a p start (record (order_gains t (steps t m z)) { input = input_after m.input }))
         (said a p start t m l k (record (order_gains t (steps t m (record l { state = s'; ended = false }))) { input = input_after m.input }) v refl k.out
-            (ap input_after k.input) (k.going ∙ sym k.goes)
+        (ap input_after k.input) (k.going ∙ sym k.goes)
         (out_step a p m k.w t l k.here v Inp k.going f.0 is
-            (ap (λ i. record k.w { input = input_after k.w.input; threads = update k.w.threads t (alive (a.after l.state (Byte (byte_of i)))) })
-            (sym k.input)))
+        (ap (λ i. record k.w { input = input_after k.w.input; threads = update k.w.threads t (alive (a.after l.state (Byte (byte_of i)))) })
+        (sym k.input)))
         (λ q. plain m k.w t l k.here tx f v m.lock s' false refl k.here.g.lock_is refl refl (same_lock m k.w t l k.here tx f s' false)))
 
     done_kept : a.next l.state ≡ Done → Agreed a p start (out_does a p t m l Done).machine
@@ -318,7 +394,7 @@ module _ {S : Type 0} (a : Thread S) (p : MemoryLayout) where
     joined (Some o) (Some q) h id is i j = either a p start o.ended _ _
         (λ e. with_ended (a.after l.state Nothing) (λ z. Agreed a p start (order_gains t (steps t m z)))
         (tells_only (Join id) (a.after l.state Nothing) false is
-            (subst (λ z. Joins t k.w (a.after l.state Nothing) z (goes t k.w (a.after l.state Nothing))) (sym j) (h.ended ∙ e, refl))))
+        (subst (λ z. Joins t k.w (a.after l.state Nothing) z (goes t k.w (a.after l.state Nothing))) (sym j) (h.ended ∙ e, refl))))
         (λ e. as_is)
 
     join_kept : (id : ℤ) → a.next l.state ≡ Join id → Agreed a p start (out_does a p t m l (Join id)).machine
@@ -382,27 +458,46 @@ module _ {S : Type 0} (a : Thread S) (p : MemoryLayout) where
           up = k.here.up;
         } in
         either a p start (nat_lt n p.limit)
-        (ran (record (order_gains t m) { started = n + 1; threads = update (update m.threads n (Some (bare c))) t (Some (record l { state = s' }));
-            waits = update m.waits t no_waits }))
+        (ran (record (order_gains t m) {
+          started = n + 1;
+          threads = update (update m.threads n (Some (bare c))) t (Some (record l { state = s' }));
+          waits = update m.waits t no_waits;
+        }))
         (halts t m (Trapped TooManyThreads))
         (λ ok. with_ended s'
-            (λ z. Agreed a p start
-            (record (order_gains t m) { started = n + 1; threads = update (update m.threads n (Some (bare c))) t (Some z);
-            waits = update m.waits t no_waits }))
+        (λ z. Agreed a p start
+        (record (order_gains t m) {
+          started = n + 1;
+          threads = update (update m.threads n (Some (bare c))) t (Some z);
+          waits = update m.waits t no_waits;
+        }))
         (said a p start t m l k
-            (record (order_gains t m) { started = n + 1; threads = update (update m.threads n (Some (bare c))) t
-            (Some (record l { state = s'; ended = false })); waits = update m.waits t no_waits }) v refl k.out k.input (k.going ∙ sym k.goes)
+        (record (order_gains t m) {
+          started = n + 1;
+          threads = update (update m.threads n (Some (bare c))) t
+              (Some (record l { state = s'; ended = false }));
+          waits = update m.waits t no_waits;
+        }) v refl k.out k.input (k.going ∙ sym k.goes)
         (out_step a p m k.w t l k.here v (Spawn h x) k.going f.0 is
-        (ap (λ i. record k.w { started = i + 1; threads = update (update k.w.threads i (alive (a.child l.state i h x))) t
-            (alive (a.after l.state (Id (pos i)))) }) (sym same)
+        (ap (λ i. record k.w {
+          started = i + 1;
+          threads = update (update k.w.threads i (alive (a.child l.state i h x))) t
+              (alive (a.after l.state (Id (pos i))));
+        }) (sym same)
         ∙ ap (λ b. cond b
-            (record k.w { started = k.w.started + 1; threads = update (update k.w.threads k.w.started (alive (a.child l.state k.w.started h x))) t
-            (alive (a.after l.state (Id (pos k.w.started)))) }) (ends k.w (Trapped TooManyThreads))) (sym (ap (λ i. nat_lt i p.limit) same ∙ ok))))
+        (record k.w {
+          started = k.w.started + 1;
+          threads = update (update k.w.threads k.w.started (alive (a.child l.state k.w.started h x))) t
+              (alive (a.after l.state (Id (pos k.w.started))));
+        }) (ends k.w (Trapped TooManyThreads))) (sym (ap (λ i. nat_lt i p.limit) same ∙ ok))))
         (λ q. plain m1 w1 t l here1 tx f v m.lock s' false refl k.here.g.lock_is refl refl (same_lock m1 w1 t l here1 tx f s' false))))
         (λ no. stops (Spawn h x) (Trapped TooManyThreads) is
         (ap (λ b. cond b
-            (record k.w { started = k.w.started + 1; threads = update (update k.w.threads k.w.started (alive (a.child l.state k.w.started h x))) t
-            (alive (a.after l.state (Id (pos k.w.started)))) }) (ends k.w (Trapped TooManyThreads))) (sym (ap (λ i. nat_lt i p.limit) same ∙ no))))
+        (record k.w {
+          started = k.w.started + 1;
+          threads = update (update k.w.threads k.w.started (alive (a.child l.state k.w.started h x))) t
+              (alive (a.after l.state (Id (pos k.w.started))));
+        }) (ends k.w (Trapped TooManyThreads))) (sym (ap (λ i. nat_lt i p.limit) same ∙ no))))
 
     pub out_kept_all : (e : Event) → a.next l.state ≡ e → Agreed a p start (out_does a p t m l e).machine
     out_kept_all Silent is = silent_kept is

@@ -72,4 +72,4 @@ module _ {S : Type 0} (R : S → Type 0) (a : Thread S) (laws : Lawful S R a) (p
       let same = machine_of a p slots (not_begun first) in
       let own = turns_own slots first (start_sound R a laws p small memory input main reached free) tt in
       steps_out bound (length slots) (turns a p slots first).end result.end own
-          (subst (λ (z : Machine S). Stops bound (length slots) z.end result.end) same run.stops) out
+      (subst (λ (z : Machine S). Stops bound (length slots) z.end result.end) same run.stops) out

@@ -1,6 +1,30 @@
 -- What a thread that is alone has run is less than its whole run.
-use Rattle.std.proofs.Common.{ℕ, zero, suc, ◌≡◌, ◌==◌, ◌≤◌, ◌+◌, ◌*◌, Bool, true, false, cond, refl, ap, sym, ◌∙◌, subst, List, [], ◌∷◌, Option, Some, None,
-  arith}
+use Rattle.std.proofs.Common.{
+  ℕ,
+  zero,
+  suc,
+  ◌≡◌,
+  ◌==◌,
+  ◌≤◌,
+  ◌+◌,
+  ◌*◌,
+  Bool,
+  true,
+  false,
+  cond,
+  refl,
+  ap,
+  sym,
+  ◌∙◌,
+  subst,
+  List,
+  [],
+  ◌∷◌,
+  Option,
+  Some,
+  None,
+  arith,
+}
 use Rattle.std.proofs.lemmas.Bool.{eqb-true, true≢false, false≢true}
 use Rattle.tx_events.specs.declared.TheConstants.{THREAD_LIMIT}
 use Rattle.tx_events.specs.declared.End.{End}
@@ -9,16 +33,64 @@ use Rattle.tx_events.specs.declared.BlockKind.TheVariants.{NoExcept, Commit, Can
 use Rattle.tx_events.specs.declared.Trap.TheVariants.{BadAddress, BadJoin}
 use Rattle.tx_events.specs.declared.End.TheVariants.{Trapped}
 use Rattle.tx_events.specs.declared.Event.{Event}
-use Rattle.tx_events.specs.declared.Event.TheVariants.{Silent, Load, Store, Out, Inp, Spawn, Join, BeginAtomic, EndAtomic, Raise, BeginSync, EndSync, Done,
-  Stop}
+use Rattle.tx_events.specs.declared.Event.TheVariants.{
+  Silent,
+  Load,
+  Store,
+  Out,
+  Inp,
+  Spawn,
+  Join,
+  BeginAtomic,
+  EndAtomic,
+  Raise,
+  BeginSync,
+  EndSync,
+  Done,
+  Stop,
+}
 use Rattle.tx_events.specs.declared.Reply.{Reply}
 use Rattle.tx_events.specs.declared.Reply.TheVariants.{Nothing, Loaded}
 use Rattle.tx_events.specs.Thread.{Thread, Lawful}
 use Rattle.tx_events.specs.Memory.{update, MemoryLayout, can_access, load, word_bound}
-use Rattle.tx_events.specs.Alone.{is_over, outcome, Inner, inner_load, inner_store, inner_by, leave, raise, newest, begin, BlockStep, Goes, Leaves, Halts,
-  Never, Inside, at_start, goes_on}
-use Rattle.tx_events.specs.World.{Alive, alive, World, Step, Replays, EventStep, Joins, BlockEffect, target, goes, ends, SilentSteps, none, one_more,
-  first_world, only_first}
+use Rattle.tx_events.specs.Alone.{
+  is_over,
+  outcome,
+  Inner,
+  inner_load,
+  inner_store,
+  inner_by,
+  leave,
+  raise,
+  newest,
+  begin,
+  BlockStep,
+  Goes,
+  Leaves,
+  Halts,
+  Never,
+  Inside,
+  at_start,
+  goes_on,
+}
+use Rattle.tx_events.specs.World.{
+  Alive,
+  alive,
+  World,
+  Step,
+  Replays,
+  EventStep,
+  Joins,
+  BlockEffect,
+  target,
+  goes,
+  ends,
+  SilentSteps,
+  none,
+  one_more,
+  first_world,
+  only_first,
+}
 use Rattle.tx_serial.specs.Machine.{Machine, Local, Tx, NoTx, OpenTx, GivingUp, Closing}
 use Rattle.tx_serial.specs.Turn.{Slot, bare, first_thread, turns, first_machine}
 use Rattle.tx_serial.specs.Shows.{ShowsTx, ShowsLocal, ShowsThread}
@@ -171,8 +243,11 @@ module _ {S : Type 0} (a : Thread S) (p : MemoryLayout) where
       single_after r (BeginAtomic kind) v d i = single_lands (outcome d.1) v d.2
 
       only_zero : (t : ℕ) (v : World (S × Tally)) → Step C p t w v → t ≡ 0
-      only_zero t v h = elim (t == 0) as (λ b. (t == 0) ≡ b → t ≡ 0) [ true ↦ λ e. eqb-true t 0 e | false ↦ λ d. let i = one t d in let j = h.is in
-          absurd (cc) ] refl
+      only_zero t v h = elim (t == 0) as (λ b. (t == 0) ≡ b → t ≡ 0) [
+        | true ↦ λ e. eqb-true t 0 e
+        | false ↦ λ d. let i = one t d in let j = h.is in
+            absurd (cc)
+      ] refl
 
   -- what is left of the whole run
   record Rest (steps accesses : ℕ) (w v : World (S × Tally)) : Type 0 where
@@ -197,7 +272,7 @@ module _ {S : Type 0} (a : Thread S) (p : MemoryLayout) where
           let u0 = only_zero w r.one u g.0 g.1 in
           let same = same_step C p u w h.0 g.0 (subst (λ q. Step C p q w h.0) (t0 ∙ sym u0) h.1) g.1 in
           let one' = single_after w r.one g.1.before (C.next g.1.before) g.0
-              (subst (λ q. EventStep C p q w g.1.before (C.next g.1.before) g.0) u0 g.1.does) k.0 in
+          (subst (λ q. EventStep C p q w g.1.before (C.next g.1.before) g.0) u0 g.1.does) k.0 in
           more g.0 (subst (λ q. Replays C p q done z) same h.2) (record { order = order; replays = g.2; at_most = k.3; one = one' })
 
   -- where the replay has come to its end, it is that of the whole run
@@ -229,7 +304,7 @@ module _ {S : Type 0} (a : Thread S) (p : MemoryLayout) where
           let there : w.threads 0 ≡ alive s.from = ap w.threads (sym u0) ∙ s.is in
           let live : ShowsLocal C p m.memory w.memory l (record { state = s.from; ended = false }) =
           subst (λ o. ShowsThread C p m.memory w.memory (Some l) o) there
-              (subst (λ o. ShowsThread C p m.memory w.memory o (w.threads 0)) is ((shows.going goes).shown 0)) in
+          (subst (λ o. ShowsThread C p m.memory w.memory o (w.threads 0)) is ((shows.going goes).shown 0)) in
           (sym live.ended, by_tx l.tx live.tx, λ none. not_spawn (subst (λ z. ShowsTx C p m.memory w.memory s.from l z) none live.tx).0)
         where
           heard : is_silent (C.next g.1.before) ≡ false
@@ -249,10 +324,10 @@ module _ {S : Type 0} (a : Thread S) (p : MemoryLayout) where
           by_tx (GivingUp b kk ss) h c = absurd (true≢false c)
           by_tx (OpenTx b kk ss) h c =
               let same : h.began.before ≡ g.1.before = same_before C p g.1.from h.began.before g.1.before h.began.silents g.1.silents
-                  (ap is_silent h.began.begins) heard in
+              (ap is_silent h.began.begins) heard in
               let starts : is_begin (C.next g.1.before) ≡ true = begins h.began.kind (ap C.next (sym same) ∙ h.began.begins) in
               let run : Inside C p (begin (C.after g.1.before Nothing) w.memory) h.inner = subst (λ z. Inside C p (begin z w.memory) h.inner)
-                  (h.began.kept_is ∙ ap (λ z. C.after z Nothing) same) h.run in
+              (h.began.kept_is ∙ ap (λ z. C.after z Nothing) same) h.run in
               let top = top_within w u g.1.before (C.next g.1.before) g.0 g.1.does starts h.inner run in
               let most = k.1 in
               let few = k.2 in
@@ -328,7 +403,7 @@ module _ {S : Type 0} (R : S → Type 0) (a : Thread S) (laws : Lawful S R a) (p
           by_end None i =
               let pd = paid i in
               let far = less a p steps accesses last shown.0 v pd.now e shown.2 i pd.at
-                  (rest_of a p steps accesses last.order world0 shown.0 v e shown.1 whole f) f in
+              (rest_of a p steps accesses last.order world0 shown.0 v e shown.1 whole f) f in
               let least = pd.paid far.0 in
               let most = far.1 pd.calm in
               absurd (omega (arith, least, most, many))

@@ -6,8 +6,22 @@ use Rattle.tx_events.specs.declared.End.{End}
 use Rattle.tx_events.specs.declared.End.TheVariants.{Trapped}
 use Rattle.tx_events.specs.declared.Trap.TheVariants.{BadAddress}
 use Rattle.tx_events.specs.declared.Event.{Event}
-use Rattle.tx_events.specs.declared.Event.TheVariants.{Silent, Load, Store, Out, Inp, Spawn, Join, BeginAtomic, EndAtomic, Raise, BeginSync, EndSync, Done,
-  Stop}
+use Rattle.tx_events.specs.declared.Event.TheVariants.{
+  Silent,
+  Load,
+  Store,
+  Out,
+  Inp,
+  Spawn,
+  Join,
+  BeginAtomic,
+  EndAtomic,
+  Raise,
+  BeginSync,
+  EndSync,
+  Done,
+  Stop,
+}
 use Rattle.tx_events.specs.Thread.{Thread}
 use Rattle.tx_events.specs.Memory.{MemoryLayout, can_access, word_of}
 use Rattle.tx_serial.specs.Machine.{Machine, Local, Tx, NoTx, OpenTx, GivingUp, Closing, Save, blocker, clash_of}
@@ -25,8 +39,19 @@ module _ {S : Type 0} (a : Thread S) (p : MemoryLayout) (answer other : Clash �
     said : (e : Event) (store : Bool) (x u : ℕ) → a.next l.state ≡ e → Accesses p e store x → blocker t store x m ≡ Some u
         → answer (clash_of t store x m b u) ≡ other (clash_of t store x m b u)
     said e store x u i g found = same (clash_of t store x m b u)
-        (record { local = l; goes = goes; birth = b; kept = k; saves = ss; tx = tx; store = store; word = x; holder = u;
-        blocked = (subst (λ z. Accesses p z store x) (sym i) g, found); is = refl })
+        (record {
+          local = l;
+          goes = goes;
+          birth = b;
+          kept = k;
+          saves = ss;
+          tx = tx;
+          store = store;
+          word = x;
+          holder = u;
+          blocked = (subst (λ z. Accesses p z store x) (sym i) g, found);
+          is = refl;
+        })
 
     load_same : (addr size : ℕ) (vol : Bool) → a.next l.state ≡ Load addr size vol → can_access p addr size ≡ true → (o : Option ℕ)
         → blocker t false (word_of addr) m ≡ o → load_in a p answer t m l b k ss addr size o ≡ load_in a p other t m l b k ss addr size o

@@ -92,7 +92,7 @@ module _ {S : Type 0} (a : Thread S) (p : MemoryLayout) (memory : ℕ → ℕ) (
             | inr i ↦ none_beyond u (g.fresh u i)
           ] in
           g.free x no_one
-              ∙ sym (all_same threads x started (λ u. same_thread a p memory w.memory x (threads u) (w.threads u) (g.shown u) (no_one u)) (memory x))
+          ∙ sym (all_same threads x started (λ u. same_thread a p memory w.memory x (threads u) (w.threads u) (g.shown u) (no_one u)) (memory x))
       by_found (Some k) e =
           let writes = eldest_some (λ v. undoes (threads v) x) (λ v. v) started k e in
           let less = eldest_below (λ v. undoes (threads v) x) (λ v. v) started k e in

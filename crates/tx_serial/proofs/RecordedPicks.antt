@@ -16,8 +16,27 @@ use Rattle.tx_serial.specs.Turn.{Slot, turns, turn}
 use Rattle.tx_events.specs.World.{World, Replays}
 use Rattle.tx_serial.specs.Shows.{ShownByReplay}
 use Rattle.tx_serial.specs.Laws.{EndsAs, Replayed}
-use Rattle.tx_serial.specs.Run.{Counts, count_in, sum_of, Progress, advance, advances, not_begun, seen, picks, PickedBy, AnsweredBy, is_answer, NoEndBefore,
-  Stops, trap_place, Outcome, RunOf, slots_of, Together}
+use Rattle.tx_serial.specs.Run.{
+  Counts,
+  count_in,
+  sum_of,
+  Progress,
+  advance,
+  advances,
+  not_begun,
+  seen,
+  picks,
+  PickedBy,
+  AnsweredBy,
+  is_answer,
+  NoEndBefore,
+  Stops,
+  trap_place,
+  Outcome,
+  RunOf,
+  slots_of,
+  Together,
+}
 use Rattle.tx_serial.proofs.OnePolicy.{picks_of, lengths, all_answered, straight_run, straight_picked}
 
 count_one : (kind : TurnKind) (c : Counts) → sum_of (count_in kind c) ≡ sum_of c + 1
@@ -70,8 +89,8 @@ module _ {S : Type 0} (a : Thread S) (p : MemoryLayout) where
       let more : (vs : List ℕ) → taken + length (slots_of answer (t ∷ vs)) ≡ (taken + 1) + length (slots_of answer vs) = λ vs. omega arith in
       let h' = subst (λ z. NoEndBefore a p (slots_of answer us) (advance a p (record { thread = z; answer = answer }) r)) tog.0 h.1 in
       let l' = subst
-          (λ z. Stops bound (taken + length (slots_of answer (t ∷ us)))
-          (advances a p (slots_of answer us) (advance a p (record { thread = z; answer = answer }) r)).machine.end f) tog.0 l in
+      (λ z. Stops bound (taken + length (slots_of answer (t ∷ us)))
+      (advances a p (slots_of answer us) (advance a p (record { thread = z; answer = answer }) r)).machine.end f) tog.0 l in
       let rest = same_picks answer bound (taken + 1) ts us next e f g.1 h' (omega (arith, i)) (omega (arith, j))
       (subst (λ n. Stops bound n (advances a p (slots_of answer ts) next).machine.end e) (more ts) k)
       (subst (λ n. Stops bound n (advances a p (slots_of answer us) next).machine.end f) (more us) l')
@@ -100,7 +119,7 @@ module _ {S : Type 0} (a : Thread S) (p : MemoryLayout) where
       → RunOf a p bound first (slots_of answer ts) r → RunOf a p bound first (slots_of answer us) s → Together ts us → s ≡ r
   same_run bound first answer ts us r s h g tog =
       let same = same_picks answer bound 0 ts us (not_begun first) r.end s.end h.going g.going (let w = h.within in omega (arith, w))
-          (let w = g.within in omega (arith, w))
+      (let w = g.within in omega (arith, w))
       (subst (λ n. Stops bound n (advances a p (slots_of answer ts) (not_begun first)).machine.end r.end) (omega arith) h.stops)
       (subst (λ n. Stops bound n (advances a p (slots_of answer us) (not_begun first)).machine.end s.end) (omega arith) g.stops)
       tog in
@@ -108,10 +127,10 @@ module _ {S : Type 0} (a : Thread S) (p : MemoryLayout) where
 
   pub again : (bound : ℕ) (first : Machine S) (answer : Clash → Choice) (slots others : List Slot) (r s : Outcome S)
       → RunOf a p bound first slots r → AnsweredBy (is_answer answer) a p slots (not_begun first) → RunOf a p bound first others s
-          → AnsweredBy (is_answer answer) a p others (not_begun first) → Together r.picked s.picked → s ≡ r
+      → AnsweredBy (is_answer answer) a p others (not_begun first) → Together r.picked s.picked → s ≡ r
   again bound first answer slots others r s h i g j tog =
       same_run bound first answer (picks slots) (picks others) r s (straight_run a p answer bound first slots r h i)
-          (straight_run a p answer bound first others s g j)
+      (straight_run a p answer bound first others s g j)
       (subst (λ z. Together z (picks others)) h.picked (subst (Together r.picked) g.picked tog))
 
   -- from any progress, a picker that picks below the bound and a policy have a list of turns that stops
@@ -136,8 +155,14 @@ module _ {S : Type 0} (a : Thread S) (p : MemoryLayout) where
     goes zero r fits = by_end r.machine.end refl
       where
         by_end : (o : Option End) → r.machine.end ≡ o → Goes pick answer zero r
-        by_end None i = record { turns = []; end = StepsOut; within = omega arith; going = tt; picked = tt;
-            stops = subst (λ o. Stops 0 0 o StepsOut) (sym i) (refl, refl) }
+        by_end None i = record {
+          turns = [];
+          end = StepsOut;
+          within = omega arith;
+          going = tt;
+          picked = tt;
+          stops = subst (λ o. Stops 0 0 o StepsOut) (sym i) (refl, refl);
+        }
         by_end (Some e) i = at_end zero r e i
     goes (suc left) r fits = by_end (λ s f. goes left s f) r.machine.end refl
       where
@@ -162,13 +187,20 @@ module _ {S : Type 0} (a : Thread S) (p : MemoryLayout) where
 
     pub has_run : (first : Machine S)
         → (slots : List Slot) × (result : Outcome S) × RunOf a p bound first slots result × AnsweredBy (is_answer answer) a p slots (not_begun first)
-            × PickedBy pick a p slots (not_begun first)
+        × PickedBy pick a p slots (not_begun first)
     has_run first =
         let run = goes bound (not_begun first) (omega arith) in
         let last = advances a p (slots_of answer run.turns) (not_begun first) in (
           slots_of answer run.turns,
-          record { out = last.machine.out; input = last.machine.input; end = run.end; order = last.machine.order; picked = run.turns; counts = last.counts;
-              place = trap_place run.end last.place },
+          record {
+            out = last.machine.out;
+            input = last.machine.input;
+            end = run.end;
+            order = last.machine.order;
+            picked = run.turns;
+            counts = last.counts;
+            place = trap_place run.end last.place;
+          },
           record {
             within = run.within;
             going = run.going;
@@ -204,9 +236,9 @@ module _ {S : Type 0} (a : Thread S) (p : MemoryLayout) where
       → RunOf a p bound first others s → AnsweredBy (is_answer answer) a p others (not_begun first) → PickedBy pick a p others (not_begun first) → s ≡ r
   one_run bound first pick answer slots others r s h x i g y j =
       same_run bound first answer (picks slots) (picks others) r s (straight_run a p answer bound first slots r h x)
-          (straight_run a p answer bound first others s g y)
+      (straight_run a p answer bound first others s g y)
       (together pick answer (picks slots) (picks others) (not_begun first) (straight_picked a p answer pick slots (not_begun first) x i)
-          (straight_picked a p answer pick others (not_begun first) y j))
+      (straight_picked a p answer pick others (not_begun first) y j))
 
   pub run_counted : (bound : ℕ) (first : Machine S) (slots : List Slot) (r : Outcome S) → RunOf a p bound first slots r → sum_of r.counts ≡ length r.picked
   run_counted bound first slots r h = ap sum_of h.counts

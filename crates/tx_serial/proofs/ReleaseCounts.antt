@@ -1,14 +1,57 @@
 -- Each word is let go once, and each note is put back once.
-use Rattle.std.proofs.Common.{ℕ, ℤ, pos, zero, suc, ◌≡◌, ◌==◌, ◌<◌, ◌≤◌, ◌+◌, ◌⊎◌, inl, inr, Bool, true, false, cond, refl, ap, sym, ◌∙◌, subst, List, [], ◌∷◌,
-  Option, Some, None, arith}
+use Rattle.std.proofs.Common.{
+  ℕ,
+  ℤ,
+  pos,
+  zero,
+  suc,
+  ◌≡◌,
+  ◌==◌,
+  ◌<◌,
+  ◌≤◌,
+  ◌+◌,
+  ◌⊎◌,
+  inl,
+  inr,
+  Bool,
+  true,
+  false,
+  cond,
+  refl,
+  ap,
+  sym,
+  ◌∙◌,
+  subst,
+  List,
+  [],
+  ◌∷◌,
+  Option,
+  Some,
+  None,
+  arith,
+}
 use Rattle.std.specs.Prelude.{nat_lt, is_some}
 use Rattle.std.proofs.lemmas.Bool.{eqb-true, eqb-false, true≢false, false≢true}
 use Rattle.tx_events.specs.declared.End.{End}
 use Rattle.tx_events.specs.declared.BlockKind.{BlockKind}
 use Rattle.tx_events.specs.declared.BlockKind.TheVariants.{NoExcept, Commit, Cancel}
 use Rattle.tx_events.specs.declared.Event.{Event}
-use Rattle.tx_events.specs.declared.Event.TheVariants.{Silent, Load, Store, Out, Inp, Spawn, Join, BeginAtomic, EndAtomic, Raise, BeginSync, EndSync, Done,
-  Stop}
+use Rattle.tx_events.specs.declared.Event.TheVariants.{
+  Silent,
+  Load,
+  Store,
+  Out,
+  Inp,
+  Spawn,
+  Join,
+  BeginAtomic,
+  EndAtomic,
+  Raise,
+  BeginSync,
+  EndSync,
+  Done,
+  Stop,
+}
 use Rattle.tx_events.specs.declared.Reply.TheVariants.{Nothing, Loaded, Byte, Id}
 use Rattle.tx_events.specs.declared.TurnKind.{TurnKind}
 use Rattle.tx_events.specs.declared.TurnKind.TheVariants.{Ran, Waited, BlockWait, JoinWait, Rolled, Undone, Released, Idle}
@@ -18,11 +61,62 @@ use Rattle.choosers.specs.declared.Choice.TheVariants.{Wait, Yield}
 use Rattle.tx_events.specs.Thread.{Thread}
 use Rattle.tx_events.specs.Memory.{update, MemoryLayout, can_access, word_of, word_bound, load}
 use Rattle.tx_events.specs.World.{target, byte_of}
-use Rattle.tx_serial.specs.Machine.{Machine, Local, Tx, NoTx, OpenTx, GivingUp, Closing, Save, no_save, lock_owner, clash_of, kept_or, or_else, hand, note,
-  forget, is_noted, least, eldest, blocker, busy}
-use Rattle.tx_serial.specs.Turn.{Turned, number_of, steps, ran, bare, gives_up, clashes, load_in, store_in, load_out, store_out, joins, begins, sync_in,
-  sync_idle, closes, outermost, commits, cancels_by, cancels, raises, in_does, out_does, without, lets_go, given_back, gives_back, turn_in, turn_of, turn_at,
-  turn}
+use Rattle.tx_serial.specs.Machine.{
+  Machine,
+  Local,
+  Tx,
+  NoTx,
+  OpenTx,
+  GivingUp,
+  Closing,
+  Save,
+  no_save,
+  lock_owner,
+  clash_of,
+  kept_or,
+  or_else,
+  hand,
+  note,
+  forget,
+  is_noted,
+  least,
+  eldest,
+  blocker,
+  busy,
+}
+use Rattle.tx_serial.specs.Turn.{
+  Turned,
+  number_of,
+  steps,
+  ran,
+  bare,
+  gives_up,
+  clashes,
+  load_in,
+  store_in,
+  load_out,
+  store_out,
+  joins,
+  begins,
+  sync_in,
+  sync_idle,
+  closes,
+  outermost,
+  commits,
+  cancels_by,
+  cancels,
+  raises,
+  in_does,
+  out_does,
+  without,
+  lets_go,
+  given_back,
+  gives_back,
+  turn_in,
+  turn_of,
+  turn_at,
+  turn,
+}
 use Rattle.tx_serial.specs.Machine.{count}
 use Rattle.tx_serial.specs.Machine.{count}
 use Rattle.tx_serial.proofs.PendingWork.{notes, notes_in, weight, spent, earned, earned_by}
@@ -52,14 +146,18 @@ count_or f g h (suc n) k =
     let rest = count_or f g h n k in
     elim (h n) as (λ b. h n ≡ b → cond b (suc (count h n)) (count h n) ≤ cond (f n) (suc (count f n)) (count f n) + cond (g n) (suc (count g n)) (count g n)) [
       | true ↦ λ e. elim (f n) as (λ c. f n ≡ c → suc (count h n) ≤ cond c (suc (count f n)) (count f n) + cond (g n) (suc (count g n)) (count g n)) [
-        | true ↦ λ i. elim (g n) as (λ d. suc (count h n) ≤ suc (count f n) + cond d (suc (count g n)) (count g n)) [ true ↦ omega (arith, rest)
-            | false ↦ omega (arith, rest) ]
+        | true ↦ λ i. elim (g n) as (λ d. suc (count h n) ≤ suc (count f n) + cond d (suc (count g n)) (count g n)) [
+          | true ↦ omega (arith, rest)
+          | false ↦ omega (arith, rest)
+        ]
         | false ↦ λ i. subst (λ d. suc (count h n) ≤ count f n + cond d (suc (count g n)) (count g n)) (sym (either_of (f n) (g n) (k n e) i))
             (omega (arith, rest))
       ] refl
       | false ↦ λ e. elim (f n) as (λ c. count h n ≤ cond c (suc (count f n)) (count f n) + cond (g n) (suc (count g n)) (count g n)) [
-        | true ↦ elim (g n) as (λ d. count h n ≤ suc (count f n) + cond d (suc (count g n)) (count g n)) [ true ↦ omega (arith, rest)
-            | false ↦ omega (arith, rest) ]
+        | true ↦ elim (g n) as (λ d. count h n ≤ suc (count f n) + cond d (suc (count g n)) (count g n)) [
+          | true ↦ omega (arith, rest)
+          | false ↦ omega (arith, rest)
+        ]
         | false ↦ elim (g n) as (λ d. count h n ≤ count f n + cond d (suc (count g n)) (count g n)) [ true ↦ omega (arith, rest) | false ↦ rest ]
       ]
     ] refl
@@ -69,8 +167,8 @@ one_at_most x zero = (omega arith, λ h. refl)
 one_at_most x (suc n) =
     let rest = one_at_most x n in
     elim (n == x) as
-        (λ b. (n == x) ≡ b → (cond b (suc (count (λ y. y == x) n)) (count (λ y. y == x) n) ≤ 1) ×
-        (suc n ≤ x → cond b (suc (count (λ y. y == x) n)) (count (λ y. y == x) n) ≡ 0)) [
+    (λ b. (n == x) ≡ b → (cond b (suc (count (λ y. y == x) n)) (count (λ y. y == x) n) ≤ 1) ×
+    (suc n ≤ x → cond b (suc (count (λ y. y == x) n)) (count (λ y. y == x) n) ≡ 0)) [
       | true ↦ λ e. let i = eqb-true n x e in let z = rest.1 (omega (arith, i)) in (omega (arith, z), λ h. absurd (omega (arith, h, i)))
       | false ↦ λ e. (rest.0, λ h. rest.1 (omega (arith, h)))
     ] refl
@@ -79,7 +177,7 @@ pub count_add : (f : ℕ → Bool) (x n : ℕ) → count (update f x true) n ≤
 count_add f x n =
     let one = (one_at_most x n).0 in
     let both = count_or (λ y. y == x) f (update f x true) n
-        (λ y h. elim (y == x) as (λ b. cond b true (f y) ≡ true → (b ≡ true) ⊎ (f y ≡ true)) [ true ↦ λ i. inl refl | false ↦ λ i. inr i ] h) in
+    (λ y h. elim (y == x) as (λ b. cond b true (f y) ≡ true → (b ≡ true) ⊎ (f y ≡ true)) [ true ↦ λ i. inl refl | false ↦ λ i. inr i ] h) in
     omega (arith, one, both)
 
 pub count_drop : (f : ℕ → Bool) (x n : ℕ) → x < n → f x ≡ true → suc (count (update f x false) n) ≤ count f n
@@ -87,25 +185,30 @@ count_drop f x zero h e = absurd (omega (arith, h))
 count_drop f x (suc n) h e = elim (n == x) as
     (λ b. (n == x) ≡ b → suc (cond (cond b false (f n)) (suc (count (update f x false) n)) (count (update f x false) n)) ≤ cond (f n) (suc (count f n))
     (count f n)) [
-  | true ↦ λ i.
-      let less = count_le (update f x false) f n
+      | true ↦ λ i.
+          let less = count_le (update f x false) f n
           (λ y k. elim (y == x) as (λ c. cond c false (f y) ≡ true → f y ≡ true) [ true ↦ λ j. absurd (false≢true j) | false ↦ λ j. j ] k) in
-      subst (λ c. suc (count (update f x false) n) ≤ cond c (suc (count f n)) (count f n)) (sym (ap f (eqb-true n x i) ∙ e)) (omega (arith, less))
-  | false ↦ λ i.
-      let d = eqb-false n x i in
-      let rest = count_drop f x n (omega (arith, h, d)) e in
-      elim (f n) as
-          (λ c. suc (cond c (suc (count (update f x false) n)) (count (update f x false) n)) ≤ cond c (suc (count f n)) (count f n)) [ true ↦ omega
-          (arith, rest) | false ↦ rest ]
-] refl
+          subst (λ c. suc (count (update f x false) n) ≤ cond c (suc (count f n)) (count f n)) (sym (ap f (eqb-true n x i) ∙ e)) (omega (arith, less))
+      | false ↦ λ i.
+          let d = eqb-false n x i in
+          let rest = count_drop f x n (omega (arith, h, d)) e in
+          elim (f n) as
+          (λ c. suc (cond c (suc (count (update f x false) n)) (count (update f x false) n)) ≤ cond c (suc (count f n)) (count f n)) [
+            | true ↦ omega
+                (arith, rest)
+            | false ↦ rest
+          ]
+    ] refl
 
 -- notes
 notes_note : (n : ℕ) (ss : List Save) (x v : ℕ) → notes n (note ss x v) ≤ suc (notes n ss)
 notes_note n [] x v = omega arith
 notes_note n (s ∷ ss) x v =
     let le = count_le (is_noted (update s x (Some (kept_or (s x) v)))) (update (is_noted s) x true) n
-        (λ y h. elim (y == x) as (λ b. is_some (cond b (Some (kept_or (s x) v)) (s y)) ≡ true → cond b true (is_some (s y)) ≡ true) [ true ↦ λ i. refl
-        | false ↦ λ i. i ] h) in
+    (λ y h. elim (y == x) as (λ b. is_some (cond b (Some (kept_or (s x) v)) (s y)) ≡ true → cond b true (is_some (s y)) ≡ true) [
+      | true ↦ λ i. refl
+      | false ↦ λ i. i
+    ] h) in
     let add = count_add (is_noted s) x n in
     omega (arith, le, add)
 
@@ -122,7 +225,7 @@ notes_hand n s o ss = let le = count_or (is_noted s) (is_noted o) (is_noted (han
 notes_forget : (n : ℕ) (s : Save) (ss : List Save) (x : ℕ) → x < n → is_noted s x ≡ true → suc (notes n (forget s x ∷ ss)) ≤ notes n (s ∷ ss)
 notes_forget n s ss x h e =
     let le = count_le (is_noted (forget s x)) (update (is_noted s) x false) n
-        (λ y i. elim (y == x) as (λ b. is_some (cond b None (s y)) ≡ true → cond b false (is_some (s y)) ≡ true) [ true ↦ λ j. j | false ↦ λ j. j ] i) in
+    (λ y i. elim (y == x) as (λ b. is_some (cond b None (s y)) ≡ true → cond b false (is_some (s y)) ≡ true) [ true ↦ λ j. j | false ↦ λ j. j ] i) in
     let less = count_drop (is_noted s) x n h e in
     omega (arith, le, less)
 
@@ -191,8 +294,8 @@ module _ {S : Type 0} (a : Thread S) (p : MemoryLayout) (t : ℕ) (m : Machine S
   out_pays EndSync = plain EndSync (a.after l.state Nothing) l.ended
   out_pays (Spawn g x) = either _ (nat_lt m.started p.limit) _ _
       (subst (λ o. weight (word_bound p) o + 0 ≤ weight (word_bound p) (Some l) + 0)
-          (sym (update_same (update m.threads m.started (Some (bare (a.child l.state m.started g x)))) t
-          (Some (record l { state = a.after l.state (Id (pos m.started)) })))) (omega arith))
+      (sym (update_same (update m.threads m.started (Some (bare (a.child l.state m.started g x)))) t
+      (Some (record l { state = a.after l.state (Id (pos m.started)) })))) (omega arith))
       (pays_still (Spawn g x) Ran refl)
   out_pays (Join id) = join_pays (Join id) id (target t id m.threads)
   out_pays (Out c) = plain (Out c) (a.after l.state Nothing) l.ended
@@ -224,8 +327,8 @@ module _ {S : Type 0} (a : Thread S) (p : MemoryLayout) (t : ℕ) (m : Machine S
         let n = notes_are in
         let add = count_add l.held (word_of addr) (word_bound p) in
         pays_by (Load addr size vol) Ran
-            (record l { state = a.after l.state (Loaded (load m.memory addr size)); held = update l.held (word_of addr) true; tx = OpenTx b kk ss })
-            (omega (arith, n, add))
+        (record l { state = a.after l.state (Loaded (load m.memory addr size)); held = update l.held (word_of addr) true; tx = OpenTx b kk ss })
+        (omega (arith, n, add))
 
     store_in_pays : (answer : Clash → Choice) (addr size value : ℕ) (vol : Bool) (o : Option ℕ)
         → Pays (Store addr size value vol) (store_in a p answer t m l b kk ss addr size value o)
@@ -235,8 +338,12 @@ module _ {S : Type 0} (a : Thread S) (p : MemoryLayout) (t : ℕ) (m : Machine S
         let add = count_add l.held (word_of addr) (word_bound p) in
         let more = notes_note (word_bound p) ss (word_of addr) (m.memory (word_of addr)) in
         pays_by (Store addr size value vol) Ran
-            (record l { state = a.after l.state Nothing; held = update l.held (word_of addr) true; wrote = update l.wrote (word_of addr) true;
-            tx = OpenTx b kk (note ss (word_of addr) (m.memory (word_of addr))) }) (omega (arith, n, add, more))
+        (record l {
+          state = a.after l.state Nothing;
+          held = update l.held (word_of addr) true;
+          wrote = update l.wrote (word_of addr) true;
+          tx = OpenTx b kk (note ss (word_of addr) (m.memory (word_of addr)));
+        }) (omega (arith, n, add, more))
 
     closed : (o : Option ℕ) → notes_in {S = S} (word_bound p) (closes b o) ≡ 0
     closed None = refl
@@ -255,7 +362,7 @@ module _ {S : Type 0} (a : Thread S) (p : MemoryLayout) (t : ℕ) (m : Machine S
         → Pays e (cancels_by p t m l s b kk n ts o)
     cancels_pays e s n ts i (Some x) found =
         let less = notes_forget (word_bound p) n ts x (eldest_below (is_noted n) (λ v. v) (word_bound p) x found)
-            (eldest_some (is_noted n) (λ v. v) (word_bound p) x found) in
+        (eldest_some (is_noted n) (λ v. v) (word_bound p) x found) in
         let j = ap (notes (word_bound p)) i in let k = notes_are in
         pays_by e (Undone x) (record l { tx = OpenTx b kk (forget n x ∷ ts) }) (omega (arith, less, j, k))
     cancels_pays e s n [] i None found = outermost_pays e s
@@ -311,7 +418,7 @@ module _ {S : Type 0} (a : Thread S) (p : MemoryLayout) (t : ℕ) (m : Machine S
   go_pays e b (Some x) i =
       let d = count_drop l.held x (word_bound p) (eldest_below l.held (λ v. v) (word_bound p) x i) (eldest_some l.held (λ v. v) (word_bound p) x i) in
       pays_by e (Released x) (record l { held = without l.held x; wrote = without l.wrote x; tx = closes b (least (without l.held x) (word_bound p)) })
-          (less (least (without l.held x) (word_bound p)))
+      (less (least (without l.held x) (word_bound p)))
     where
       less : (o : Option ℕ) → (count (without l.held x) (word_bound p) + notes_in {S = S} (word_bound p) (closes b o)) + 1 ≤ weight (word_bound p) (Some l) + 0
       less None =

@@ -9,16 +9,76 @@ use Rattle.tx_events.specs.declared.End.{End}
 use Rattle.tx_events.specs.declared.BlockKind.{BlockKind}
 use Rattle.tx_events.specs.declared.BlockKind.TheVariants.{NoExcept, Commit, Cancel}
 use Rattle.tx_events.specs.declared.Event.{Event}
-use Rattle.tx_events.specs.declared.Event.TheVariants.{Silent, Load, Store, Out, Inp, Spawn, Join, BeginAtomic, EndAtomic, Raise, BeginSync, EndSync, Done,
-  Stop}
+use Rattle.tx_events.specs.declared.Event.TheVariants.{
+  Silent,
+  Load,
+  Store,
+  Out,
+  Inp,
+  Spawn,
+  Join,
+  BeginAtomic,
+  EndAtomic,
+  Raise,
+  BeginSync,
+  EndSync,
+  Done,
+  Stop,
+}
 use Rattle.tx_events.specs.declared.Reply.TheVariants.{Nothing, Id}
 use Rattle.tx_events.specs.Thread.{Thread}
 use Rattle.tx_events.specs.Memory.{update, MemoryLayout, can_access, word_of, word_bound}
 use Rattle.tx_events.specs.World.{target}
-use Rattle.tx_serial.specs.Machine.{Machine, Local, Tx, NoTx, OpenTx, GivingUp, Closing, Save, is_noted, birth, birth_of, has_tx, tx_in, least, blocker,
-  lock_owner, busy, clash_of}
-use Rattle.tx_serial.specs.Turn.{Turned, bare, gives_up, clashes, load_in, store_in, load_out, store_out, joins, begins, sync_in, sync_idle, closes, outermost,
-  commits, cancels_by, cancels, raises, in_does, out_does, without, lets_go, given_back, gives_back, turn_in, turn_of, turn_at, turn}
+use Rattle.tx_serial.specs.Machine.{
+  Machine,
+  Local,
+  Tx,
+  NoTx,
+  OpenTx,
+  GivingUp,
+  Closing,
+  Save,
+  is_noted,
+  birth,
+  birth_of,
+  has_tx,
+  tx_in,
+  least,
+  blocker,
+  lock_owner,
+  busy,
+  clash_of,
+}
+use Rattle.tx_serial.specs.Turn.{
+  Turned,
+  bare,
+  gives_up,
+  clashes,
+  load_in,
+  store_in,
+  load_out,
+  store_out,
+  joins,
+  begins,
+  sync_in,
+  sync_idle,
+  closes,
+  outermost,
+  commits,
+  cancels_by,
+  cancels,
+  raises,
+  in_does,
+  out_does,
+  without,
+  lets_go,
+  given_back,
+  gives_back,
+  turn_in,
+  turn_of,
+  turn_at,
+  turn,
+}
 use Rattle.tx_serial.proofs.UntouchedThreads.{at_update}
 
 module _ {S : Type 0} (a : Thread S) (p : MemoryLayout) (t : ℕ) (m : Machine S) (l : Local S) (is : m.threads t ≡ Some l) where
@@ -76,7 +136,7 @@ module _ {S : Type 0} (a : Thread S) (p : MemoryLayout) (t : ℕ) (m : Machine S
         (update m.threads m.started (Some (bare c))) t u (Some l')
         (λ e i j. let same : m.threads u ≡ Some l = ap m.threads (eqb-true u t e) ∙ is in absurd (false≢true (sym (ap has_tx tx) ∙ (sym (ap tx_in same) ∙ i))))
         (λ d. at_update a p (λ o. tx_in (m.threads u) ≡ true → tx_in o ≡ true → birth_of o ≡ birth_of (m.threads u)) m.threads m.started u (Some (bare c))
-            (λ e i j. absurd (false≢true j)) (λ e i j. refl))
+        (λ e i j. absurd (false≢true j)) (λ e i j. refl))
 
     out_same : (e : Event) → Same (out_does a p t m l e)
     out_same Silent = new _

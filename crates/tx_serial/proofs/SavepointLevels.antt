@@ -22,8 +22,10 @@ levels_both m n x v [] [] (d ∷ ds) e b f = absurd b
 levels_both m n x v [] (c ∷ cs) ds e b f = absurd f
 levels_both m n x v (s ∷ ss) [] ds e b f = absurd f
 levels_both m n x v (s ∷ ss) (c ∷ cs) [] e b f = absurd b
-levels_both m n x v (s ∷ ss) (c ∷ cs) (d ∷ ds) e b f = (sym (b.0 x e) ∙ f.0,
-    subst (λ y. LevelsAt x y ss ds) (b.0 x e) (levels_both m n x (c x) ss cs ds e b.1 f.1))
+levels_both m n x v (s ∷ ss) (c ∷ cs) (d ∷ ds) e b f = (
+  sym (b.0 x e) ∙ f.0,
+  subst (λ y. LevelsAt x y ss ds) (b.0 x e) (levels_both m n x (c x) ss cs ds e b.1 f.1),
+)
 
 -- at a word that is the same everywhere
 pub levels_new : (x v : ℕ) (ss : List Save) (cs : List (ℕ → ℕ)) → Even ss cs → AllAt x v cs → NoneAt x ss → LevelsAt x v ss cs

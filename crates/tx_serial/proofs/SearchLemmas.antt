@@ -36,11 +36,11 @@ elder_le : (f : ℕ → ℕ) (n u : ℕ) (o : Option ℕ) → elder f n o ≡ So
 elder_le f n u None e = let i : n ≡ u = cc in (let j = ap f i in omega (arith, j), λ y g. absurd (cc))
 elder_le f n u (Some k) e = elim (nat_lt (f n) (f k)) as
     (λ b. nat_lt (f n) (f k) ≡ b → cond b (Some n) (Some k) ≡ Some u → (f u ≤ f n) × ((y : ℕ) → Some k ≡ Some y → f u ≤ f y)) [
-  | true ↦ λ q g. let i : n ≡ u = cc in let j = ap f i in let r = ltb-true (f n) (f k) q in
-      (omega (arith, j), λ y h. let z : k ≡ y = cc in let zz = ap f z in omega (arith, j, r, zz))
-  | false ↦ λ q g. let i : k ≡ u = cc in let j = ap f i in let r = ltb-false (f n) (f k) q in
-      (omega (arith, j, r), λ y h. let z : k ≡ y = cc in let zz = ap f z in omega (arith, j, zz))
-] refl e
+      | true ↦ λ q g. let i : n ≡ u = cc in let j = ap f i in let r = ltb-true (f n) (f k) q in
+          (omega (arith, j), λ y h. let z : k ≡ y = cc in let zz = ap f z in omega (arith, j, r, zz))
+      | false ↦ λ q g. let i : k ≡ u = cc in let j = ap f i in let r = ltb-false (f n) (f k) q in
+          (omega (arith, j, r), λ y h. let z : k ≡ y = cc in let zz = ap f z in omega (arith, j, zz))
+    ] refl e
 
 -- none is elder than the eldest
 pub eldest_le : (p : ℕ → Bool) (f : ℕ → ℕ) (n u : ℕ) → eldest p f n ≡ Some u → (v : ℕ) → v < n → p v ≡ true → f u ≤ f v

@@ -1,6 +1,36 @@
 -- Each turn keeps the machine sound, and is of a kind that may come.
-use Rattle.std.proofs.Common.{ℕ, ℤ, pos, zero, suc, ◌≡◌, ◌==◌, ◌<◌, ◌≤◌, ◌+◌, ◌^◌, inl, inr, Bool, true, false, cond, refl, ap, sym, ◌∙◌, subst, List, [], ◌∷◌,
-  length, Option, Some, None, arith}
+use Rattle.std.proofs.Common.{
+  ℕ,
+  ℤ,
+  pos,
+  zero,
+  suc,
+  ◌≡◌,
+  ◌==◌,
+  ◌<◌,
+  ◌≤◌,
+  ◌+◌,
+  ◌^◌,
+  inl,
+  inr,
+  Bool,
+  true,
+  false,
+  cond,
+  refl,
+  ap,
+  sym,
+  ◌∙◌,
+  subst,
+  List,
+  [],
+  ◌∷◌,
+  length,
+  Option,
+  Some,
+  None,
+  arith,
+}
 use Rattle.std.specs.Prelude.{nat_lt}
 use Rattle.std.proofs.lemmas.Bool.{eqb-true, true≢false, false≢true, ltb-true}
 use Rattle.choosers.specs.declared.Clash.{Clash}
@@ -13,8 +43,22 @@ use Rattle.tx_events.specs.declared.Trap.TheVariants.{BadJoin}
 use Rattle.tx_events.specs.declared.BlockKind.{BlockKind}
 use Rattle.tx_events.specs.declared.BlockKind.TheVariants.{NoExcept, Commit, Cancel}
 use Rattle.tx_events.specs.declared.Event.{Event}
-use Rattle.tx_events.specs.declared.Event.TheVariants.{Silent, Load, Store, Out, Inp, Spawn, Join, BeginAtomic, EndAtomic, Raise, BeginSync, EndSync, Done,
-  Stop}
+use Rattle.tx_events.specs.declared.Event.TheVariants.{
+  Silent,
+  Load,
+  Store,
+  Out,
+  Inp,
+  Spawn,
+  Join,
+  BeginAtomic,
+  EndAtomic,
+  Raise,
+  BeginSync,
+  EndSync,
+  Done,
+  Stop,
+}
 use Rattle.tx_events.specs.declared.Reply.{Reply}
 use Rattle.tx_events.specs.declared.Reply.TheVariants.{Nothing, Loaded, Byte, Id}
 use Rattle.tx_events.specs.declared.TurnKind.{TurnKind}
@@ -22,11 +66,74 @@ use Rattle.tx_events.specs.declared.TurnKind.TheVariants.{Ran, Waited, BlockWait
 use Rattle.tx_events.specs.Thread.{Thread, Lawful, Answers, atomics, blocks_after, may_come, rest_of, in_atomic, no_atomic}
 use Rattle.tx_events.specs.Memory.{update, MemoryLayout, can_access, word_of, read_at, word_bound}
 use Rattle.tx_events.specs.World.{target, byte_of}
-use Rattle.tx_serial.specs.Machine.{Machine, Local, Tx, NoTx, OpenTx, GivingUp, Closing, Save, no_save, kept_or, oldest, hand, note, forget, forget_all,
-  is_noted, birth, has_tx, tx_in, least, blocker, lock_owner, busy, clash_of}
-use Rattle.tx_serial.specs.Turn.{Slot, Turned, number_of, steps, ran, stays, halts, waited, bare, again, gives_up, clashes, load_in, store_in, load_out,
-  store_out, joins, begins, sync_in, sync_idle, spawns, closes, outermost, commits, cancels_by, cancels, raises, in_does, out_does, without, lets_go,
-  given_back, gives_back, turn_in, turn_of, turn_at, turn, turns, first_machine, first_thread}
+use Rattle.tx_serial.specs.Machine.{
+  Machine,
+  Local,
+  Tx,
+  NoTx,
+  OpenTx,
+  GivingUp,
+  Closing,
+  Save,
+  no_save,
+  kept_or,
+  oldest,
+  hand,
+  note,
+  forget,
+  forget_all,
+  is_noted,
+  birth,
+  has_tx,
+  tx_in,
+  least,
+  blocker,
+  lock_owner,
+  busy,
+  clash_of,
+}
+use Rattle.tx_serial.specs.Turn.{
+  Slot,
+  Turned,
+  number_of,
+  steps,
+  ran,
+  stays,
+  halts,
+  waited,
+  bare,
+  again,
+  gives_up,
+  clashes,
+  load_in,
+  store_in,
+  load_out,
+  store_out,
+  joins,
+  begins,
+  sync_in,
+  sync_idle,
+  spawns,
+  closes,
+  outermost,
+  commits,
+  cancels_by,
+  cancels,
+  raises,
+  in_does,
+  out_does,
+  without,
+  lets_go,
+  given_back,
+  gives_back,
+  turn_in,
+  turn_of,
+  turn_at,
+  turn,
+  turns,
+  first_machine,
+  first_thread,
+}
 use Rattle.tx_serial.specs.Sound.{IsKept, is_some_save, SoundTx, SoundLocal, SoundThread, Sound}
 use Rattle.tx_serial.specs.Kinds.{Accesses, Shut, NewestNotes, KindOut, KindIn, KindBy, GoesOn}
 use Rattle.tx_events.proofs.WordLemmas.{read_fits, byte_int, access_below}
@@ -70,7 +177,7 @@ module _ {S : Type 0} (R : S → Type 0) (a : Thread S) (laws : Lawful S R a) (p
         → m'.births ≡ m.births → R s' → atomics (a.blocks s') ≡ 0 → Sound R a p m'
     goes_on m' s' e threads started births reached depth =
         sound_change R a p m m' t l (record l { state = s'; ended = e }) h is threads (let b = births in omega (arith, b)) (λ i. inl (i, refl)) started
-            (record {
+        (record {
           reached = reached;
           bounded = here.bounded;
           holds = here.holds;
@@ -79,9 +186,11 @@ module _ {S : Type 0} (R : S → Type 0) (a : Thread S) (laws : Lawful S R a) (p
 
     plainly : (m' : Machine S) (e : Event) (r : Reply) (b : Bool) → a.next l.state ≡ e → keeps_blocks e ≡ true → Answers e r
         → m'.threads ≡ update m.threads t (Some (record l { state = a.after l.state r; ended = b })) → m'.started ≡ m.started → m'.births ≡ m.births
-            → Right answer NoTx (ran m')
-    plainly m' e r b i c g threads started births = (goes_on m' (a.after l.state r) b threads started births (reached_by e i r g) (depth_by e i c r g ∙ f.0),
-        tt)
+        → Right answer NoTx (ran m')
+    plainly m' e r b i c g threads started births = (
+      goes_on m' (a.after l.state r) b threads started births (reached_by e i r g) (depth_by e i c r g ∙ f.0),
+      tt,
+    )
 
     still : (kind : TurnKind) (m' : Machine S) → m'.threads ≡ m.threads → m'.started ≡ m.started → m'.births ≡ m.births → KindOut a p t m l kind
         → Right answer NoTx (stays kind m')
@@ -154,7 +263,7 @@ module _ {S : Type 0} (R : S → Type 0) (a : Thread S) (laws : Lawful S R a) (p
         let l' : Local S = record l { state = s' } in
         let m1 : Machine S = record m { started = n + 1; threads = update m.threads n (Some (bare c)) } in
         let apart : (t == n) ≡ false = not_true (t == n) (λ j. let q = ap m.threads (eqb-true t n j) in let r = h.fresh n (omega arith) in let k = is in
-            absurd (cc)) in (
+        absurd (cc)) in (
           sound_change R a p m1 (spawns t m l' c) t l l'
               (grown R a p m c h (laws.starts l.state n g x here.reached i) (laws.starts_free l.state n g x here.reached i))
               (update_elsewhere m.threads n (Some (bare c)) t apart ∙ is) refl (omega arith) (λ j. inl (j, refl)) refl
@@ -181,10 +290,10 @@ module _ {S : Type 0} (R : S → Type 0) (a : Thread S) (laws : Lawful S R a) (p
       → ((x : ℕ) → held x ≡ true → l.held x ≡ true) → ((x : ℕ) → wrote x ≡ true → held x ≡ true) → R s' → atomics (a.blocks s') ≡ 0
       → (q : Option ℕ) → least held (word_bound p) ≡ q
       → m'.threads ≡ update m.threads t (Some (record l { state = s'; held = held; wrote = wrote; tx = closes b q })) → m'.started ≡ m.started
-          → m'.births ≡ m.births → Sound R a p m'
+      → m'.births ≡ m.births → Sound R a p m'
   closed_sound m' s' held wrote b had same within holds reached depth None found threads started births =
       sound_change R a p m m' t l (record l { state = s'; held = held; wrote = wrote; tx = NoTx }) h is threads (let i = births in omega (arith, i))
-          (λ i. absurd (false≢true i)) started (record {
+      (λ i. absurd (false≢true i)) started (record {
         reached = reached;
         bounded = λ x i. here.bounded x (within x i);
         holds = holds;
@@ -192,7 +301,7 @@ module _ {S : Type 0} (R : S → Type 0) (a : Thread S) (laws : Lawful S R a) (p
       })
   closed_sound m' s' held wrote b had same within holds reached depth (Some x) found threads started births =
       sound_change R a p m m' t l (record l { state = s'; held = held; wrote = wrote; tx = Closing b }) h is threads (let i = births in omega (arith, i))
-          (λ i. inl (had, sym same)) started (record {
+      (λ i. inl (had, sym same)) started (record {
         reached = reached;
         bounded = λ y i. here.bounded y (within y i);
         holds = holds;
@@ -217,10 +326,10 @@ module _ {S : Type 0} (R : S → Type 0) (a : Thread S) (laws : Lawful S R a) (p
         → m'.threads ≡ update m.threads t (Some (record l { state = s'; held = held; wrote = wrote; tx = OpenTx b kk ts })) → m'.started ≡ m.started
         → m'.births ≡ m.births
         → R s' → atomics (a.blocks s') ≡ length ts → is_some_save ts ≡ true → ((x : ℕ) → held x ≡ true → x < word_bound p)
-            → ((x : ℕ) → wrote x ≡ true → held x ≡ true) → Sound R a p m'
+        → ((x : ℕ) → wrote x ≡ true → held x ≡ true) → Sound R a p m'
     within m' s' ts held wrote threads started births reached depth some bounded holds =
         sound_change R a p m m' t l (record l { state = s'; held = held; wrote = wrote; tx = OpenTx b kk ts }) h is threads
-            (let i = births in omega (arith, i)) (λ i. inl (ap has_tx tx, sym (ap birth tx))) started (record {
+        (let i = births in omega (arith, i)) (λ i. inl (ap has_tx tx, sym (ap birth tx))) started (record {
           reached = reached;
           bounded = bounded;
           holds = holds;
@@ -239,9 +348,11 @@ module _ {S : Type 0} (R : S → Type 0) (a : Thread S) (laws : Lawful S R a) (p
 
     just : (e : Event) → a.next l.state ≡ e → keeps_blocks e ≡ true → Answers e Nothing
         → In (ran (steps t m (record l { state = a.after l.state Nothing; tx = OpenTx b kk ss })))
-    just e i c g =
-        (within _ (a.after l.state Nothing) ss l.held l.wrote refl refl refl (reached_by e i Nothing g)
-        (depth_by e i c Nothing g ∙ f.1) f.2 here.bounded here.holds, tt)
+    just e i c g = (
+      within _ (a.after l.state Nothing) ss l.held l.wrote refl refl refl (reached_by e i Nothing g)
+          (depth_by e i c Nothing g ∙ f.1) f.2 here.bounded here.holds,
+      tt,
+    )
 
     taken_bounded : (addr size : ℕ) → can_access p addr size ≡ true → (y : ℕ) → update l.held (word_of addr) true y ≡ true → y < word_bound p
     taken_bounded addr size ok y h = elim (y == word_of addr) as (λ q. (y == word_of addr) ≡ q → cond q true (l.held y) ≡ true → y < word_bound p) [
@@ -267,8 +378,10 @@ module _ {S : Type 0} (R : S → Type 0) (a : Thread S) (laws : Lawful S R a) (p
     clash_right : (e : Event) (store : Bool) (x u : ℕ) → a.next l.state ≡ e → Accesses p e store x → blocker t store x m ≡ Some u → (choice : Choice)
         → answer (clash_of t store x m b u) ≡ choice → In (clashes p choice t m l b kk ss x u)
     clash_right e store x u i g found Wait said = (sound_same R a p m _ h refl refl refl, (store, (subst (λ z. Accesses p z store x) (sym i) g, found), said))
-    clash_right e store x u i g found Yield said = (gives_right (least l.held (word_bound p)) refl,
-        (store, (subst (λ z. Accesses p z store x) (sym i) g, found), said))
+    clash_right e store x u i g found Yield said = (
+      gives_right (least l.held (word_bound p)) refl,
+      (store, (subst (λ z. Accesses p z store x) (sym i) g, found), said),
+    )
 
     load_in_right : (addr size : ℕ) (vol : Bool) → a.next l.state ≡ Load addr size vol → can_access p addr size ≡ true → (o : Option ℕ)
         → blocker t false (word_of addr) m ≡ o → In (load_in a p answer t m l b kk ss addr size o)
@@ -276,10 +389,11 @@ module _ {S : Type 0} (R : S → Type 0) (a : Thread S) (laws : Lawful S R a) (p
         (answer (clash_of t false (word_of addr) m b u)) refl
     load_in_right addr size vol i ok None e =
         let r = Loaded (read_at addr size (m.memory (word_of addr))) in
-        let g = read_fits addr size (m.memory (word_of addr)) in
-        (within _ (a.after l.state r) ss (update l.held (word_of addr) true) l.wrote refl refl refl (reached_by (Load addr size vol) i r g)
-            (depth_by (Load addr size vol) i refl r g ∙ f.1) f.2 (taken_bounded addr size ok) (λ y j. update_true l.held (word_of addr) y (here.holds y j)),
-            tt)
+        let g = read_fits addr size (m.memory (word_of addr)) in (
+          within _ (a.after l.state r) ss (update l.held (word_of addr) true) l.wrote refl refl refl (reached_by (Load addr size vol) i r g)
+              (depth_by (Load addr size vol) i refl r g ∙ f.1) f.2 (taken_bounded addr size ok) (λ y j. update_true l.held (word_of addr) y (here.holds y j)),
+          tt,
+        )
 
     store_in_right : (addr size value : ℕ) (vol : Bool) → a.next l.state ≡ Store addr size value vol → can_access p addr size ≡ true → (o : Option ℕ)
         → blocker t true (word_of addr) m ≡ o → In (store_in a p answer t m l b kk ss addr size value o)
@@ -291,15 +405,18 @@ module _ {S : Type 0} (R : S → Type 0) (a : Thread S) (laws : Lawful S R a) (p
           within _ (a.after l.state Nothing) (note ss x v) (update l.held x true) (update l.wrote x true) refl refl refl
               (reached_by (Store addr size value vol) i Nothing refl)
               (depth_by (Store addr size value vol) i refl Nothing refl ∙ (f.1 ∙ sym (note_length ss x v))) (note_some ss x v f.2) (taken_bounded addr size ok)
-              (λ y j. elim (y == x) as (λ q. cond q true (l.wrote y) ≡ true → cond q true (l.held y) ≡ true) [ true ↦ λ k. refl
-                  | false ↦ λ k. here.holds y k ] j),
+              (λ y j. elim (y == x) as (λ q. cond q true (l.wrote y) ≡ true → cond q true (l.held y) ≡ true) [
+                | true ↦ λ k. refl
+                | false ↦ λ k. here.holds y k
+              ] j),
           tt,
         )
 
     outermost_right : (s' : S) → R s' → atomics (a.blocks s') ≡ 0 → In (outermost p t m l s' b)
-    outermost_right s' reached depth =
-        (closed_sound _ s' l.held l.wrote b (ap has_tx tx) (ap birth tx) (λ x i. i) here.holds reached depth (least l.held (word_bound p)) refl refl refl refl,
-        tt)
+    outermost_right s' reached depth = (
+      closed_sound _ s' l.held l.wrote b (ap has_tx tx) (ap birth tx) (λ x i. i) here.holds reached depth (least l.held (word_bound p)) refl refl refl refl,
+      tt,
+    )
 
     less_one : (c d : ℕ) → suc c ≡ d → d ≡ suc zero → c ≡ zero
     less_one c d e g = omega (arith, e, g)
@@ -315,9 +432,10 @@ module _ {S : Type 0} (R : S → Type 0) (a : Thread S) (laws : Lawful S R a) (p
 
     cancels_right : (s' : S) → R s' → a.next l.state ≡ Raise Cancel true → suc (atomics (a.blocks s')) ≡ atomics (a.blocks l.state)
         → (n : Save) (ts : List Save) → ss ≡ (n ∷ ts) → (o : Option ℕ) → least (is_noted n) (word_bound p) ≡ o → In (cancels_by p t m l s' b kk n ts o)
-    cancels_right s' reached is depth n ts e (Some x) found =
-        (within _ l.state (forget n x ∷ ts) l.held l.wrote refl refl refl here.reached (f.1 ∙ ap length e) refl here.bounded here.holds,
-        (is, subst (λ z. NewestNotes p z x) (sym e) found))
+    cancels_right s' reached is depth n ts e (Some x) found = (
+      within _ l.state (forget n x ∷ ts) l.held l.wrote refl refl refl here.reached (f.1 ∙ ap length e) refl here.bounded here.holds,
+      (is, subst (λ z. NewestNotes p z x) (sym e) found),
+    )
     cancels_right s' reached is depth n [] e None found = outermost_right s' reached (less_one _ _ depth (f.1 ∙ ap length e))
     cancels_right s' reached is depth n (o ∷ ts) e None found =
         (within _ s' (o ∷ ts) l.held l.wrote refl refl refl reached (less_more _ _ _ depth (f.1 ∙ ap length e)) refl here.bounded here.holds, tt)
@@ -352,9 +470,11 @@ module _ {S : Type 0} (R : S → Type 0) (a : Thread S) (laws : Lawful S R a) (p
         (λ no. still_in _ refl refl refl)
     in_right (Store addr size value vol) i = either_in (can_access p addr size) _ _
         (λ ok. store_in_right addr size value vol i ok (blocker t true (word_of addr) m) refl) (λ no. still_in _ refl refl refl)
-    in_right (BeginAtomic kind) i =
-        (within _ (a.after l.state Nothing) (no_save ∷ ss) l.held l.wrote refl refl refl (reached_by (BeginAtomic kind) i Nothing refl)
-        (ap atomics (blocks_by (BeginAtomic kind) i Nothing refl) ∙ ap suc f.1) refl here.bounded here.holds, tt)
+    in_right (BeginAtomic kind) i = (
+      within _ (a.after l.state Nothing) (no_save ∷ ss) l.held l.wrote refl refl refl (reached_by (BeginAtomic kind) i Nothing refl)
+          (ap atomics (blocks_by (BeginAtomic kind) i Nothing refl) ∙ ap suc f.1) refl here.bounded here.holds,
+      tt,
+    )
     in_right EndAtomic i = commits_right (a.after l.state Nothing) (reached_by EndAtomic i Nothing refl)
         (depth_less EndAtomic i (comes EndAtomic i) refl refl) ss refl
     in_right (Raise kind can) i = raises_right kind can i
@@ -385,8 +505,10 @@ module _ {S : Type 0} (R : S → Type 0) (a : Thread S) (laws : Lawful S R a) (p
           (record {
             reached = here.reached;
             bounded = λ z i. here.bounded z (kept_of l.held f.1.0 z i);
-            holds = λ z i. elim (z == f.1.0) as (λ q. cond q false (l.wrote z) ≡ true → cond q false (l.held z) ≡ true) [ true ↦ λ j. j
-                | false ↦ λ j. here.holds z j ] i;
+            holds = λ z i. elim (z == f.1.0) as (λ q. cond q false (l.wrote z) ≡ true → cond q false (l.held z) ≡ true) [
+              | true ↦ λ j. j
+              | false ↦ λ j. here.holds z j
+            ] i;
             tx = (f.0, (y, e));
           })
 
@@ -394,10 +516,14 @@ module _ {S : Type 0} (R : S → Type 0) (a : Thread S) (laws : Lawful S R a) (p
       → Right answer (Closing b) (lets_go p t m l b (least l.held (word_bound p)))
   go_right answer b tx f =
       let x = f.1.0 in
-      subst (λ o. Right answer (Closing b) (lets_go p t m l b o)) (sym f.1.1)
-      (closed_sound _ l.state (without l.held x) (without l.wrote x) b (ap has_tx tx) (ap birth tx) (kept_of x)
-          (λ z i. elim (z == x) as (λ q. cond q false (l.wrote z) ≡ true → cond q false (l.held z) ≡ true) [ true ↦ λ j. j
-          | false ↦ λ j. here.holds z j ] i) here.reached f.0 (least (without l.held x) (word_bound p)) refl refl refl refl, f.1.1)
+      subst (λ o. Right answer (Closing b) (lets_go p t m l b o)) (sym f.1.1) (
+        closed_sound _ l.state (without l.held x) (without l.wrote x) b (ap has_tx tx) (ap birth tx) (kept_of x)
+            (λ z i. elim (z == x) as (λ q. cond q false (l.wrote z) ≡ true → cond q false (l.held z) ≡ true) [
+              | true ↦ λ j. j
+              | false ↦ λ j. here.holds z j
+            ] i) here.reached f.0 (least (without l.held x) (word_bound p)) refl refl refl refl,
+        f.1.1,
+      )
     where
       kept_of : (x y : ℕ) → without l.held x y ≡ true → l.held y ≡ true
       kept_of x y i = elim (y == x) as (λ q. cond q false (l.held y) ≡ true → l.held y ≡ true) [ true ↦ λ j. absurd (false≢true j) | false ↦ λ j. j ] i
@@ -417,8 +543,10 @@ module _ {S : Type 0} (R : S → Type 0) (a : Thread S) (laws : Lawful S R a) (p
   sound_thread : (answer : Clash → Choice) (t : ℕ) (m : Machine S) → Sound R a p m → (o : Option (Local S)) → m.threads t ≡ o
       → Sound R a p (turn_of a p answer t m o).machine
   sound_thread answer t m h None e = h
-  sound_thread answer t m h (Some l) e = elim l.ended as (λ c. Sound R a p (cond c (stays Idle m) (turn_in a p answer t m l l.tx)).machine) [ true ↦ h
-      | false ↦ (kind_right answer t m l h e).0 ]
+  sound_thread answer t m h (Some l) e = elim l.ended as (λ c. Sound R a p (cond c (stays Idle m) (turn_in a p answer t m l l.tx)).machine) [
+    | true ↦ h
+    | false ↦ (kind_right answer t m l h e).0
+  ]
 
   sound_end : (answer : Clash → Choice) (t : ℕ) (m : Machine S) → Sound R a p m → (o : Option End) → Sound R a p (turn_at a p answer t m o).machine
   sound_end answer t m h None = sound_thread answer t m h (m.threads t) refl
@@ -439,8 +567,12 @@ module _ {S : Type 0} (R : S → Type 0) (a : Thread S) (laws : Lawful S R a) (p
     distinct = λ v u d i j k. true≢false (sym i ∙ no_tx v);
   } where
     first_sound : (u : ℕ) → SoundThread R a p (first_thread main u)
-    first_sound zero = record { reached = reached; bounded = λ x i. absurd (false≢true i); holds = λ x i. absurd (false≢true i);
-        tx = (ap atomics none, λ x. refl) }
+    first_sound zero = record {
+      reached = reached;
+      bounded = λ x i. absurd (false≢true i);
+      holds = λ x i. absurd (false≢true i);
+      tx = (ap atomics none, λ x. refl);
+    }
     first_sound (suc u) = tt
 
     first_none : (u : ℕ) → 1 ≤ u → first_thread main u ≡ None

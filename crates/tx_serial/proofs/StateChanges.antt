@@ -8,8 +8,22 @@ use Rattle.tx_events.specs.declared.Trap.TheVariants.{BadAddress, TooManyThreads
 use Rattle.tx_events.specs.declared.BlockKind.{BlockKind}
 use Rattle.tx_events.specs.declared.BlockKind.TheVariants.{NoExcept, Commit, Cancel}
 use Rattle.tx_events.specs.declared.Event.{Event}
-use Rattle.tx_events.specs.declared.Event.TheVariants.{Silent, Load, Store, Out, Inp, Spawn, Join, BeginAtomic, EndAtomic, Raise, BeginSync, EndSync, Done,
-  Stop}
+use Rattle.tx_events.specs.declared.Event.TheVariants.{
+  Silent,
+  Load,
+  Store,
+  Out,
+  Inp,
+  Spawn,
+  Join,
+  BeginAtomic,
+  EndAtomic,
+  Raise,
+  BeginSync,
+  EndSync,
+  Done,
+  Stop,
+}
 use Rattle.tx_events.specs.declared.Reply.{Reply}
 use Rattle.tx_events.specs.declared.Reply.TheVariants.{Nothing, Loaded, Byte, Id}
 use Rattle.tx_events.specs.declared.TurnKind.{TurnKind}
@@ -20,10 +34,56 @@ use Rattle.choosers.specs.declared.Choice.TheVariants.{Wait, Yield}
 use Rattle.tx_events.specs.Thread.{Thread}
 use Rattle.tx_events.specs.Memory.{update, MemoryLayout, can_access, word_of, word_bound, load}
 use Rattle.tx_events.specs.World.{target, byte_of}
-use Rattle.tx_serial.specs.Machine.{Machine, Local, Tx, NoTx, OpenTx, GivingUp, Closing, Save, no_save, lock_owner, clash_of, hand, note, forget, blocker,
-  busy, least, is_noted}
-use Rattle.tx_serial.specs.Turn.{Turned, number_of, bare, clashes, gives_up, closes, without, halts, load_in, store_in, load_out, store_out, joins, begins,
-  sync_in, sync_idle, outermost, commits, cancels_by, cancels, raises, in_does, out_does, lets_go, turn_in, turn_of, turn_at, turn}
+use Rattle.tx_serial.specs.Machine.{
+  Machine,
+  Local,
+  Tx,
+  NoTx,
+  OpenTx,
+  GivingUp,
+  Closing,
+  Save,
+  no_save,
+  lock_owner,
+  clash_of,
+  hand,
+  note,
+  forget,
+  blocker,
+  busy,
+  least,
+  is_noted,
+}
+use Rattle.tx_serial.specs.Turn.{
+  Turned,
+  number_of,
+  bare,
+  clashes,
+  gives_up,
+  closes,
+  without,
+  halts,
+  load_in,
+  store_in,
+  load_out,
+  store_out,
+  joins,
+  begins,
+  sync_in,
+  sync_idle,
+  outermost,
+  commits,
+  cancels_by,
+  cancels,
+  raises,
+  in_does,
+  out_does,
+  lets_go,
+  turn_in,
+  turn_of,
+  turn_at,
+  turn,
+}
 use Rattle.tx_serial.specs.Bound.{is_waiting}
 use Rattle.tx_serial.proofs.PendingWork.{is_giving}
 use Rattle.tx_events.proofs.BlockRuns.{update_same}
@@ -102,9 +162,13 @@ module _ {S : Type 0} (a : Thread S) (p : MemoryLayout) (t : ℕ) (m : Machine S
   out_moves BeginSync = sync_moves (lock_owner t m.lock.holder)
   out_moves EndSync = λ h. plain Nothing l.ended
   out_moves (Spawn g x) = either (nat_lt m.started p.limit) _ _
-      (λ h. record { now = record l { state = a.after l.state (Id (pos m.started)) };
-          at = update_same (update m.threads m.started (Some (bare (a.child l.state m.started g x)))) t
-          (Some (record l { state = a.after l.state (Id (pos m.started)) })); state = (Id (pos m.started), refl); giving = λ w. calm })
+      (λ h. record {
+        now = record l { state = a.after l.state (Id (pos m.started)) };
+        at = update_same (update m.threads m.started (Some (bare (a.child l.state m.started g x)))) t
+            (Some (record l { state = a.after l.state (Id (pos m.started)) }));
+        state = (Id (pos m.started), refl);
+        giving = λ w. calm;
+      })
       (over (Trapped TooManyThreads))
   out_moves (Join id) = join_moves id (target t id m.threads)
   out_moves (Out c) = λ h. plain Nothing l.ended

@@ -50,4 +50,4 @@ module _ {S : Type 0} (a : Thread S) (p : MemoryLayout) where
   run_place bound first slots result going run =
       ap is_some run.place
       ∙ at_place bound (length slots) (advances a p slots (not_begun first))
-          (has_place slots (not_begun first) (λ e ends. absurd (none-some e (sym going ∙ ends))) run.going) result.end run.stops
+      (has_place slots (not_begun first) (λ e ends. absurd (none-some e (sym going ∙ ends))) run.going) result.end run.stops

@@ -57,7 +57,7 @@ module _ {S : Type 0} (R : S → Type 0) (a : Thread S) (laws : Lawful S R a) (p
           (lone_turn a p now (erase_local pd.now) (subst Lone same (lone_erased pd.lone)) answer (ap (λ m. m.threads 0) (sym same) ∙ ap erase_opt pd.at)
           (λ j. quiet R a laws p small memory input main reached free steps accesses order v e h k f last
           (shown R a laws p small memory input main reached free steps accesses order v e h k f qs) (ap (λ m. m.end) same ∙ i) pd.now pd.at
-              (bare_tx pd.now.tx j))).1
+          (bare_tx pd.now.tx j))).1
 
       other : Paid R a laws p small last (zeros qs) → (t == 0) ≡ false → is_waiting (turn_of a p answer t now (now.threads t)).kind ≡ false
       other pd d = ap (λ o. is_waiting (turn_of a p answer t now o).kind) (ap (λ m. m.threads t) (sym same) ∙ ap erase_opt (pd.lone.fresh t d))

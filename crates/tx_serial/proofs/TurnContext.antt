@@ -6,14 +6,43 @@ use Rattle.tx_events.specs.declared.End.{End}
 use Rattle.tx_events.specs.declared.BlockKind.{BlockKind}
 use Rattle.tx_events.specs.declared.BlockKind.TheVariants.{NoExcept, Commit, Cancel}
 use Rattle.tx_events.specs.declared.Event.{Event}
-use Rattle.tx_events.specs.declared.Event.TheVariants.{Silent, Load, Store, Out, Inp, Spawn, Join, BeginAtomic, EndAtomic, Raise, BeginSync, EndSync, Done,
-  Stop}
+use Rattle.tx_events.specs.declared.Event.TheVariants.{
+  Silent,
+  Load,
+  Store,
+  Out,
+  Inp,
+  Spawn,
+  Join,
+  BeginAtomic,
+  EndAtomic,
+  Raise,
+  BeginSync,
+  EndSync,
+  Done,
+  Stop,
+}
 use Rattle.tx_events.specs.Thread.{Thread}
 use Rattle.tx_events.specs.Memory.{update, MemoryLayout, can_access, word_bound}
 use Rattle.tx_events.specs.Alone.{BlockStep, Goes, Leaves, Halts, Never, is_over, Inner, Inside, at_start, goes_on, inner_by, leave, raise, newest, begin}
 use Rattle.tx_events.specs.World.{Alive, alive, World, lock_free, holder_free, Step, Replays, EventStep, BlockEffect, SilentSteps, ends}
-use Rattle.tx_serial.specs.Machine.{Machine, Local, OpenTx, Save, no_save, held_by, wrote_by, is_live, live_in, conflicts_with, blocker, busy, birth_of, least,
-  eldest}
+use Rattle.tx_serial.specs.Machine.{
+  Machine,
+  Local,
+  OpenTx,
+  Save,
+  no_save,
+  held_by,
+  wrote_by,
+  is_live,
+  live_in,
+  conflicts_with,
+  blocker,
+  busy,
+  birth_of,
+  least,
+  eldest,
+}
 use Rattle.tx_serial.specs.Turn.{Turned, halts}
 use Rattle.tx_serial.specs.Shows.{cancelling, LevelsAt, Began, InBlock, ShowsLocal, ShowsThread}
 use Rattle.tx_serial.proofs.WorldAgreement.{undoes, Going, Agreed}
@@ -135,7 +164,7 @@ module _ {S : Type 0} (a : Thread S) (p : MemoryLayout) where
         → cond store (held_by (m.threads u) x) (wrote_by (m.threads u) x) ≡ false
     not_kept_off store x e u d =
         let q = searched (conflicts_with t store x m.threads) (λ v. birth_of (m.threads v)) e
-            (λ v n. let i = n in elim store as (λ b. (not (v == t) && cond b (held_by (m.threads v) x) (wrote_by (m.threads v) x)) ≡ false) [
+        (λ v n. let i = n in elim store as (λ b. (not (v == t) && cond b (held_by (m.threads v) x) (wrote_by (m.threads v) x)) ≡ false) [
           | true ↦ ap (λ o. not (v == t) && held_by o x) n ∙ and_false (not (v == t))
           | false ↦ ap (λ o. not (v == t) && wrote_by o x) n ∙ and_false (not (v == t))
         ]) u in
@@ -163,8 +192,14 @@ module _ {S : Type 0} (a : Thread S) (p : MemoryLayout) where
 
     pub out_step : (v : World S) (e : Event) → w.end ≡ None → SilentSteps a k.s.state l.state → a.next l.state ≡ e → EventStep a p t w l.state e v
         → Step a p t w v
-    out_step v e going f is d = record { going = going; from = k.s.state; before = l.state; is = at_alive; silents = f;
-        does = subst (λ z. EventStep a p t w l.state z v) (sym is) d }
+    out_step v e going f is d = record {
+      going = going;
+      from = k.s.state;
+      before = l.state;
+      is = at_alive;
+      silents = f;
+      does = subst (λ z. EventStep a p t w l.state z v) (sym is) d;
+    }
 
     pub in_step : (v : World S) (e : Event) (b : ℕ) (kk : S) (ss : List Save) → w.end ≡ None → l.tx ≡ OpenTx b kk ss
         → (f : InBlock a p m.memory w.memory k.s.state l kk ss) → a.next l.state ≡ e → BlockEffect t w (inner_by a p f.inner e) v → Step a p t w v

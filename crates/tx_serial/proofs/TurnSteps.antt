@@ -1,6 +1,31 @@
 -- What a turn executes, which births it draws, and that it leaves other threads as they are.
-use Rattle.std.proofs.Common.{ℕ, ℤ, pos, ◌≡◌, ◌==◌, ◌<◌, ◌+◌, inl, inr, Bool, true, false, cond, refl, ap, sym, subst, ◌∙◌, List, [], ◌∷◌, Option, Some, None,
-  arith}
+use Rattle.std.proofs.Common.{
+  ℕ,
+  ℤ,
+  pos,
+  ◌≡◌,
+  ◌==◌,
+  ◌<◌,
+  ◌+◌,
+  inl,
+  inr,
+  Bool,
+  true,
+  false,
+  cond,
+  refl,
+  ap,
+  sym,
+  subst,
+  ◌∙◌,
+  List,
+  [],
+  ◌∷◌,
+  Option,
+  Some,
+  None,
+  arith,
+}
 use Rattle.std.specs.Prelude.{nat_lt, ◌&&◌, ◌⊎◌}
 use Rattle.std.proofs.lemmas.Bool.{false≢true, ne_eqb, and_parts}
 use Rattle.std.proofs.lemmas.Option.{none-some, same_Some}
@@ -10,8 +35,22 @@ use Rattle.tx_events.specs.declared.Trap.TheVariants.{BadAddress, TooManyThreads
 use Rattle.tx_events.specs.declared.BlockKind.{BlockKind}
 use Rattle.tx_events.specs.declared.BlockKind.TheVariants.{NoExcept, Commit, Cancel}
 use Rattle.tx_events.specs.declared.Event.{Event}
-use Rattle.tx_events.specs.declared.Event.TheVariants.{Silent, Load, Store, Out, Inp, Spawn, Join, BeginAtomic, EndAtomic, Raise, BeginSync, EndSync, Done,
-  Stop}
+use Rattle.tx_events.specs.declared.Event.TheVariants.{
+  Silent,
+  Load,
+  Store,
+  Out,
+  Inp,
+  Spawn,
+  Join,
+  BeginAtomic,
+  EndAtomic,
+  Raise,
+  BeginSync,
+  EndSync,
+  Done,
+  Stop,
+}
 use Rattle.tx_events.specs.declared.Reply.{Reply}
 use Rattle.tx_events.specs.declared.Reply.TheVariants.{Nothing, Loaded, Byte, Id}
 use Rattle.tx_events.specs.declared.TurnKind.{TurnKind}
@@ -22,11 +61,66 @@ use Rattle.choosers.specs.declared.Choice.TheVariants.{Wait, Yield}
 use Rattle.tx_events.specs.Thread.{Thread, is_own_end}
 use Rattle.tx_events.specs.Memory.{update, MemoryLayout, can_access, word_of, word_bound, load}
 use Rattle.tx_events.specs.World.{target, byte_of}
-use Rattle.tx_serial.specs.Machine.{Machine, Local, Tx, NoTx, OpenTx, GivingUp, Closing, Save, no_save, lock_owner, clash_of, hand, note, forget, forget_all,
-  blocker, busy, least, is_noted, birth_of, no_waits, wait_more}
-use Rattle.tx_serial.specs.Turn.{Turned, ran, steps, stays, waited, order_gains, number_of, bare, clashes, gives_up, given_back, closes, without, halts,
-  load_in, store_in, load_out, store_out, joins, begins, sync_in, sync_idle, spawns, outermost, commits, cancels_by, cancels, raises, in_does, out_does,
-  lets_go, gives_back, turn_in, turn}
+use Rattle.tx_serial.specs.Machine.{
+  Machine,
+  Local,
+  Tx,
+  NoTx,
+  OpenTx,
+  GivingUp,
+  Closing,
+  Save,
+  no_save,
+  lock_owner,
+  clash_of,
+  hand,
+  note,
+  forget,
+  forget_all,
+  blocker,
+  busy,
+  least,
+  is_noted,
+  birth_of,
+  no_waits,
+  wait_more,
+}
+use Rattle.tx_serial.specs.Turn.{
+  Turned,
+  ran,
+  steps,
+  stays,
+  waited,
+  order_gains,
+  number_of,
+  bare,
+  clashes,
+  gives_up,
+  given_back,
+  closes,
+  without,
+  halts,
+  load_in,
+  store_in,
+  load_out,
+  store_out,
+  joins,
+  begins,
+  sync_in,
+  sync_idle,
+  spawns,
+  outermost,
+  commits,
+  cancels_by,
+  cancels,
+  raises,
+  in_does,
+  out_does,
+  lets_go,
+  gives_back,
+  turn_in,
+  turn,
+}
 use Rattle.tx_serial.specs.Kinds.{is_ran, GoesOn}
 use Rattle.tx_serial.specs.Steps.{reply_of, is_begin, draws, births_after, waits_after, Executes}
 use Rattle.tx_serial.proofs.KindConditions.{turn_is}
@@ -187,15 +281,22 @@ module _ {S : Type 0} (a : Thread S) (p : MemoryLayout) (t : ℕ) (m : Machine S
         → Row false (Load addr size vol) (load_in a p answer t m l b kk ss addr size o)
     load_in_row answer addr size vol (Some u) = clash_row (Load addr size vol) (answer (clash_of t false (word_of addr) m b u)) (word_of addr) u
     load_in_row answer addr size vol None = step (Load addr size vol)
-        (record l { state = a.after l.state (Loaded (load m.memory addr size)); held = update l.held (word_of addr) true;
-        tx = OpenTx b kk ss }) _ refl refl refl refl refl
+        (record l {
+          state = a.after l.state (Loaded (load m.memory addr size));
+          held = update l.held (word_of addr) true;
+          tx = OpenTx b kk ss;
+        }) _ refl refl refl refl refl
 
     store_in_row : (answer : Clash → Choice) (addr size value : ℕ) (vol : Bool) (o : Option ℕ)
         → Row false (Store addr size value vol) (store_in a p answer t m l b kk ss addr size value o)
     store_in_row answer addr size value vol (Some u) = clash_row (Store addr size value vol) (answer (clash_of t true (word_of addr) m b u)) (word_of addr) u
     store_in_row answer addr size value vol None = step (Store addr size value vol)
-        (record l { state = a.after l.state Nothing; held = update l.held (word_of addr) true; wrote = update l.wrote (word_of addr) true;
-        tx = OpenTx b kk (note ss (word_of addr) (m.memory (word_of addr))) }) _ refl refl refl refl refl
+        (record l {
+          state = a.after l.state Nothing;
+          held = update l.held (word_of addr) true;
+          wrote = update l.wrote (word_of addr) true;
+          tx = OpenTx b kk (note ss (word_of addr) (m.memory (word_of addr)));
+        }) _ refl refl refl refl refl
 
     -- leaving a block, where the event is answered by nothing
     module _ (event : Event) (nothing : reply_of m event ≡ Nothing) where
@@ -254,8 +355,12 @@ module _ {S : Type 0} (a : Thread S) (p : MemoryLayout) (t : ℕ) (m : Machine S
   go_row : (event : Event) (b : ℕ) (o : Option ℕ) → Row false event (lets_go p t m l b o)
   go_row event b None = still Idle false event _ refl refl refl refl refl (λ v n. refl)
   go_row event b (Some x) = change (Released x) event
-      (record l { held = without l.held x; wrote = without l.wrote x; tx = closes b
-      (least (without l.held x) (word_bound p)) }) _ refl refl refl refl refl refl
+      (record l {
+        held = without l.held x;
+        wrote = without l.wrote x;
+        tx = closes b
+            (least (without l.held x) (word_bound p));
+      }) _ refl refl refl refl refl refl
 
   abbrev at_begin : Tx S → Bool
   at_begin NoTx = is_begin (a.next l.state)
@@ -284,7 +389,7 @@ module _ {S : Type 0} (a : Thread S) (p : MemoryLayout) (t : ℕ) (m : Machine S
       → is_ran (turn_in a p answer t m l tx).kind ≡ true → birth_of ((turn_in a p answer t m l tx).machine.threads t) ≡ m.births
   drawn_birth answer tx (BeginAtomic kind) none next h k =
       let is : turn_in a p answer t m l tx ≡ begins t m l (a.after l.state Nothing) (lock_owner t m.lock.holder) = ap (turn_in a p answer t m l) none
-          ∙ ap (out_does a p t m l) next in
+      ∙ ap (out_does a p t m l) next in
       subst (λ r. birth_of (r.machine.threads t) ≡ m.births) (sym is) (by_lock (lock_owner t m.lock.holder) (sym (ap (λ r. is_ran r.kind) is) ∙ k))
     where
       by_lock : (o : Option ℕ) → is_ran (begins t m l (a.after l.state Nothing) o).kind ≡ true

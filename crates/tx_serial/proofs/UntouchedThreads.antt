@@ -38,9 +38,11 @@ module _ {S : Type 0} (a : Thread S) (p : MemoryLayout) where
             let same = sym (outside x e) in
             elim (f.agrees x e) as (λ z. (run.0.memory x ≡ n x) ⊎ ((cancelling (a.next l.state) ≡ true) × (newest run.0.copies run.0.memory x ≡ n x))) [
               | inl h ↦ inl (sym (run.2.memory x same) ∙ (h ∙ sym (memory x e)))
-              | inr h ↦ inr
-                  (h.0, sym (newest_both o q f.inner.memory run.0.memory f.inner.copies run.0.copies run.2.copies run.2.memory x same)
-                  ∙ (h.1 ∙ sym (memory x e)))
+              | inr h ↦ inr (
+                h.0,
+                sym (newest_both o q f.inner.memory run.0.memory f.inner.copies run.0.copies run.2.copies run.2.memory x same)
+                    ∙ (h.1 ∙ sym (memory x e)),
+              )
             ];
         levels = λ x e. subst (λ v. LevelsAt x v ss run.0.copies) (sym (memory x e))
             (levels_both o q x (m x) ss f.inner.copies run.0.copies (sym (outside x e)) run.2.copies (f.levels x e));

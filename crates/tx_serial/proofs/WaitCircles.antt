@@ -9,13 +9,44 @@ use Rattle.choosers.specs.Answers.{is_older, answer, Older}
 use Rattle.tx_events.specs.declared.TheConstants.{THREAD_LIMIT}
 use Rattle.tx_events.specs.declared.End.{End}
 use Rattle.tx_events.specs.declared.Event.{Event}
-use Rattle.tx_events.specs.declared.Event.TheVariants.{Silent, Load, Store, Out, Inp, Spawn, Join, BeginAtomic, EndAtomic, Raise, BeginSync, EndSync, Done,
-  Stop}
+use Rattle.tx_events.specs.declared.Event.TheVariants.{
+  Silent,
+  Load,
+  Store,
+  Out,
+  Inp,
+  Spawn,
+  Join,
+  BeginAtomic,
+  EndAtomic,
+  Raise,
+  BeginSync,
+  EndSync,
+  Done,
+  Stop,
+}
 use Rattle.tx_events.specs.declared.TurnKind.TheVariants.{Waited, Rolled, Idle}
 use Rattle.tx_events.specs.Thread.{Thread, Lawful}
 use Rattle.tx_events.specs.Memory.{MemoryLayout}
-use Rattle.tx_serial.specs.Machine.{Machine, Local, Tx, NoTx, OpenTx, GivingUp, Closing, Save, held_by, wrote_by, has_tx, tx_in, birth, birth_of,
-  conflicts_with, blocker, clash_of}
+use Rattle.tx_serial.specs.Machine.{
+  Machine,
+  Local,
+  Tx,
+  NoTx,
+  OpenTx,
+  GivingUp,
+  Closing,
+  Save,
+  held_by,
+  wrote_by,
+  has_tx,
+  tx_in,
+  birth,
+  birth_of,
+  conflicts_with,
+  blocker,
+  clash_of,
+}
 use Rattle.tx_serial.specs.Turn.{stays, turn, turn_at, turn_of, turn_in}
 use Rattle.tx_serial.specs.Sound.{SoundTx, SoundThread, Sound}
 use Rattle.tx_serial.specs.Kinds.{Accesses, KindIn, KindBy, GoesOn, Asked, is_idle}
@@ -28,8 +59,10 @@ use Rattle.tx_serial.proofs.SoundKept.{kind_of_turn}
 keeps_other : {S : Type 0} (t : ℕ) (store : Bool) (x : ℕ) (threads : ℕ → Option (Local S)) (u : ℕ) → conflicts_with t store x threads u ≡ true
     → (u == t) ≡ false
 keeps_other t store x threads u h = elim (u == t) as
-    (λ b. (not b && cond store (held_by (threads u) x) (wrote_by (threads u) x)) ≡ true → b ≡ false) [ true ↦ λ i. absurd (false≢true i)
-    | false ↦ λ i. refl ] h
+    (λ b. (not b && cond store (held_by (threads u) x) (wrote_by (threads u) x)) ≡ true → b ≡ false) [
+      | true ↦ λ i. absurd (false≢true i)
+      | false ↦ λ i. refl
+    ] h
 
 keeps_word : {S : Type 0} (t : ℕ) (store : Bool) (x : ℕ) (threads : ℕ → Option (Local S)) (u : ℕ) → conflicts_with t store x threads u ≡ true
     → cond store (held_by (threads u) x) (wrote_by (threads u) x) ≡ true
@@ -126,15 +159,26 @@ module _ {S : Type 0} (R : S → Type 0) (a : Thread S) (p : MemoryLayout) (m : 
       own_tx = ap tx_in goes.is ∙ ap has_tx tx
 
       asked_at : (store : Bool) (x u : ℕ) → Accesses p (a.next l.state) store x → blocker t store x m ≡ Some u → Asked a p t m (clash_of t store x m b u)
-      asked_at store x u g found = record { local = l; goes = goes; birth = b; kept = k; saves = ss; tx = tx; store = store; word = x; holder = u;
-          blocked = (g, found); is = refl }
+      asked_at store x u g found = record {
+        local = l;
+        goes = goes;
+        birth = b;
+        kept = k;
+        saves = ss;
+        tx = tx;
+        store = store;
+        word = x;
+        holder = u;
+        blocked = (g, found);
+        is = refl;
+      }
 
       -- a Waited turn: its birth is less than that of every blocking transaction
       waited_less : (x u : ℕ) → KindIn a p answer t m l b ss (Waited x u) → (v : ℕ) → Blocks a p m t v x → b < birth_of (m.threads v)
       waited_less x u kind v g =
           let same : g.local ≡ l = one_local (sym g.goes.is ∙ goes.is) in
           let store : kind.0 ≡ g.store = same_store p (a.next l.state) kind.0 g.store x x kind.1.0
-              (subst (λ z. Accesses p (a.next z.state) g.store x) same g.access) in
+          (subst (λ z. Accesses p (a.next z.state) g.store x) same g.access) in
           let off = subst (λ z. conflicts_with t z x m.threads v ≡ true) (sym store) g.off in
           let c = clash_of t kind.0 x m b u in
           let less = waits_less c (answer c) (rule c (asked_at kind.0 x u kind.1.0 kind.1.1)) kind.2 in
@@ -151,7 +195,7 @@ module _ {S : Type 0} (R : S → Type 0) (a : Thread S) (p : MemoryLayout) (m : 
           let le = yields_more c (answer c) (rule c (asked_at kind.0 x u kind.1.0 kind.1.1)) kind.2 in
           let off = found_off t x u kind.0 kind.1.1 in
           let apart : birth_of (m.threads u) ≢ b = λ q. h.distinct t u (keeps_other t kind.0 x m.threads u off) own_tx (off_tx t u x kind.0 off)
-              (own_birth ∙ sym q) in
+          (own_birth ∙ sym q) in
           omega (arith, le, apart)
 
     -- a thread that goes on, and takes a Waited or a Rolled turn in a transaction, has an open one
@@ -168,7 +212,7 @@ module _ {S : Type 0} (R : S → Type 0) (a : Thread S) (p : MemoryLayout) (m : 
           (subst (λ z. KindBy a p answer t m l (Closing b) z) is (subst (λ z. KindBy a p answer t m l z (turn a p answer t m).kind) e kind_is))
       waited_open x u is (OpenTx b k ss) e i v g =
           let less = waited_less t rule l goes b k ss e x u
-              (subst (λ z. KindBy a p answer t m l (OpenTx b k ss) z) is (subst (λ z. KindBy a p answer t m l z (turn a p answer t m).kind) e kind_is)) v g in
+          (subst (λ z. KindBy a p answer t m l (OpenTx b k ss) z) is (subst (λ z. KindBy a p answer t m l z (turn a p answer t m).kind) e kind_is)) v g in
           subst (λ z. z < birth_of (m.threads v)) (sym (own_birth t rule l goes b k ss e)) less
 
       pub waited_tx : (x u : ℕ) → (turn a p answer t m).kind ≡ Waited x u → tx_in (m.threads t) ≡ true → (v : ℕ) → Blocks a p m t v x
@@ -184,8 +228,7 @@ module _ {S : Type 0} (R : S → Type 0) (a : Thread S) (p : MemoryLayout) (m : 
       rolled_open x u is (Closing b) e = absurd
           (subst (λ z. KindBy a p answer t m l (Closing b) z) is (subst (λ z. KindBy a p answer t m l z (turn a p answer t m).kind) e kind_is))
       rolled_open x u is (OpenTx b k ss) e =
-          let kind = subst (λ z. KindBy a p answer t m l (OpenTx b k ss) z) is (subst (λ z. KindBy a p answer t m l z (turn a p answer t m).kind) e kind_is) in
-              (
+          let kind = subst (λ z. KindBy a p answer t m l (OpenTx b k ss) z) is (subst (λ z. KindBy a p answer t m l z (turn a p answer t m).kind) e kind_is) in (
             subst (λ z. birth_of (m.threads u) < z) (sym (own_birth t rule l goes b k ss e)) (rolled_more t rule l goes b k ss e x u kind),
             own_tx t rule l goes b k ss e,
             record { local = l; goes = goes; store = kind.0; access = kind.1.0; off = found_off t x u kind.0 kind.1.1 },
@@ -276,5 +319,7 @@ module _ {S : Type 0} (R : S → Type 0) (a : Thread S) (p : MemoryLayout) (m : 
 
 -- the policy `older` answers by its rule
 pub older_answers : (c : Clash) → is_older c (answer Older c) ≡ true
-older_answers c = elim (nat_lt c.mine c.least) as (λ b. nat_lt c.mine c.least ≡ b → is_older c (if b then Wait else Yield) ≡ true) [ true ↦ λ e. e
-    | false ↦ λ e. ap not e ] refl
+older_answers c = elim (nat_lt c.mine c.least) as (λ b. nat_lt c.mine c.least ≡ b → is_older c (if b then Wait else Yield) ≡ true) [
+  | true ↦ λ e. e
+  | false ↦ λ e. ap not e
+] refl

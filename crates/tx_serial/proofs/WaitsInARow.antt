@@ -8,8 +8,22 @@ use Rattle.choosers.specs.declared.Choice.{Choice}
 use Rattle.tx_events.specs.declared.TheConstants.{THREAD_LIMIT}
 use Rattle.tx_events.specs.declared.End.{End}
 use Rattle.tx_events.specs.declared.Event.{Event}
-use Rattle.tx_events.specs.declared.Event.TheVariants.{Silent, Load, Store, Out, Inp, Spawn, Join, BeginAtomic, EndAtomic, Raise, BeginSync, EndSync, Done,
-  Stop}
+use Rattle.tx_events.specs.declared.Event.TheVariants.{
+  Silent,
+  Load,
+  Store,
+  Out,
+  Inp,
+  Spawn,
+  Join,
+  BeginAtomic,
+  EndAtomic,
+  Raise,
+  BeginSync,
+  EndSync,
+  Done,
+  Stop,
+}
 use Rattle.tx_events.specs.declared.TurnKind.{TurnKind}
 use Rattle.tx_events.specs.declared.TurnKind.TheVariants.{Ran, Waited, BlockWait, JoinWait, Rolled, Undone, Released, Idle}
 use Rattle.tx_events.specs.Thread.{Thread, Lawful}
@@ -44,7 +58,7 @@ one_more ws y c x b n h = by_same ((y == x) && (c == b)) refl
     by_same true e =
         let both = and_parts (y == x) (c == b) e in
         let here : waits_at ws y c ≡ min (n x b) most_waits = h y c
-            ∙ (ap (λ z. min (n z c) most_waits) (eqb-true y x both.0) ∙ ap (λ z. min (n x z) most_waits) (eqb-true c b both.1)) in
+        ∙ (ap (λ z. min (n z c) most_waits) (eqb-true y x both.0) ∙ ap (λ z. min (n x z) most_waits) (eqb-true c b both.1)) in
         omega (arith, here)
 
 module _ {S : Type 0} (a : Thread S) (p : MemoryLayout) (answer : Clash → Choice) (t : ℕ) (m : Machine S) (l : Local S) where
@@ -85,7 +99,7 @@ module _ {S : Type 0} (a : Thread S) (p : MemoryLayout) (answer : Clash → Choi
   -- the waits of the thread itself
   own : (n : ℕ → ℕ → ℕ) → ((x b : ℕ) → waits_at (m.waits t) x b ≡ min (n x b) most_waits) → (is_access (a.next l.state) ≡ false → m.waits t ≡ no_waits)
       → (k : TurnKind) → KindBy a p answer t m l l.tx k → (x b : ℕ) → waits_at (waits_after m t k) x b
-          ≡ min (row_after k (least_birth m k) x b (n x b)) most_waits
+      ≡ min (row_after k (least_birth m k) x b (n x b)) most_waits
   own n h rest (Waited y u) by x b = one_more (m.waits t) y (birth_of (m.threads u)) x b n h
   own n h rest Ran by x b = no_waits_at x b
   own n h rest (Rolled y u) by x b = no_waits_at x b
@@ -112,23 +126,23 @@ module _ {S : Type 0} (R : S → Type 0) (a : Thread S) (laws : Lawful S R a) (p
       where
         by_same : (s : Bool) → (u == t) ≡ s → waits_at ((turn a p answer t m).machine.waits u) x b
             ≡ min (cond (t == u) (row_after (turn a p answer t m).kind (least_birth m (turn a p answer t m).kind) x b (waits_in_a_row u x b past))
-                (waits_in_a_row u x b past)) most_waits
+            (waits_in_a_row u x b past)) most_waits
         by_same false e =
             ap (λ w. waits_at w x b) (steps.waits_stay a p answer t m l on u e)
             ∙ (h on.going u x b
-                ∙ ap (λ c. min
-                (cond c (row_after (turn a p answer t m).kind (least_birth m (turn a p answer t m).kind) x b (waits_in_a_row u x b past))
-                (waits_in_a_row u x b past)) most_waits) (sym (ne_eqb t u (λ i. eqb-false u t e (sym i)))))
+            ∙ ap (λ c. min
+            (cond c (row_after (turn a p answer t m).kind (least_birth m (turn a p answer t m).kind) x b (waits_in_a_row u x b past))
+            (waits_in_a_row u x b past)) most_waits) (sym (ne_eqb t u (λ i. eqb-false u t e (sym i)))))
         by_same true e =
             let kind = (turn a p answer t m).kind in
             subst (λ v. waits_at ((turn a p answer t m).machine.waits v) x b ≡ min
-                (cond (t == v) (row_after kind (least_birth m kind) x b (waits_in_a_row v x b past)) (waits_in_a_row v x b past)) most_waits)
-                (sym (eqb-true u t e))
+            (cond (t == v) (row_after kind (least_birth m kind) x b (waits_in_a_row v x b past)) (waits_in_a_row v x b past)) most_waits)
+            (sym (eqb-true u t e))
             (ap (λ w. waits_at w x b) (steps.waits_counted a p answer t m l on still)
             ∙ (own a p answer t m l (λ y c. waits_in_a_row t y c past) (λ y c. h on.going t y c) (subst (λ o. RestsAt a o (m.waits t)) on.is (rests t)) kind
-                (kind_of_turn R a laws p small answer t m l sound on) x b
+            (kind_of_turn R a laws p small answer t m l sound on) x b
             ∙ ap (λ c. min (cond c (row_after kind (least_birth m kind) x b (waits_in_a_row t x b past)) (waits_in_a_row t x b past)) most_waits)
-                (sym (eq-eqb t t refl))))
+            (sym (eq-eqb t t refl))))
 
     counted : Counted (turn a p answer t m).machine
         (record { thread = t; kind = (turn a p answer t m).kind; least = least_birth m (turn a p answer t m).kind } ∷ past)
@@ -161,7 +175,7 @@ module _ {S : Type 0} (R : S → Type 0) (a : Thread S) (laws : Lawful S R a) (p
       let done = turn a p q.answer q.thread m in
       waits_counted qs done.machine (record { thread = q.thread; kind = done.kind; least = least_birth m done.kind } ∷ past)
       (turn_sound R a laws p small q.answer q.thread m sound) (turn_rests R a laws p small q.answer q.thread m sound rests)
-          (counted q.answer q.thread m past sound rests h)
+      (counted q.answer q.thread m past sound rests h)
 
   pub none_counted : (m : Machine S) → m.waits ≡ (λ _. no_waits) → Counted m []
   none_counted m e going u x b = ap (λ w. waits_at (w u) x b) e ∙ no_waits_at x b

@@ -1,6 +1,30 @@
 -- The worked runs. What a search over all addresses finds is proved, and the rest is computed.
-use Rattle.std.proofs.Common.{ℕ, zero, suc, ◌≡◌, ◌==◌, ◌<◌, ◌≤◌, lit<, inl, inr, Bool, true, false, refl, ap, sym, ◌∙◌, List, [], ◌∷◌, Option, Some, None,
-  arith}
+use Rattle.std.proofs.Common.{
+  ℕ,
+  zero,
+  suc,
+  ◌≡◌,
+  ◌==◌,
+  ◌<◌,
+  ◌≤◌,
+  lit<,
+  inl,
+  inr,
+  Bool,
+  true,
+  false,
+  refl,
+  ap,
+  sym,
+  ◌∙◌,
+  List,
+  [],
+  ◌∷◌,
+  Option,
+  Some,
+  None,
+  arith,
+}
 use Rattle.std.proofs.lemmas.Bool.{eqb-true, true≢false, cases_lt}
 use Rattle.tx_events.specs.declared.Event.{Event}
 use Rattle.tx_events.specs.declared.Event.TheVariants.{Store, EndAtomic, Done}
@@ -174,8 +198,13 @@ abbrev save : Save
 save = update no_save 65544 (Some 0)
 
 abbrev one : Local (List Event)
-one = record { state = Store 65536 8 4 false ∷ EndAtomic ∷ Done ∷ []; ended = false; held = update nothing 65544 true; wrote = update nothing 65544 true;
-    tx = OpenTx 1 kept (save ∷ []) }
+one = record {
+  state = Store 65536 8 4 false ∷ EndAtomic ∷ Done ∷ [];
+  ended = false;
+  held = update nothing 65544 true;
+  wrote = update nothing 65544 true;
+  tx = OpenTx 1 kept (save ∷ []);
+}
 
 abbrev giving : Local (List Event)
 giving = record one { tx = GivingUp 1 kept (save ∷ []) }
@@ -220,8 +249,10 @@ undone : takes 1 after_7 ≡ record { machine = after_8; kind = Undone 65544 }
 unfolding word_of merge can_access is_mapped is_aligned
 undone =
     ap (λ o. gives_back two_words 1 after_7 giving 1 kept (save ∷ []) o) younger_held
-    ∙ ap (λ o. record { machine = record (steps 1 after_7 (given_back giving 1 kept (save ∷ []) 65544 o)) { memory = update after_7.memory 65544 0 };
-        kind = Undone 65544 }) younger_bare
+    ∙ ap (λ o. record {
+      machine = record (steps 1 after_7 (given_back giving 1 kept (save ∷ []) 65544 o)) { memory = update after_7.memory 65544 0 };
+      kind = Undone 65544;
+    }) younger_bare
 
 ended : takes 0 after_9 ≡ record { machine = after_10; kind = Ran }
 unfolding word_of merge can_access is_mapped is_aligned

@@ -79,8 +79,12 @@ first_live main (suc u) = refl
 
 first_shown : {S : Type 0} (a : Thread S) (p : MemoryLayout) (memory : ℕ → ℕ) (main : S) (u : ℕ)
     → ShowsThread a p memory memory (first_thread main u) (only_first main u)
-first_shown a p memory main zero = record { ended = refl; holds = λ x h. absurd (false≢true h); bounded = λ x h. absurd (false≢true h);
-    tx = (none, λ x. refl) }
+first_shown a p memory main zero = record {
+  ended = refl;
+  holds = λ x h. absurd (false≢true h);
+  bounded = λ x h. absurd (false≢true h);
+  tx = (none, λ x. refl);
+}
 first_shown a p memory main (suc u) = tt
 
 pub start_shown : {S : Type 0} (a : Thread S) (p : MemoryLayout) (memory : ℕ → ℕ) (input : List ℕ) (main : S)

@@ -1,8 +1,22 @@
 -- The trace of an order: what a replay of it in the indivisible world reads, writes, enters, leaves, starts and joins.
 use Rattle.std.specs.Prelude.{ℕ, ℤ, ◌≡◌, Bool, true, false, nat_lt, List, [], ◌∷◌, ◌++◌, Option, Some, None}
 use Rattle.tx_events.specs.declared.Event.{Event}
-use Rattle.tx_events.specs.declared.Event.TheVariants.{Silent, Load, Store, Out, Inp, Spawn, Join, BeginAtomic, EndAtomic, Raise, BeginSync, EndSync, Done,
-  Stop}
+use Rattle.tx_events.specs.declared.Event.TheVariants.{
+  Silent,
+  Load,
+  Store,
+  Out,
+  Inp,
+  Spawn,
+  Join,
+  BeginAtomic,
+  EndAtomic,
+  Raise,
+  BeginSync,
+  EndSync,
+  Done,
+  Stop,
+}
 use Rattle.tx_events.specs.declared.Item.{Item}
 use Rattle.tx_events.specs.declared.What.{What}
 use Rattle.tx_events.specs.declared.What.TheVariants.{Read, Write, Enter, Leave, Spawned, Joined}

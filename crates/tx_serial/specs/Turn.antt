@@ -9,16 +9,54 @@ use Rattle.tx_events.specs.declared.Trap.TheVariants.{BadAddress, TooManyThreads
 use Rattle.tx_events.specs.declared.End.{End}
 use Rattle.tx_events.specs.declared.End.TheVariants.{Abort, Trapped}
 use Rattle.tx_events.specs.declared.Event.{Event}
-use Rattle.tx_events.specs.declared.Event.TheVariants.{Silent, Load, Store, Out, Inp, Spawn, Join, BeginAtomic, EndAtomic, Raise, BeginSync, EndSync, Done,
-  Stop}
+use Rattle.tx_events.specs.declared.Event.TheVariants.{
+  Silent,
+  Load,
+  Store,
+  Out,
+  Inp,
+  Spawn,
+  Join,
+  BeginAtomic,
+  EndAtomic,
+  Raise,
+  BeginSync,
+  EndSync,
+  Done,
+  Stop,
+}
 use Rattle.tx_events.specs.declared.Reply.TheVariants.{Nothing, Loaded, Byte, Id}
 use Rattle.tx_events.specs.declared.TurnKind.{TurnKind}
 use Rattle.tx_events.specs.declared.TurnKind.TheVariants.{Ran, Waited, BlockWait, JoinWait, Rolled, Undone, Released, Idle}
 use Rattle.tx_events.specs.Thread.{Thread}
 use Rattle.tx_events.specs.Memory.{update, MemoryLayout, can_access, word_of, word_bound, load, store}
 use Rattle.tx_events.specs.World.{lock_in, lock_out, target, byte_of, input_after}
-use Rattle.tx_serial.specs.Machine.{Save, Tx, NoTx, OpenTx, GivingUp, Closing, Local, Machine, least, birth_of, blocker, lock_owner, busy, no_waits, wait_more,
-  clash_of, kept_or, oldest, forget, forget_all, hand, note, no_save, is_noted}
+use Rattle.tx_serial.specs.Machine.{
+  Save,
+  Tx,
+  NoTx,
+  OpenTx,
+  GivingUp,
+  Closing,
+  Local,
+  Machine,
+  least,
+  birth_of,
+  blocker,
+  lock_owner,
+  busy,
+  no_waits,
+  wait_more,
+  clash_of,
+  kept_or,
+  oldest,
+  forget,
+  forget_all,
+  hand,
+  note,
+  no_save,
+  is_noted,
+}
 
 -- What a turn leads to: the machine after it, and its kind.
 pub record Turned (S : Type 0) : Type 0 where
@@ -276,5 +314,15 @@ first_thread s (suc n) = None
 
 -- The machine at the start: thread 0 alone, and nothing held.
 abbrev pub first_machine : {S : Type 0} → (ℕ → ℕ) → List ℕ → S → Machine S
-first_machine memory input main = record { memory = memory; threads = first_thread main; started = 1; lock = record { holder = None; depth = 0 }; births = 0;
-    waits = λ _. no_waits; out = []; input = input; order = []; end = None }
+first_machine memory input main = record {
+  memory = memory;
+  threads = first_thread main;
+  started = 1;
+  lock = record { holder = None; depth = 0 };
+  births = 0;
+  waits = λ _. no_waits;
+  out = [];
+  input = input;
+  order = [];
+  end = None;
+}

@@ -17,24 +17,21 @@ use tx_events::Actor;
 /// `64 * n + 64` instructions with `n` accesses need `66 * n + 64` turns. No turn on the way is Waited, Rolled, BlockWait
 /// or JoinWait, whatever the policy would answer.
 pub fn turn_bound<A: Actor>()
-    ensures ends
-        { (p : MemoryLayout) (memory : ℕ → ℕ) (input : List ℕ) (main : A.State) (instructions accesses : ℕ) (order : List ℕ) (v : World (A.State × Tally))
+    ensures ends { (p : MemoryLayout) (memory : ℕ → ℕ) (input : List ℕ) (main : A.State) (instructions accesses : ℕ) (order : List ℕ) (v : World (A.State × Tally))
         (e : End) (slots : List Slot) →
         p.limit ≤ THREAD_LIMIT → A.is_reached main → A.thread.blocks main ≡ [] →
         (run : Replays (tallied A.thread) p (first_world memory input (main, no_tally)) order v) →
         AtMost A.thread p instructions accesses (first_world memory input (main, no_tally)) order v run → v.end ≡ Some e →
         instructions + 2 * accesses ≤ zeros slots →
         ((turns A.thread p slots (first_machine memory input main)).end ≡ Some e) × ((turns A.thread p slots (first_machine memory input main)).out ≡ v.out) }
-    ensures units
-        { (p : MemoryLayout) (memory : ℕ → ℕ) (input : List ℕ) (main : A.State) (n : ℕ) (order : List ℕ) (v : World (A.State × Tally)) (e : End)
+    ensures units { (p : MemoryLayout) (memory : ℕ → ℕ) (input : List ℕ) (main : A.State) (n : ℕ) (order : List ℕ) (v : World (A.State × Tally)) (e : End)
         (slots : List Slot) →
         p.limit ≤ THREAD_LIMIT → A.is_reached main → A.thread.blocks main ≡ [] →
         (run : Replays (tallied A.thread) p (first_world memory input (main, no_tally)) order v) →
         AtMost A.thread p (64 * n + 64) n (first_world memory input (main, no_tally)) order v run → v.end ≡ Some e →
         66 * n + 64 ≤ zeros slots →
         ((turns A.thread p slots (first_machine memory input main)).end ≡ Some e) × ((turns A.thread p slots (first_machine memory input main)).out ≡ v.out) }
-    ensures never_waits
-        { (p : MemoryLayout) (memory : ℕ → ℕ) (input : List ℕ) (main : A.State) (instructions accesses : ℕ) (order : List ℕ) (v : World (A.State × Tally))
+    ensures never_waits { (p : MemoryLayout) (memory : ℕ → ℕ) (input : List ℕ) (main : A.State) (instructions accesses : ℕ) (order : List ℕ) (v : World (A.State × Tally))
         (e : End) (slots : List Slot) →
         p.limit ≤ THREAD_LIMIT → A.is_reached main → A.thread.blocks main ≡ [] →
         (run : Replays (tallied A.thread) p (first_world memory input (main, no_tally)) order v) →

@@ -22,14 +22,13 @@ pub fn one_run<A: Actor>()
         ((seen : Seen) (before : Option ℕ) → seen.turn < bound → is_some (pick seen before) ≡ true) →
         (slots : List Slot) × (result : Outcome A.State) ×
         RunOf A.thread p bound first slots result × AnsweredBy (is_answer answer) A.thread p slots (not_begun first)
-            × PickedBy pick A.thread p slots (not_begun first) }
-    ensures unique
-        { (p : MemoryLayout) (bound : ℕ) (first : Machine A.State) (pick : Seen → Option ℕ → Option ℕ) (answer : Clash → Choice) (slots others : List Slot)
+        × PickedBy pick A.thread p slots (not_begun first) }
+    ensures unique { (p : MemoryLayout) (bound : ℕ) (first : Machine A.State) (pick : Seen → Option ℕ → Option ℕ) (answer : Clash → Choice) (slots others : List Slot)
         (result another : Outcome A.State) →
         RunOf A.thread p bound first slots result → AnsweredBy (is_answer answer) A.thread p slots (not_begun first)
-            → PickedBy pick A.thread p slots (not_begun first) →
+        → PickedBy pick A.thread p slots (not_begun first) →
         RunOf A.thread p bound first others another → AnsweredBy (is_answer answer) A.thread p others (not_begun first)
-            → PickedBy pick A.thread p others (not_begun first) →
+        → PickedBy pick A.thread p others (not_begun first) →
         another ≡ result }
 {}
 
@@ -39,7 +38,7 @@ pub fn named_pickers_run<A: Actor>()
     ensures { (p : MemoryLayout) (bound : ℕ) (first : Machine A.State) (name : PickerName) (answer : Clash → Choice) →
         (slots : List Slot) × (result : Outcome A.State) ×
         RunOf A.thread p (turns_within bound name) first slots result × AnsweredBy (is_answer answer) A.thread p slots (not_begun first)
-            × PickedBy (λ seen before. pick name seen.turn seen before) A.thread p slots (not_begun first) }
+        × PickedBy (λ seen before. pick name seen.turn seen before) A.thread p slots (not_begun first) }
 {}
 
 /// Each turn is counted once.

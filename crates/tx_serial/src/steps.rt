@@ -59,7 +59,7 @@ pub fn waits_are_in_a_row<A: Actor>()
         p.limit ≤ THREAD_LIMIT → A.is_reached main → A.thread.blocks main ≡ [] →
         (turns A.thread p slots (first_machine memory input main)).end ≡ None →
         waits_at ((turns A.thread p slots (first_machine memory input main)).waits t) word least
-            ≡ min (waits_in_a_row t word least (past_after A.thread p slots (first_machine memory input main) [])) most_waits }
+        ≡ min (waits_in_a_row t word least (past_after A.thread p slots (first_machine memory input main) [])) most_waits }
 {}
 
 /// The turn that ends the program changes no thread: each stands where it stood before.

@@ -13,12 +13,12 @@ returns-clause-sound g c = λ p memory input main slots small reached free.
 pub returns-clause-apart : goal.returns-clause-apart
 returns-clause-apart g c = λ p memory input main slots goes.
     ((turns_kept g.A.Actor.thread p (first_world memory input main) slots (first_machine memory input main)
-        (start_shown g.A.Actor.thread p memory input main)).2.going goes).apart
+    (start_shown g.A.Actor.thread p memory input main)).2.going goes).apart
 
 pub returns-clause-alone : goal.returns-clause-alone
 returns-clause-alone g c = λ p memory input main slots goes.
     ((turns_kept g.A.Actor.thread p (first_world memory input main) slots (first_machine memory input main)
-        (start_shown g.A.Actor.thread p memory input main)).2.going goes).alone
+    (start_shown g.A.Actor.thread p memory input main)).2.going goes).alone
 
 pub returns-clause-rests : goal.returns-clause-rests
 returns-clause-rests g c = λ p memory input main slots small reached free.
