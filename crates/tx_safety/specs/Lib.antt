@@ -1,0 +1,4 @@
+pub mod Volatile
+pub mod Unsafe
+pub mod Safe
+pub mod Marks
