@@ -1,3 +1,5 @@
 pub mod Nodes
 pub mod Trees
 pub mod ClassMarks
+pub mod FuncMarks
+pub mod Contents

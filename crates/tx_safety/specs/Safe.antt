@@ -1,5 +1,5 @@
 -- Which functions are safe at which places of their unit, and the first unsafe node of a program (the TS, [dcl.fct.def.tx], [class.virtual]).
-use Rattle.std.specs.Prelude.{◌≡◌, ℕ, zero, suc, ◌==◌, nat_lt, nat_le, Bool, true, false, not, ◌&&◌, ◌||◌, List, [], ◌∷◌, ◌++◌, map, filter, fold, length, slice_get, Option, Some, None, is_some, cond}
+use Rattle.std.specs.Prelude.{◌≡◌, ℕ, zero, suc, ◌+◌, ◌==◌, nat_lt, nat_le, Bool, true, false, not, ◌&&◌, ◌||◌, List, [], ◌∷◌, ◌++◌, fold, length, slice_get, Option, Some, None, is_some, cond}
 use Rattle.std.specs.List.{list_all, flat_map}
 use Rattle.cpp_types.specs.Class.{Class}
 use Rattle.cpp_types.specs.declared.classes.At.{At}
@@ -12,7 +12,7 @@ use Rattle.cpp_tree.specs.Units.{Func, Unit as TypedUnit, TypedProgram}
 use Rattle.tx_safety.specs.declared.finding.Finding.{Finding}
 use Rattle.tx_safety.specs.declared.finding.CallSite.{CallSite}
 use Rattle.tx_safety.specs.Volatile.{has_volatile_part}
-use Rattle.tx_safety.specs.Unsafe.{own_findings, calls_of}
+use Rattle.tx_safety.specs.Unsafe.{where_so, own_findings, calls_of}
 
 -- Safe functions: four ways to be one
 
@@ -66,11 +66,11 @@ unit_end = 4294967295
 abbrev pub is_allowed : (may : ℕ → ℕ → Bool) → (n : ℕ) → CallSite → Bool
 is_allowed may n site = may (cond (site.func == n) unit_end site.at.offset) site.func
 
-abbrev pub unsafe_call : CallSite → Finding
-unsafe_call site = record { at = site.at; reason = CallsUnsafe }
+abbrev pub call_finding : (may : ℕ → ℕ → Bool) → (n : ℕ) → CallSite → List Finding
+call_finding may n site = where_so (not (is_allowed may n site)) site.at CallsUnsafe
 
 abbrev pub call_findings : (may : ℕ → ℕ → Bool) → (n : ℕ) → List CallSite → List Finding
-call_findings may n calls = map unsafe_call (filter (λ (site : CallSite). not (is_allowed may n site)) calls)
+call_findings may n calls = flat_map (call_finding may n) calls
 
 abbrev pub func_findings : (volatile : ℕ → Bool) → (may : ℕ → ℕ → Bool) → (n : ℕ) → Func → List Finding
 func_findings volatile may n f = own_findings volatile (is_promised f) f ++ call_findings may n (calls_of (is_promised f) f)
@@ -78,7 +78,7 @@ func_findings volatile may n f = own_findings volatile (is_promised f) f ++ call
 -- those of the functions from an index on
 abbrev pub funcs_findings : (volatile : ℕ → Bool) → (may : ℕ → ℕ → Bool) → (n : ℕ) → List Func → List Finding
 funcs_findings volatile may n [] = []
-funcs_findings volatile may n (f ∷ fs) = func_findings volatile may n f ++ funcs_findings volatile may (suc n) fs
+funcs_findings volatile may n (f ∷ fs) = func_findings volatile may n f ++ funcs_findings volatile may (n + 1) fs
 
 abbrev pub unit_findings : (volatile : ℕ → Bool) → TypedUnit → List Finding
 unit_findings volatile u = funcs_findings volatile (safe volatile u.funcs) 0 u.funcs

@@ -1,6 +1,6 @@
 // What stands in the definitions of functions.
 
-ghost use Rattle.std.specs.Prelude.{◌≡◌, [], None, IfOk, fold, map, true};
+ghost use Rattle.std.specs.Prelude.{◌≡◌, [], IfOk, fold, map};
 ghost use Rattle.std.specs.List.{flat_map};
 ghost use Rattle.cpp_tree.specs.Arena.{IsOrdered, trees_of};
 ghost use Rattle.cpp_tree.specs.Rows.{is_constructor};
@@ -50,11 +50,11 @@ fn with_params(params: &[TParam], volatile: &[bool], found: Option<Finding>) -> 
 }
 
 // What a function's declaration alone is unsafe for.
-fn head_finding(func: &TFunc, volatile: &[bool]) -> Option<Finding>
-    ensures { result ≡ fold sooner None (head_findings (marked volatile.now) (func_of [] func.now)) }
+fn with_head(func: &TFunc, volatile: &[bool], found: Option<Finding>) -> Option<Finding>
+    ensures { result ≡ fold sooner found (head_findings (marked volatile.now) (func_of [] func.now)) }
 {
     let found = noted(
-        None,
+        found,
         is_volatile_constructor(func, volatile),
         func.rec.at,
         UnsafeReason::VolatileWrite,
@@ -63,31 +63,38 @@ fn head_finding(func: &TFunc, volatile: &[bool]) -> Option<Finding>
 }
 
 // The same, where all of the definition counts.
-fn counted_head(func: &TFunc, volatile: &[bool], whole: bool) -> Option<Finding>
-    ensures { result ≡ fold sooner None (counted whole (head_findings (marked volatile.now) (func_of [] func.now))) }
+fn with_counted_head(
+    func: &TFunc,
+    volatile: &[bool],
+    whole: bool,
+    found: Option<Finding>,
+) -> Option<Finding>
+    ensures { result ≡ fold sooner found (counted whole (head_findings (marked volatile.now) (func_of [] func.now))) }
 {
     if whole {
-        head_finding(func, volatile)
+        with_head(func, volatile, found)
     } else {
-        None
+        found
     }
 }
 
-/// What stands in a function's definition: all of it, or only its atomic blocks.
+/// What stands in a function's definition: all of it, or only its atomic blocks; the first unsafe node is that of these
+/// and what was found before.
 pub(crate) fn contents_of(
     alloc: Global,
     nodes: &[TNode],
     volatile: &[bool],
     func: &TFunc,
     whole: bool,
+    found: Option<Finding>,
 ) -> Result<Contents, AllocError>
     requires ordered { IsOrdered nodes.now }
     requires root { HasRoot nodes.now func.now }
-    ensures first { IfOk result (λ c. c.first ≡ fold sooner None (own_findings (marked volatile.now) whole (func_of (trees_of nodes.now) func.now))) }
+    ensures first { IfOk result (λ c. c.first ≡ fold sooner found (own_findings (marked volatile.now) whole (func_of (trees_of nodes.now) func.now))) }
     ensures calls { IfOk result (λ c. c.calls.items ≡ calls_of whole (func_of (trees_of nodes.now) func.now)) }
 {
     let mut contents = Contents {
-        first: counted_head(func, volatile, whole),
+        first: with_counted_head(func, volatile, whole, found),
         calls: Vec::new(alloc),
     };
     match func.body {

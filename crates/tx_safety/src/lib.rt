@@ -10,6 +10,7 @@
 pub mod finding;
 mod classes;
 mod definition;
+mod marks;
 mod table;
 mod volatility;
 mod walk;
