@@ -1,17 +1,20 @@
 -- What holds of the marks that rounds over a list of classes, or of functions, set.
 use Rattle.std.specs.Prelude.{◌≡◌, ℕ, ◌<◌, ◌≤◌, ◌==◌, nat_le, max, Bool, true, false, not, ◌&&◌, ◌||◌, List, length, get_or, slice_get, slice_set, fold, count_by, Option, Some, None, is_some, option_map, option_and_then, cond}
 use Rattle.std.specs.List.{list_all}
+use Rattle.std.specs.Global.{Vec}
 use Rattle.cpp_types.specs.Class.{Class}
 use Rattle.cpp_tree.specs.declared.arena.TNode.{TNode}
 use Rattle.cpp_tree.specs.declared.arena.TNodeId.{TNodeId}
 use Rattle.cpp_tree.specs.declared.program.TFunc.{TFunc}
 use Rattle.cpp_tree.specs.Typing.{passes}
+use Rattle.cpp_tree.specs.declared.program.UnitTree.{UnitTree}
 use Rattle.cpp_tree.specs.Trees.{Tree}
-use Rattle.cpp_tree.specs.Units.{Func, func_of}
+use Rattle.cpp_tree.specs.Arena.{IsOrdered}
+use Rattle.cpp_tree.specs.Units.{Func, func_of, unit_of}
 use Rattle.tx_safety.specs.declared.finding.CallSite.{CallSite}
 use Rattle.tx_safety.specs.declared.walk.Contents.{Contents}
 use Rattle.tx_safety.specs.Unsafe.{own_findings, calls_of}
-use Rattle.tx_safety.specs.Safe.{is_promised, is_empty, safe_within, sooner}
+use Rattle.tx_safety.specs.Safe.{is_promised, is_empty, safe_within, safe, sooner}
 use Rattle.tx_safety.specs.Volatile.{marked, has_volatile_part_by, volatile_within}
 
 abbrev pub count_marked : List Bool → ℕ
@@ -96,3 +99,14 @@ pub record AreContents (volatile : ℕ → Bool) (trees : List Tree) (funcs : Li
 -- the bodies of all functions stand in the list
 pub record HaveRoots (nodes : List TNode) (funcs : List TFunc) : Type 0 where
   pub each : (n : ℕ) (f : TFunc) → slice_get funcs n ≡ Some f → HasRoot nodes f
+
+-- Units
+
+pub record AreReadable (units : List UnitTree) : Type 0 where
+  pub ordered : (i : ℕ) (u : UnitTree) → slice_get units i ≡ Some u → IsOrdered u.nodes.items
+  pub roots : (i : ℕ) (u : UnitTree) → slice_get units i ≡ Some u → HaveRoots u.nodes.items u.funcs.items
+
+-- the marks of each of the first units tell which functions are safe there
+pub record AreUnitMarks (volatile : ℕ → Bool) (units : List UnitTree) (all : List (Vec (Option ℕ))) : Type 0 where
+  pub each : (i : ℕ) (u : UnitTree) (marks : Vec (Option ℕ)) → slice_get units i ≡ Some u → slice_get all i ≡ Some marks
+    → (place n : ℕ) → may_from marks.items place n ≡ safe volatile (unit_of u).funcs place n

@@ -106,3 +106,7 @@ first_unsafe p = fold sooner None (program_findings p)
 -- whether a function is safe in its unit
 unfoldable pub is_safe : TypedProgram → (unit n : ℕ) → Bool
 is_safe p unit n = passes (λ (u : TypedUnit). safe (has_volatile_part p.classes) u.funcs unit_end n) (slice_get p.units unit)
+
+-- what the check answers, apart from want of memory
+abbrev pub FirstUnsafe : TypedProgram → At → UnsafeReason → Type 0
+FirstUnsafe p at reason = first_unsafe p ≡ Some (record { at = at; reason = reason })

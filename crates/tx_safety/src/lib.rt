@@ -7,12 +7,19 @@
 //! "The TS" is ISO/IEC TS 19841:2015.
 #![tactic(auto)]
 
+pub mod fault;
 pub mod finding;
+pub mod checking;
 mod classes;
 mod definition;
+mod findings;
 mod marks;
+pub mod safe_program;
 mod table;
 mod volatility;
 mod walk;
 
+pub use checking::check;
+pub use fault::SafetyFault;
 pub use finding::{CallSite, Finding};
+pub use safe_program::SafeProgram;
