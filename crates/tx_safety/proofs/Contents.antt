@@ -8,11 +8,12 @@ use Rattle.std.proofs.lemmas.Option.{slice_get_read, slice_get-map, slice_get_wi
 use Rattle.cpp_tree.specs.declared.program.TFunc.{TFunc}
 use Rattle.cpp_tree.specs.Trees.{Tree}
 use Rattle.cpp_tree.specs.Units.{Func, func_of}
-use Rattle.tx_safety.specs.declared.finding.Finding.{Finding}
-use Rattle.tx_safety.specs.declared.finding.CallSite.{CallSite}
-use Rattle.tx_safety.specs.declared.walk.Contents.{Contents}
-use Rattle.tx_safety.specs.Unsafe.{own_findings, calls_of}
-use Rattle.tx_safety.specs.Safe.{is_promised, is_empty, is_before, sooner}
+use Rattle.tx_unsafe.specs.declared.finding.Finding.{Finding}
+use Rattle.tx_unsafe.specs.declared.finding.CallSite.{CallSite}
+use Rattle.tx_unsafe.specs.declared.walk.Contents.{Contents}
+use Rattle.tx_unsafe.specs.Unsafe.{own_findings, calls_of}
+use Rattle.tx_safety.specs.Safe.{is_promised, is_empty}
+use Rattle.tx_unsafe.specs.First.{is_before, sooner}
 use Rattle.tx_safety.specs.Marks.{mark_at, is_marked_call, latest, mark_by, mark_of, new_mark_of, new_mark, IsContents, AreContents}
 
 pub slice_get_front : {A : Type 0} (xs ys : List A) (n : ℕ) → n < length xs → slice_get (xs ++ ys) n ≡ slice_get xs n

@@ -11,10 +11,11 @@ use Rattle.std.proofs.lemmas.List.Sums.{fold-append}
 use Rattle.cpp_tree.specs.declared.program.TFunc.{TFunc}
 use Rattle.cpp_tree.specs.Trees.{Tree}
 use Rattle.cpp_tree.specs.Units.{Func, func_of, unit_of, Unit as TypedUnit}
-use Rattle.tx_safety.specs.declared.finding.Finding.{Finding}
-use Rattle.tx_safety.specs.declared.finding.CallSite.{CallSite}
-use Rattle.tx_safety.specs.Unsafe.{own_findings, calls_of}
-use Rattle.tx_safety.specs.Safe.{is_promised, sooner, call_findings, func_findings, funcs_findings, safe, unit_findings}
+use Rattle.tx_unsafe.specs.declared.finding.Finding.{Finding}
+use Rattle.tx_unsafe.specs.declared.finding.CallSite.{CallSite}
+use Rattle.tx_unsafe.specs.Unsafe.{own_findings, calls_of}
+use Rattle.tx_safety.specs.Safe.{is_promised, call_findings, func_findings, funcs_findings, safe, unit_findings}
+use Rattle.tx_unsafe.specs.First.{sooner}
 use Rattle.tx_safety.specs.Marks.{may_from, AreUnitMarks}
 use Rattle.tx_safety.proofs.Contents.{slice_get_front, slice_get_last}
 

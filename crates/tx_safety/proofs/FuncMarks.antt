@@ -10,11 +10,11 @@ use Rattle.std.proofs.lemmas.List.{length-set, get_or-set_same, get_or-set_other
 use Rattle.std.proofs.lemmas.List.Sums.{count_by-le-length, sum_by-set}
 use Rattle.cpp_tree.specs.Typing.{passes}
 use Rattle.cpp_tree.specs.Units.{Func}
-use Rattle.tx_safety.specs.declared.finding.CallSite.{CallSite}
-use Rattle.tx_safety.specs.Unsafe.{own_findings, calls_of}
+use Rattle.tx_unsafe.specs.declared.finding.CallSite.{CallSite}
+use Rattle.tx_unsafe.specs.Unsafe.{own_findings, calls_of}
 use Rattle.tx_safety.specs.Safe.{is_promised, is_passed, judged_at, may_call, is_empty, has_safe_definition, is_safe_by, safe_within, safe}
 use Rattle.tx_safety.specs.Marks.{mark_at, may_from, is_marked_call, later, latest, mark_by, mark_of, new_mark_of, new_mark, with_mark, count_marks, SoundMarks, ClosedMarks}
-use Rattle.tx_safety.proofs.ClassMarks.{split_and, or_more, passes_more, passes_within, same_bool, zero_if}
+use Rattle.tx_unsafe.proofs.ClassMarks.{split_and, or_more, passes_more, passes_within, same_bool, zero_if}
 
 -- Lists of tests
 

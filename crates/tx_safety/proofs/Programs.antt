@@ -12,9 +12,10 @@ use Rattle.cpp_tree.specs.declared.program.UnitTree.{UnitTree}
 use Rattle.cpp_tree.specs.Typing.{passes}
 use Rattle.cpp_tree.specs.Units.{Unit as TypedUnit, unit_of, program_of}
 use Rattle.cpp_tree.specs.WellFormed.{WellFormed}
-use Rattle.tx_safety.specs.declared.finding.Finding.{Finding}
-use Rattle.tx_safety.specs.Volatile.{has_volatile_part, marked}
-use Rattle.tx_safety.specs.Safe.{is_empty, sooner, safe, unit_end, unit_findings, program_findings, IsSafe, first_unsafe, is_safe}
+use Rattle.tx_unsafe.specs.declared.finding.Finding.{Finding}
+use Rattle.tx_unsafe.specs.Volatile.{has_volatile_part, marked}
+use Rattle.tx_safety.specs.Safe.{is_empty, safe, unit_end, unit_findings, program_findings, IsSafe, first_unsafe, is_safe}
+use Rattle.tx_unsafe.specs.First.{sooner}
 use Rattle.tx_safety.specs.Marks.{may_from, AreReadable, AreUnitMarks}
 use Rattle.tx_safety.specs.Checked.{IsChecked}
 use Rattle.tx_safety.proofs.Contents.{none_first}

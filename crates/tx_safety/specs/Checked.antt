@@ -3,7 +3,7 @@ use Rattle.std.specs.Prelude.{◌≡◌, ℕ, true, List, length, Option}
 use Rattle.std.specs.Global.{Vec}
 use Rattle.cpp_tree.specs.declared.program.Program.{Program}
 use Rattle.cpp_tree.specs.Units.{program_of}
-use Rattle.tx_safety.specs.Volatile.{has_volatile_part}
+use Rattle.tx_unsafe.specs.Volatile.{has_volatile_part}
 use Rattle.tx_safety.specs.Safe.{is_empty, program_findings}
 use Rattle.tx_safety.specs.Marks.{AreUnitMarks}
 

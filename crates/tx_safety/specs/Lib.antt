@@ -1,5 +1,3 @@
-pub mod Volatile
-pub mod Unsafe
 pub mod Safe
 pub mod Marks
 pub mod Checked

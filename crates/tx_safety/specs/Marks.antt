@@ -1,8 +1,7 @@
--- What holds of the marks that rounds over a list of classes, or of functions, set.
+-- What holds of the marks that rounds over the functions of a unit set.
 use Rattle.std.specs.Prelude.{◌≡◌, ℕ, ◌<◌, ◌≤◌, ◌==◌, nat_le, max, Bool, true, false, not, ◌&&◌, ◌||◌, List, length, get_or, slice_get, slice_set, fold, count_by, Option, Some, None, is_some, option_map, option_and_then, cond}
 use Rattle.std.specs.List.{list_all}
 use Rattle.std.specs.Global.{Vec}
-use Rattle.cpp_types.specs.Class.{Class}
 use Rattle.cpp_tree.specs.declared.arena.TNode.{TNode}
 use Rattle.cpp_tree.specs.declared.arena.TNodeId.{TNodeId}
 use Rattle.cpp_tree.specs.declared.program.TFunc.{TFunc}
@@ -11,30 +10,12 @@ use Rattle.cpp_tree.specs.declared.program.UnitTree.{UnitTree}
 use Rattle.cpp_tree.specs.Trees.{Tree}
 use Rattle.cpp_tree.specs.Arena.{IsOrdered}
 use Rattle.cpp_tree.specs.Units.{Func, func_of, unit_of}
-use Rattle.tx_safety.specs.declared.finding.CallSite.{CallSite}
-use Rattle.tx_safety.specs.declared.walk.Contents.{Contents}
-use Rattle.tx_safety.specs.Unsafe.{own_findings, calls_of}
-use Rattle.tx_safety.specs.Safe.{is_promised, is_empty, safe_within, safe, sooner}
-use Rattle.tx_safety.specs.Volatile.{marked, has_volatile_part_by, volatile_within}
-
-abbrev pub count_marked : List Bool → ℕ
-count_marked marks = count_by (λ (b : Bool). b) marks
-
--- an unmarked class whose parts give it a mark
-abbrev pub has_new_part : List Class → List Bool → ℕ → Bool
-has_new_part classes marks n = not (marked marks n) && passes (has_volatile_part_by (marked marks)) (slice_get classes n)
-
--- what is marked has a volatile part, which lies no deeper than there are marks
-pub record SoundClasses (classes : List Class) (marks : List Bool) : Type 0 where
-  pub within : (n depth : ℕ) → marked marks n ≡ true → count_marked marks ≤ depth → volatile_within depth classes n ≡ true
-
--- the classes below an index need no further mark
-pub record ClosedClasses (classes : List Class) (marks : List Bool) (limit : ℕ) : Type 0 where
-  pub closed : (n : ℕ) → n < limit → has_new_part classes marks n ≡ false
-
--- the body of a function, if it has one, stands in the list
-pub record HasRoot (nodes : List TNode) (f : TFunc) : Type 0 where
-  pub within : (root : TNodeId) → f.body ≡ Some root → root.0 < length nodes
+use Rattle.tx_unsafe.specs.declared.finding.CallSite.{CallSite}
+use Rattle.tx_unsafe.specs.declared.walk.Contents.{Contents}
+use Rattle.tx_unsafe.specs.Unsafe.{own_findings, calls_of}
+use Rattle.tx_safety.specs.Safe.{is_promised, is_empty, safe_within, safe}
+use Rattle.tx_unsafe.specs.First.{sooner}
+use Rattle.tx_unsafe.specs.Roots.{HasRoot}
 
 -- Functions: a mark is the place from which on a function is safe
 

@@ -9,10 +9,11 @@ use Rattle.cpp_tree.specs.declared.faults.UnsafeReason.{UnsafeReason}
 use Rattle.cpp_tree.specs.declared.faults.UnsafeReason.TheVariants.{CallsUnsafe}
 use Rattle.cpp_tree.specs.Typing.{passes}
 use Rattle.cpp_tree.specs.Units.{Func, Unit as TypedUnit, TypedProgram}
-use Rattle.tx_safety.specs.declared.finding.Finding.{Finding}
-use Rattle.tx_safety.specs.declared.finding.CallSite.{CallSite}
-use Rattle.tx_safety.specs.Volatile.{has_volatile_part}
-use Rattle.tx_safety.specs.Unsafe.{where_so, own_findings, calls_of}
+use Rattle.tx_unsafe.specs.declared.finding.Finding.{Finding}
+use Rattle.tx_unsafe.specs.declared.finding.CallSite.{CallSite}
+use Rattle.tx_unsafe.specs.Volatile.{has_volatile_part}
+use Rattle.tx_unsafe.specs.First.{sooner}
+use Rattle.tx_unsafe.specs.Unsafe.{where_so, own_findings, calls_of}
 
 -- Safe functions: four ways to be one
 
@@ -90,16 +91,7 @@ program_findings p = flat_map (unit_findings (has_volatile_part p.classes)) p.un
 abbrev pub IsSafe : TypedProgram → Type 0
 IsSafe p = program_findings p ≡ []
 
--- The first unsafe node: that with the least place in the text
-
-abbrev pub is_before : At → At → Bool
-is_before a b = nat_lt a.source b.source || ((a.source == b.source) && nat_lt a.offset b.offset)
-
--- the one found before, or this one where it stands before that one
-abbrev pub sooner : Option Finding → Finding → Option Finding
-sooner None x = Some x
-sooner (Some y) x = cond (is_before x.at y.at) (Some x) (Some y)
-
+-- the one with the least place in the text
 unfoldable pub first_unsafe : TypedProgram → Option Finding
 first_unsafe p = fold sooner None (program_findings p)
 

@@ -5,19 +5,19 @@ ghost use Rattle.std.specs.List.{flat_map};
 ghost use Rattle.cpp_tree.specs.Arena.{IsOrdered};
 ghost use Rattle.cpp_tree.specs.Units.{unit_of, program_of};
 ghost use Rattle.cpp_tree.specs.WellFormed.{WellFormed};
-ghost use Rattle.tx_safety.specs.Volatile.{marked};
-ghost use Rattle.tx_safety.specs.Safe.{sooner, safe, unit_findings, IsSafe, is_safe};
+ghost use Rattle.tx_unsafe.specs.Volatile.{marked};
+ghost use Rattle.tx_safety.specs.Safe.{safe, unit_findings, IsSafe, is_safe};
+ghost use Rattle.tx_unsafe.specs.First.{sooner};
 ghost use Rattle.tx_safety.specs.Marks.{may_from, HaveRoots, AreReadable, AreUnitMarks};
 ghost use Rattle.tx_safety.specs.Answers.{checked_in, Checks};
 
-use crate::classes::volatile_classes;
 use crate::fault::SafetyFault;
-use crate::finding::Finding;
 use crate::findings::with_funcs;
 use crate::marks::{may_call_at, safe_marks};
 use crate::safe_program::SafeProgram;
 use cpp_tree::{Program, TFunc, UnitTree};
 use std::alloc::{AllocError, Global};
+use tx_unsafe::{Finding, volatile_classes};
 
 impl SafeProgram {
     /// The checked program.

@@ -3,16 +3,16 @@
 ghost use Rattle.std.specs.Prelude.{◌≡◌, ◌<◌, ◌==◌, IfOk, cond, fold, length, map};
 ghost use Rattle.cpp_tree.specs.Arena.{IsOrdered, trees_of};
 ghost use Rattle.cpp_tree.specs.Units.{func_of};
-ghost use Rattle.tx_safety.specs.Volatile.{marked};
-ghost use Rattle.tx_safety.specs.Safe.{sooner, unit_end, is_allowed, call_findings, func_findings, funcs_findings};
-ghost use Rattle.tx_safety.specs.Marks.{may_from, HasRoot, HaveRoots};
+ghost use Rattle.tx_unsafe.specs.Volatile.{marked};
+ghost use Rattle.tx_safety.specs.Safe.{unit_end, is_allowed, call_findings, func_findings, funcs_findings};
+ghost use Rattle.tx_unsafe.specs.First.{sooner};
+ghost use Rattle.tx_safety.specs.Marks.{may_from, HaveRoots};
+ghost use Rattle.tx_unsafe.specs.Roots.{HasRoot};
 
-use crate::definition::contents_of;
-use crate::finding::{CallSite, Finding};
 use crate::marks::{may_call_at, promises_safety};
-use crate::table::noted;
 use cpp_tree::{TFunc, TNode, UnsafeReason};
 use std::alloc::{AllocError, Global};
+use tx_unsafe::{CallSite, Finding, contents_of, noted};
 
 // Where a call is judged: at its place, that of the function itself as its definition is.
 fn judged_place(n: u32, site: CallSite) -> u32

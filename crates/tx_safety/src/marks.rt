@@ -5,16 +5,14 @@ ghost use Rattle.std.specs.List.{list_all};
 ghost use Rattle.cpp_tree.specs.Trees.{Tree};
 ghost use Rattle.cpp_tree.specs.Arena.{IsOrdered, trees_of};
 ghost use Rattle.cpp_tree.specs.Units.{func_of};
-ghost use Rattle.tx_safety.specs.Volatile.{marked};
+ghost use Rattle.tx_unsafe.specs.Volatile.{marked};
 ghost use Rattle.tx_safety.specs.Safe.{is_declared, is_promised, safe};
 ghost use Rattle.tx_safety.specs.Marks.{mark_at, may_from, is_marked_call, later, latest, mark_by, mark_of, new_mark, with_mark, count_marks, SoundMarks, ClosedMarks, AreContents, IsContents, HaveRoots};
 
-use crate::definition::contents_of;
-use crate::finding::CallSite;
-use crate::walk::Contents;
 use cpp_tree::{TFunc, TNode};
 use cpp_types::Safety;
 use std::alloc::{AllocError, Global};
+use tx_unsafe::{CallSite, Contents, contents_of};
 
 fn declares_safe(safety: Safety) -> bool
     ensures { result ≡ is_declared safety }

@@ -1,8 +1,9 @@
 use Rattle.std.proofs.Common.{◌≡◌, drop, fold, map, length, None}
 use Rattle.std.specs.List.{flat_map}
 use Rattle.cpp_tree.specs.Units.{unit_of}
-use Rattle.tx_safety.specs.Volatile.{marked}
-use Rattle.tx_safety.specs.Safe.{sooner, unit_findings}
+use Rattle.tx_unsafe.specs.Volatile.{marked}
+use Rattle.tx_safety.specs.Safe.{unit_findings}
+use Rattle.tx_unsafe.specs.First.{sooner}
 use Rattle.tx_safety.specs.Marks.{AreUnitMarks}
 use Rattle.tx_safety.proofs.checking.check_units.Given as goal
 

@@ -1,5 +1,6 @@
 use Rattle.std.proofs.Common.{◌≡◌, drop, fold}
-use Rattle.tx_safety.specs.Safe.{sooner, call_findings}
+use Rattle.tx_safety.specs.Safe.{call_findings}
+use Rattle.tx_unsafe.specs.First.{sooner}
 use Rattle.tx_safety.specs.Marks.{may_from}
 use Rattle.tx_safety.proofs.findings.with_calls.Given as goal
 

@@ -1,6 +1,6 @@
 use Rattle.cpp_tree.specs.Arena.{trees_of}
 use Rattle.cpp_tree.specs.Units.{func_of}
-use Rattle.tx_safety.specs.Volatile.{marked}
+use Rattle.tx_unsafe.specs.Volatile.{marked}
 use Rattle.tx_safety.specs.Marks.{may_from}
 use Rattle.tx_safety.proofs.FindingLists.{func_found}
 use Rattle.tx_safety.proofs.findings.with_func.Goals as goal

@@ -1,8 +1,9 @@
 use Rattle.std.proofs.Common.{◌≡◌, drop, fold, map}
 use Rattle.cpp_tree.specs.Arena.{trees_of}
 use Rattle.cpp_tree.specs.Units.{func_of}
-use Rattle.tx_safety.specs.Volatile.{marked}
-use Rattle.tx_safety.specs.Safe.{sooner, funcs_findings}
+use Rattle.tx_unsafe.specs.Volatile.{marked}
+use Rattle.tx_safety.specs.Safe.{funcs_findings}
+use Rattle.tx_unsafe.specs.First.{sooner}
 use Rattle.tx_safety.specs.Marks.{may_from}
 use Rattle.tx_safety.proofs.findings.with_funcs.Given as goal
 

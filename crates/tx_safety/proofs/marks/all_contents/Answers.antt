@@ -1,7 +1,7 @@
 use Rattle.std.proofs.Common.{◌≡◌, ◌+◌, ◌++◌, ◌∷◌, [], ◌∙◌, ap, length, arith}
 use Rattle.std.proofs.lemmas.List.{length-append}
 use Rattle.cpp_tree.specs.Arena.{trees_of}
-use Rattle.tx_safety.specs.Volatile.{marked}
+use Rattle.tx_unsafe.specs.Volatile.{marked}
 use Rattle.tx_safety.proofs.Contents.{next_contents}
 use Rattle.tx_safety.proofs.marks.all_contents.Goals as goal
 

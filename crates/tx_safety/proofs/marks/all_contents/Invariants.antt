@@ -1,6 +1,6 @@
 use Rattle.std.proofs.Common.{◌≡◌, length}
 use Rattle.cpp_tree.specs.Arena.{trees_of}
-use Rattle.tx_safety.specs.Volatile.{marked}
+use Rattle.tx_unsafe.specs.Volatile.{marked}
 use Rattle.tx_safety.specs.Marks.{AreContents}
 use Rattle.tx_safety.proofs.marks.all_contents.Given as goal
 

@@ -1,7 +1,7 @@
 use Rattle.std.proofs.Common.{◌<◌, ◌≡◌, ◌∙◌, ◌||◌, length, map, is_some, true, false, ap, refl, sym, arith}
 use Rattle.cpp_tree.specs.Arena.{trees_of}
 use Rattle.cpp_tree.specs.Units.{func_of}
-use Rattle.tx_safety.specs.Volatile.{marked}
+use Rattle.tx_unsafe.specs.Volatile.{marked}
 use Rattle.tx_safety.specs.Marks.{count_marks, new_mark}
 use Rattle.tx_safety.proofs.FuncMarks.{next_long_marks, next_sound_marks, next_kept_marks, next_more_marks, next_closed_marks}
 use Rattle.tx_safety.proofs.marks.mark_round.Goals as goal

@@ -1,7 +1,7 @@
 use Rattle.std.proofs.Common.{◌≡◌, ◌<◌, ◌≤◌, true, false, length, map}
 use Rattle.cpp_tree.specs.Arena.{trees_of}
 use Rattle.cpp_tree.specs.Units.{func_of}
-use Rattle.tx_safety.specs.Volatile.{marked}
+use Rattle.tx_unsafe.specs.Volatile.{marked}
 use Rattle.tx_safety.specs.Marks.{count_marks, SoundMarks, ClosedMarks}
 use Rattle.tx_safety.proofs.marks.mark_round.Given as goal
 

@@ -1,7 +1,7 @@
 use Rattle.std.proofs.Common.{◌∙◌, ◌≡◌, ◌<◌, length, slice_get, Some, refl, sym, subst, arith}
 use Rattle.std.proofs.lemmas.Option.{slice_get_read}
 use Rattle.cpp_tree.specs.Arena.{trees_of}
-use Rattle.tx_safety.specs.Volatile.{marked}
+use Rattle.tx_unsafe.specs.Volatile.{marked}
 use Rattle.tx_safety.proofs.Contents.{new_mark_is}
 use Rattle.tx_safety.proofs.marks.new_mark_in.Goals as goal
 
