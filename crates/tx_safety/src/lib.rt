@@ -8,6 +8,7 @@
 #![tactic(auto)]
 
 pub mod checking;
+pub mod examples;
 pub mod fault;
 mod findings;
 mod marks;
