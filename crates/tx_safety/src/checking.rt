@@ -4,7 +4,6 @@ ghost use Rattle.std.specs.Prelude.{◌≡◌, ◌<◌, ℕ, IfOk, Some, None, f
 ghost use Rattle.std.specs.List.{flat_map};
 ghost use Rattle.cpp_tree.specs.Arena.{IsOrdered};
 ghost use Rattle.cpp_tree.specs.Units.{unit_of, program_of};
-ghost use Rattle.cpp_tree.specs.WellFormed.{WellFormed};
 ghost use Rattle.tx_unsafe.specs.Volatile.{marked};
 ghost use Rattle.tx_safety.specs.Safe.{safe, unit_findings, IsSafe, is_safe};
 ghost use Rattle.tx_unsafe.specs.First.{sooner};
@@ -106,12 +105,13 @@ fn check_units(
     Ok(UnitsCheck { found, marks })
 }
 
-/// Checks a program. `Unsafe` names the first unsafe node in the order of units and of their texts, and the program is
+/// Checks a program, of which it needs that kids have lower ids and that bodies stand in their lists, as in each
+/// well-formed one. `Unsafe` names the first unsafe node in the order of units and of their texts, and the program is
 /// given up. The work is linear in the program, but that the calls of each unit are gone through until nothing changes:
-/// once more than a safe function calls one that stands behind it in the list, and that again one behind it, and so on.
-/// So with the classes and what they hold.
+/// twice, and once more for each implicit member, in a chain of calls, that calls what is defined behind it. So with the
+/// classes: once more than a class holds one that stands behind it in the list, and that again one behind it.
 pub fn check(alloc: Global, program: Program) -> Result<SafeProgram, SafetyFault>
-    requires { WellFormed program }
+    requires { AreReadable program.units.items }
     ensures { Checks program result }
 {
     let volatile = volatile_classes(alloc, &program.classes)?;

@@ -11,8 +11,11 @@ pub mod checking;
 pub mod examples;
 pub mod fault;
 mod findings;
+pub mod laws;
 mod marks;
 pub mod safe_program;
+#[cfg(test)]
+mod tests;
 
 pub use checking::check;
 pub use fault::SafetyFault;

@@ -1,6 +1,6 @@
 // Which functions of a unit are safe, and from which place on.
 
-ghost use Rattle.std.specs.Prelude.{◌≡◌, ◌<◌, ◌&&◌, ℕ, cond, true, false, None, Some, IfOk, OnOk, fold, is_some, is_none, length, map, max, option_map, List};
+ghost use Rattle.std.specs.Prelude.{◌≡◌, ◌<◌, ◌≤◌, ◌&&◌, ℕ, cond, true, false, None, Some, IfOk, OnOk, fold, is_some, is_none, length, map, max, option_map, List};
 ghost use Rattle.std.specs.List.{list_all};
 ghost use Rattle.cpp_tree.specs.Trees.{Tree};
 ghost use Rattle.cpp_tree.specs.Arena.{IsOrdered, trees_of};
@@ -217,6 +217,50 @@ fn mark(
     set_mark(marks, n, new)
 }
 
+// Sets the mark that a function of this index gets, if there is one.
+fn mark_if(
+    nodes: &[TNode],
+    volatile: &[bool],
+    funcs: &[TFunc],
+    all: &[Contents],
+    marks: &mut Vec<Option<u32>>,
+    n: u32,
+)
+    requires length { length all.now ≡ length funcs.now }
+    requires long { length marks.old.items ≡ length funcs.now }
+    requires contents { AreContents (marked volatile.now) (trees_of nodes.now) funcs.now all.now }
+    requires sound { SoundMarks (marked volatile.now) (map (func_of (trees_of nodes.now)) funcs.now) marks.old.items }
+    ensures long { length marks.new.items ≡ length funcs.now }
+    ensures sound { SoundMarks (marked volatile.now) (map (func_of (trees_of nodes.now)) funcs.now) marks.new.items }
+    ensures kept { count_marks marks.old.items ≤ count_marks marks.new.items }
+{
+    if (n as usize) < funcs.len() {
+        mark(nodes, volatile, funcs, all, marks, n);
+    }
+}
+
+// Sets the mark of each function of an order that gets one.
+fn mark_in_order(
+    nodes: &[TNode],
+    volatile: &[bool],
+    funcs: &[TFunc],
+    all: &[Contents],
+    order: &[u32],
+    marks: &mut Vec<Option<u32>>,
+)
+    requires length { length all.now ≡ length funcs.now }
+    requires long { length marks.old.items ≡ length funcs.now }
+    requires contents { AreContents (marked volatile.now) (trees_of nodes.now) funcs.now all.now }
+    requires sound { SoundMarks (marked volatile.now) (map (func_of (trees_of nodes.now)) funcs.now) marks.old.items }
+    ensures long { length marks.new.items ≡ length funcs.now }
+    ensures sound { SoundMarks (marked volatile.now) (map (func_of (trees_of nodes.now)) funcs.now) marks.new.items }
+    ensures kept { count_marks marks.old.items ≤ count_marks marks.new.items }
+{
+    for n in order {
+        mark_if(nodes, volatile, funcs, all, marks, *n);
+    }
+}
+
 // Sets the mark of each function that gets one, in one round, and tells whether one did.
 fn mark_round(
     nodes: &[TNode],
@@ -261,9 +305,31 @@ fn all_contents(
     Ok(all)
 }
 
-/// For each function of a unit the place from which on it is safe, if there is one. The functions are gone through until
-/// nothing changes: once more than a safe one calls one that stands behind it in the list, and that again one behind it,
-/// and so on.
+// Where a function is closed.
+fn closing_place(funcs: &[TFunc], n: u32) -> u32 {
+    if (n as usize) < funcs.len() {
+        funcs[n as usize].closed_at
+    } else {
+        0
+    }
+}
+
+// The functions in the order in which they are closed. Only how many rounds it takes hangs on it.
+fn text_order(alloc: Global, funcs: &[TFunc]) -> Result<Vec<u32>, AllocError>
+    requires { length funcs.now < 4294967296 }
+{
+    let mut order = Vec::new(alloc);
+    for n in 0..funcs.len() {
+        order.push(n as u32)?;
+    }
+    order.sort_by_key(|n| closing_place(funcs, *n))?;
+    Ok(order)
+}
+
+/// For each function of a unit the place from which on it is safe, if there is one. The functions are gone through in the
+/// order in which they are closed, and then in that of the list, until nothing changes: twice, since a safe function calls
+/// what is closed before it, and once more for each implicit member, in a chain of calls, that calls what is closed behind
+/// it.
 pub(crate) fn safe_marks(
     alloc: Global,
     nodes: &[TNode],
@@ -276,8 +342,10 @@ pub(crate) fn safe_marks(
     ensures { IfOk result (λ marks. (place n : ℕ) → may_from marks.items place n ≡ safe (marked volatile.now) (map (func_of (trees_of nodes.now)) funcs.now) place n) }
 {
     let all = all_contents(alloc, nodes, volatile, funcs)?;
+    let order = text_order(alloc, funcs)?;
     let mut marks = Vec::from_elem(alloc, None, funcs.len())?;
     'rounds: loop {
+        mark_in_order(nodes, volatile, funcs, &all, &order, &mut marks);
         if !mark_round(nodes, volatile, funcs, &all, &mut marks) {
             return Ok(marks);
         }

@@ -1,10 +1,10 @@
 use Rattle.std.proofs.Common.{sym, subst}
 use Rattle.tx_safety.specs.Marks.{AreReadable}
-use Rattle.tx_safety.proofs.Programs.{Lists, readable, found_is, first_is, checked, empty_list}
+use Rattle.tx_safety.proofs.Programs.{Lists, found_is, first_is, checked, empty_list}
 use Rattle.tx_safety.proofs.checking.check.Goals as goal
 
 pub check_units-requires : goal.check_units-requires
-check_units-requires c = subst AreReadable (sym c.deref-2.ensures.value) (readable c.args.program c.requires)
+check_units-requires c = subst AreReadable (sym c.deref-2.ensures.value) c.requires
 
 pub invariant_of-result : goal.invariant_of-result
 invariant_of-result c =
