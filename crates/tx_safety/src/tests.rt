@@ -59,7 +59,8 @@ fn add(
         at: at(offset),
         kids,
     };
-    add_node(nodes, node)
+    let id = add_node(nodes, node)?;
+    Ok(id)
 }
 
 fn main_func(alloc: Global, root: TNodeId) -> Result<TFunc, AllocError>
