@@ -22,8 +22,8 @@ pub record HidesBlocks (p : Program) : Type 0 where
   pub hidden : (s : State) → Comes p s → is_hidden ((source p).next s) ((source p).blocks s) ≡ true
 
 -- the linked program of a typed one, in which exactly the safe functions have safe bodies
-abbrev pub safely_linked : (SlotFunc → Option (List ℕ)) → (main : List ℕ) → TypedProgram → Program
-safely_linked symbol main t = linked (is_safe t) symbol main t
+abbrev pub safely_linked : (SlotFunc → Option (List ℕ)) → (entry : List ℕ) → TypedProgram → Program
+safely_linked symbol entry t = linked (is_safe t) symbol entry t
 
 -- a function that is safe in a unit is so where its kept definition stands, which the linker sees to
 pub record LinksSafely (t : TypedProgram) : Type 0 where
@@ -32,4 +32,4 @@ pub record LinksSafely (t : TypedProgram) : Type 0 where
 
 -- the blocks of a safe program are hidden, whatever its slots name
 pub record UnsafeFree (p : TypedUnits) : Type 0 where
-  pub free : (symbol : SlotFunc → Option (List ℕ)) (main : List ℕ) → WellFormed p → IsSafe (program_of p) → LinksSafely (program_of p) → HidesBlocks (safely_linked symbol main (program_of p))
+  pub free : (symbol : SlotFunc → Option (List ℕ)) (entry : List ℕ) → WellFormed p → IsSafe (program_of p) → LinksSafely (program_of p) → HidesBlocks (safely_linked symbol entry (program_of p))
