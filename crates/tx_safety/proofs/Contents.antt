@@ -55,15 +55,15 @@ pub next_contents : (v : ℕ → Bool) (trees : List Tree) (funcs : List TFunc) 
     → i < length funcs → f ≡ get_or funcs i f → IsContents v (func_of trees f) c → AreContents v trees funcs new
 next_contents v trees funcs all new i f c l a e b r h = record { each = λ n g d p q. here n g d p (sym (ap (λ z. slice_get z n) e) ∙ q) (cases_lt n (length all)) }
   where
-  here : (n : ℕ) (g : TFunc) (d : Contents) → slice_get funcs n ≡ Some g → slice_get (all ++ c ∷ []) n ≡ Some d → (n < length all) ⊎ (length all ≤ n) → IsContents v (func_of trees g) d
-  here n g d p q (inl k) = a.each n g d p (sym (slice_get_front all (c ∷ []) n k) ∙ q)
-  here n g d p q (inr k) =
-      let m : n < length (all ++ c ∷ []) = slice_get_within (all ++ c ∷ []) n d q in
-      let w : length (all ++ c ∷ []) ≡ length all + 1 = length-append all (c ∷ []) in
-      let y : n ≡ i = omega arith in
-      let x : slice_get funcs i ≡ Some f = slice_get_read funcs (length funcs) i f refl b r in
-      let u : slice_get funcs n ≡ slice_get funcs i = ap (slice_get funcs) y in
-      let o : f ≡ g = cc in
-      let t : slice_get (all ++ c ∷ []) n ≡ Some c = ap (slice_get (all ++ c ∷ [])) (y ∙ sym l) ∙ slice_get_last all c in
-      let s : c ≡ d = cc in
-      subst (λ z. IsContents v (func_of trees z) d) o (subst (λ z. IsContents v (func_of trees f) z) s h)
+    here : (n : ℕ) (g : TFunc) (d : Contents) → slice_get funcs n ≡ Some g → slice_get (all ++ c ∷ []) n ≡ Some d → (n < length all) ⊎ (length all ≤ n) → IsContents v (func_of trees g) d
+    here n g d p q (inl k) = a.each n g d p (sym (slice_get_front all (c ∷ []) n k) ∙ q)
+    here n g d p q (inr k) =
+        let m : n < length (all ++ c ∷ []) = slice_get_within (all ++ c ∷ []) n d q in
+        let w : length (all ++ c ∷ []) ≡ length all + 1 = length-append all (c ∷ []) in
+        let y : n ≡ i = omega arith in
+        let x : slice_get funcs i ≡ Some f = slice_get_read funcs (length funcs) i f refl b r in
+        let u : slice_get funcs n ≡ slice_get funcs i = ap (slice_get funcs) y in
+        let o : f ≡ g = cc in
+        let t : slice_get (all ++ c ∷ []) n ≡ Some c = ap (slice_get (all ++ c ∷ [])) (y ∙ sym l) ∙ slice_get_last all c in
+        let s : c ≡ d = cc in
+        subst (λ z. IsContents v (func_of trees z) d) o (subst (λ z. IsContents v (func_of trees f) z) s h)

@@ -57,16 +57,16 @@ pub next_marks : (v : ℕ → Bool) (units : List UnitTree) (all new : List (Vec
     → i < length units → u ≡ get_or units i u → ((place n : ℕ) → may_from m.items place n ≡ safe v (unit_of u).funcs place n) → AreUnitMarks v units new
 next_marks v units all new i u m l a e b r h = record { each = λ n g d p q. here n g d p (sym (ap (λ z. slice_get z n) e) ∙ q) (cases_lt n (length all)) }
   where
-  here : (n : ℕ) (g : UnitTree) (d : Vec (Option ℕ)) → slice_get units n ≡ Some g → slice_get (all ++ m ∷ []) n ≡ Some d → (n < length all) ⊎ (length all ≤ n)
-      → (place k : ℕ) → may_from d.items place k ≡ safe v (unit_of g).funcs place k
-  here n g d p q (inl k) = a.each n g d p (sym (slice_get_front all (m ∷ []) n k) ∙ q)
-  here n g d p q (inr k) =
-      let j : n < length (all ++ m ∷ []) = slice_get_within (all ++ m ∷ []) n d q in
-      let w : length (all ++ m ∷ []) ≡ length all + 1 = length-append all (m ∷ []) in
-      let y : n ≡ i = omega arith in
-      let x : slice_get units i ≡ Some u = slice_get_read units (length units) i u refl b r in
-      let t : slice_get units n ≡ slice_get units i = ap (slice_get units) y in
-      let o : u ≡ g = cc in
-      let f : slice_get (all ++ m ∷ []) n ≡ Some m = ap (slice_get (all ++ m ∷ [])) (y ∙ sym l) ∙ slice_get_last all m in
-      let s : m ≡ d = cc in
-      subst (λ z. (place k : ℕ) → may_from d.items place k ≡ safe v (unit_of z).funcs place k) o (subst (λ z. (place k : ℕ) → may_from z.items place k ≡ safe v (unit_of u).funcs place k) s h)
+    here : (n : ℕ) (g : UnitTree) (d : Vec (Option ℕ)) → slice_get units n ≡ Some g → slice_get (all ++ m ∷ []) n ≡ Some d → (n < length all) ⊎ (length all ≤ n)
+        → (place k : ℕ) → may_from d.items place k ≡ safe v (unit_of g).funcs place k
+    here n g d p q (inl k) = a.each n g d p (sym (slice_get_front all (m ∷ []) n k) ∙ q)
+    here n g d p q (inr k) =
+        let j : n < length (all ++ m ∷ []) = slice_get_within (all ++ m ∷ []) n d q in
+        let w : length (all ++ m ∷ []) ≡ length all + 1 = length-append all (m ∷ []) in
+        let y : n ≡ i = omega arith in
+        let x : slice_get units i ≡ Some u = slice_get_read units (length units) i u refl b r in
+        let t : slice_get units n ≡ slice_get units i = ap (slice_get units) y in
+        let o : u ≡ g = cc in
+        let f : slice_get (all ++ m ∷ []) n ≡ Some m = ap (slice_get (all ++ m ∷ [])) (y ∙ sym l) ∙ slice_get_last all m in
+        let s : m ≡ d = cc in
+        subst (λ z. (place k : ℕ) → may_from d.items place k ≡ safe v (unit_of z).funcs place k) o (subst (λ z. (place k : ℕ) → may_from z.items place k ≡ safe v (unit_of u).funcs place k) s h)

@@ -119,9 +119,9 @@ calls_implicit may place n f calls e = all_same (may_call may place n f) (allows
 pub sound_may : (v : ℕ → Bool) (funcs : List Func) (marks : List (Option ℕ)) (depth place m : ℕ) → SoundMarks v funcs marks → count_marks marks ≤ depth → may_from marks place m ≡ true → safe_within depth v funcs place m ≡ true
 sound_may v funcs marks depth place m s c h = here (mark_at marks m) refl h
   where
-  here : (o : Option ℕ) → mark_at marks m ≡ o → passes (λ (k : ℕ). nat_le k place) o ≡ true → safe_within depth v funcs place m ≡ true
-  here None e h = absurd cc
-  here (Some k) e h = s.within m k depth place e c ∙ h
+    here : (o : Option ℕ) → mark_at marks m ≡ o → passes (λ (k : ℕ). nat_le k place) o ≡ true → safe_within depth v funcs place m ≡ true
+    here None e h = absurd cc
+    here (Some k) e h = s.within m k depth place e c ∙ h
 
 pub rule_safe : (v : ℕ → Bool) (funcs : List Func) (marks : List (Option ℕ)) (n depth place from : ℕ) (f : Func) → SoundMarks v funcs marks → count_marks marks ≤ depth
     → mark_of marks n f (is_empty (own_findings v true f)) (calls_of true f) ≡ Some from → is_safe_by v (safe_within depth v funcs) place n f ≡ nat_le from place
@@ -129,8 +129,8 @@ rule_safe v funcs marks n depth place from f s c h = by_rule (is_promised f) (is
     (list_all (is_marked_call marks n) (calls_of true f)) (nat_le f.closed_at place) (list_all (may_call (safe_within depth v funcs) place n f) (calls_of true f)) (latest marks n (calls_of true f)) f.closed_at from place h
     (λ e k g. calls_implicit (safe_within depth v funcs) place n f (calls_of true f) e ∙ sym (ap (λ z. z && list_all (allows (safe_within depth v funcs) place n) (calls_of true f)) (leb-zero place)) ∙ latest_is (safe_within depth v funcs) marks n place (λ m from q. s.within m from depth place q c) (calls_of true f) 0 k g)
     (λ e a. all_more (is_marked_call marks n) (may_call (safe_within depth v funcs) place n f)
-        (λ site. or_more (site.func == n) (may_from marks site.at.offset site.func) (site.func == n) (safe_within depth v funcs (cond f.implicit place site.at.offset) site.func) (λ x. x)
-            (λ q. ap (λ b. safe_within depth v funcs (cond b place site.at.offset) site.func) e ∙ sound_may v funcs marks depth site.at.offset site.func s c q)) (calls_of true f) a)
+    (λ site. or_more (site.func == n) (may_from marks site.at.offset site.func) (site.func == n) (safe_within depth v funcs (cond f.implicit place site.at.offset) site.func) (λ x. x)
+    (λ q. ap (λ b. safe_within depth v funcs (cond b place site.at.offset) site.func) e ∙ sound_may v funcs marks depth site.at.offset site.func s c q)) (calls_of true f) a)
     refl
 
 pub rule_none : (v : ℕ → Bool) (marks : List (Option ℕ)) (n place : ℕ) (f : Func) (may : ℕ → ℕ → Bool) → ((place m : ℕ) → may place m ≡ true → may_from marks place m ≡ true)
@@ -139,8 +139,8 @@ rule_none v marks n place f may g h q = no_rule (is_promised f) (is_some f.body 
     (list_all (is_marked_call marks n) (calls_of true f)) (nat_le f.closed_at place) (list_all (may_call may place n f) (calls_of true f)) (latest marks n (calls_of true f)) f.closed_at h
     (λ e a. latest_some may marks n place (g place) (calls_of true f) 0 (sym (calls_implicit may place n f (calls_of true f) e) ∙ a))
     (λ e a. all_more (may_call may place n f) (is_marked_call marks n)
-        (λ site. or_more (site.func == n) (may (cond f.implicit place site.at.offset) site.func) (site.func == n) (may_from marks site.at.offset site.func) (λ x. x)
-            (λ q. g site.at.offset site.func (sym (ap (λ b. may (cond b place site.at.offset) site.func) e) ∙ q))) (calls_of true f) a)
+    (λ site. or_more (site.func == n) (may (cond f.implicit place site.at.offset) site.func) (site.func == n) (may_from marks site.at.offset site.func) (λ x. x)
+    (λ q. g site.at.offset site.func (sym (ap (λ b. may (cond b place site.at.offset) site.func) e) ∙ q))) (calls_of true f) a)
     q
 
 -- One mark more
@@ -150,30 +150,32 @@ count_set_marks marks i from l h = omega (arith, sum_by-set (λ (o : Option ℕ)
 
 pub sound_set : (v : ℕ → Bool) (funcs : List Func) (marks : List (Option ℕ)) (i from : ℕ) (f : Func) → i < length marks → SoundMarks v funcs marks → mark_at marks i ≡ None → slice_get funcs i ≡ Some f
     → mark_of marks i f (is_empty (own_findings v true f)) (calls_of true f) ≡ Some from → SoundMarks v funcs (set marks i (Some from))
-sound_set v funcs marks i from f l s o g h = record { within = λ n k depth place m c. elim (cases_eq n i) [
-  | inl e ↦ deeper depth n place c e ∙ ap (λ z. nat_le z place) (let q : get_or (set marks i (Some from)) i None ≡ Some from = get_or-set_same marks i (Some from) None l in let r : get_or (set marks i (Some from)) n None ≡ get_or (set marks i (Some from)) i None = ap (λ z. get_or (set marks i (Some from)) z None) e in let w : from ≡ k = cc in w)
-  | inr e ↦ s.within n k depth place (sym (get_or-set_other marks i n (Some from) None e) ∙ m) (let z = count_set_marks marks i from l o in omega arith)
-] }
+sound_set v funcs marks i from f l s o g h = record {
+  within = λ n k depth place m c. elim (cases_eq n i) [
+    | inl e ↦ deeper depth n place c e ∙ ap (λ z. nat_le z place) (let q : get_or (set marks i (Some from)) i None ≡ Some from = get_or-set_same marks i (Some from) None l in let r : get_or (set marks i (Some from)) n None ≡ get_or (set marks i (Some from)) i None = ap (λ z. get_or (set marks i (Some from)) z None) e in let w : from ≡ k = cc in w)
+    | inr e ↦ s.within n k depth place (sym (get_or-set_other marks i n (Some from) None e) ∙ m) (let z = count_set_marks marks i from l o in omega arith)
+  ];
+}
   where
-  deeper : (depth n place : ℕ) → count_marks (set marks i (Some from)) ≤ depth → n ≡ i → safe_within depth v funcs place n ≡ nat_le from place
-  deeper zero n place c e = absurd (let z = count_set_marks marks i from l o in omega arith)
-  deeper (suc d) n place c e = ap (λ z. safe_within (suc d) v funcs place z) e ∙ ap (passes (is_safe_by v (safe_within d v funcs) place i)) g
-      ∙ rule_safe v funcs marks i d place from f s (let z = count_set_marks marks i from l o in omega arith) h
+    deeper : (depth n place : ℕ) → count_marks (set marks i (Some from)) ≤ depth → n ≡ i → safe_within depth v funcs place n ≡ nat_le from place
+    deeper zero n place c e = absurd (let z = count_set_marks marks i from l o in omega arith)
+    deeper (suc d) n place c e = ap (λ z. safe_within (suc d) v funcs place z) e ∙ ap (passes (is_safe_by v (safe_within d v funcs) place i)) g
+        ∙ rule_safe v funcs marks i d place from f s (let z = count_set_marks marks i from l o in omega arith) h
 
 pub new_some : (marks : List (Option ℕ)) (n from : ℕ) (x : Option ℕ) → cond (is_some (mark_at marks n)) None x ≡ Some from → (mark_at marks n ≡ None) × (x ≡ Some from)
 new_some marks n from x h = here (mark_at marks n) refl h
   where
-  here : (o : Option ℕ) → mark_at marks n ≡ o → cond (is_some o) None x ≡ Some from → (mark_at marks n ≡ None) × (x ≡ Some from)
-  here None e h = (e, h)
-  here (Some k) e h = absurd cc
+    here : (o : Option ℕ) → mark_at marks n ≡ o → cond (is_some o) None x ≡ Some from → (mark_at marks n ≡ None) × (x ≡ Some from)
+    here None e h = (e, h)
+    here (Some k) e h = absurd cc
 
 pub sound_new : (v : ℕ → Bool) (funcs : List Func) (marks : List (Option ℕ)) (i from : ℕ) → i < length marks → SoundMarks v funcs marks → new_mark v funcs marks i ≡ Some from
     → (mark_at marks i ≡ None) × SoundMarks v funcs (set marks i (Some from))
 sound_new v funcs marks i from l s h = here (slice_get funcs i) refl h
   where
-  here : (o : Option Func) → slice_get funcs i ≡ o → option_and_then (new_mark_of v marks i) o ≡ Some from → (mark_at marks i ≡ None) × SoundMarks v funcs (set marks i (Some from))
-  here None e h = absurd cc
-  here (Some f) e h = let q = new_some marks i from (mark_of marks i f (is_empty (own_findings v true f)) (calls_of true f)) h in (q.0, sound_set v funcs marks i from f l s q.0 e q.1)
+    here : (o : Option Func) → slice_get funcs i ≡ o → option_and_then (new_mark_of v marks i) o ≡ Some from → (mark_at marks i ≡ None) × SoundMarks v funcs (set marks i (Some from))
+    here None e h = absurd cc
+    here (Some f) e h = let q = new_some marks i from (mark_of marks i f (is_empty (own_findings v true f)) (calls_of true f)) h in (q.0, sound_set v funcs marks i from f l s q.0 e q.1)
 
 -- A step of a round
 
@@ -201,7 +203,7 @@ pub next_closed_marks : (v : ℕ → Bool) (funcs : List Func) (marks new : List
 next_closed_marks v funcs marks new i true o h e k t = absurd cc
 next_closed_marks v funcs marks new i false (Some from) h e k t = absurd cc
 next_closed_marks v funcs marks new i false None h e k t = subst (λ z. ClosedMarks v funcs z (i + 1)) (sym e)
-    (record { closed = λ n l. elim (cases_eq n i) [ | inl q ↦ ap (new_mark v funcs marks) q ∙ h | inr q ↦ (k refl).closed n (omega arith) ] })
+    (record { closed = λ n l. elim (cases_eq n i) [ inl q ↦ ap (new_mark v funcs marks) q ∙ h | inr q ↦ (k refl).closed n (omega arith) ] })
 
 -- The first round and the last
 
@@ -216,8 +218,8 @@ sound_no_marks v funcs marks k e = record { within = λ n from depth place m c. 
 pub safe_by_more : (v : ℕ → Bool) (may other : ℕ → ℕ → Bool) → ((place m : ℕ) → may place m ≡ true → other place m ≡ true) → (place n : ℕ) (f : Func) → is_safe_by v may place n f ≡ true → is_safe_by v other place n f ≡ true
 safe_by_more v may other g place n f h = or_more (is_promised f) (is_passed place f && has_safe_definition v may place n f) (is_promised f) (is_passed place f && has_safe_definition v other place n f) (λ x. x)
     (and_more (is_passed place f) (has_safe_definition v may place n f) (is_passed place f) (has_safe_definition v other place n f) (λ x. x)
-        (and_more (is_some f.body && is_empty (own_findings v true f)) (list_all (may_call may place n f) (calls_of true f)) (is_some f.body && is_empty (own_findings v true f)) (list_all (may_call other place n f) (calls_of true f)) (λ x. x)
-            (all_more (may_call may place n f) (may_call other place n f) (λ site. or_more (site.func == n) (may (judged_at place f site) site.func) (site.func == n) (other (judged_at place f site) site.func) (λ x. x) (g (judged_at place f site) site.func)) (calls_of true f))))
+    (and_more (is_some f.body && is_empty (own_findings v true f)) (list_all (may_call may place n f) (calls_of true f)) (is_some f.body && is_empty (own_findings v true f)) (list_all (may_call other place n f) (calls_of true f)) (λ x. x)
+    (all_more (may_call may place n f) (may_call other place n f) (λ site. or_more (site.func == n) (may (judged_at place f site) site.func) (site.func == n) (other (judged_at place f site) site.func) (λ x. x) (g (judged_at place f site) site.func)) (calls_of true f))))
     h
 
 pub within_more : (v : ℕ → Bool) (funcs : List Func) (depth place n : ℕ) → safe_within depth v funcs place n ≡ true → safe_within (suc depth) v funcs place n ≡ true
@@ -240,10 +242,10 @@ unmarked v marks place n may g (Some f) e q p = rule_none v marks n place f may 
 pub marked_or : (v : ℕ → Bool) (funcs : List Func) (marks : List (Option ℕ)) (depth place n : ℕ) → SoundMarks v funcs marks → safe_within depth v funcs place n ≡ true → (mark_at marks n ≡ None → ⊥) → may_from marks place n ≡ true
 marked_or v funcs marks depth place n s h k = here (mark_at marks n) refl
   where
-  here : (o : Option ℕ) → mark_at marks n ≡ o → may_from marks place n ≡ true
-  here None e = absurd (k e)
-  here (Some from) e = ap (passes (λ (z : ℕ). nat_le z place)) e
-      ∙ sym (s.within n from (depth + count_marks marks) place e (omega arith)) ∙ deeper_too v funcs (depth + count_marks marks) depth place n (omega arith) h
+    here : (o : Option ℕ) → mark_at marks n ≡ o → may_from marks place n ≡ true
+    here None e = absurd (k e)
+    here (Some from) e = ap (passes (λ (z : ℕ). nat_le z place)) e
+        ∙ sym (s.within n from (depth + count_marks marks) place e (omega arith)) ∙ deeper_too v funcs (depth + count_marks marks) depth place n (omega arith) h
 
 pub all_marked : (v : ℕ → Bool) (funcs : List Func) (marks : List (Option ℕ)) → SoundMarks v funcs marks → ClosedMarks v funcs marks (length funcs) → (depth place n : ℕ) → safe_within depth v funcs place n ≡ true → may_from marks place n ≡ true
 all_marked v funcs marks s k zero place n h = absurd cc

@@ -69,9 +69,9 @@ pub safe_there : (p : Program) (all : List (Vec (Option ℕ))) (unit n : ℕ) (m
 unfolding is_safe
 safe_there p all unit n m c l g = here (slice_get p.units.items unit) refl
   where
-  here : (o : Option UnitTree) → slice_get p.units.items unit ≡ o → may_from m.items unit_end n ≡ passes (λ (u : TypedUnit). safe (has_volatile_part (program_of p).classes) u.funcs unit_end n) (slice_get (map unit_of p.units.items) unit)
-  here None e = absurd (within_some p.units.items unit l e)
-  here (Some u) e = c.marks.each unit u m e g unit_end n ∙ sym (ap (passes (λ (u : TypedUnit). safe (has_volatile_part (program_of p).classes) u.funcs unit_end n)) (slice_get-map unit_of p.units.items unit ∙ ap (option_map unit_of) e))
+    here : (o : Option UnitTree) → slice_get p.units.items unit ≡ o → may_from m.items unit_end n ≡ passes (λ (u : TypedUnit). safe (has_volatile_part (program_of p).classes) u.funcs unit_end n) (slice_get (map unit_of p.units.items) unit)
+    here None e = absurd (within_some p.units.items unit l e)
+    here (Some u) e = c.marks.each unit u m e g unit_end n ∙ sym (ap (passes (λ (u : TypedUnit). safe (has_volatile_part (program_of p).classes) u.funcs unit_end n)) (slice_get-map unit_of p.units.items unit ∙ ap (option_map unit_of) e))
 
 pub safe_at : (p : Program) (all : List (Vec (Option ℕ))) (unit n : ℕ) (m : Vec (Option ℕ)) (others : List (Option ℕ)) → IsChecked p all → unit < length p.units.items → m ≡ get_or all unit m → others ≡ m.items
     → may_from others unit_end n ≡ is_safe (program_of p) unit n

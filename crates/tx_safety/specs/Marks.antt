@@ -90,4 +90,4 @@ pub record AreReadable (units : List UnitTree) : Type 0 where
 -- the marks of each of the first units tell which functions are safe there
 pub record AreUnitMarks (volatile : ℕ → Bool) (units : List UnitTree) (all : List (Vec (Option ℕ))) : Type 0 where
   pub each : (i : ℕ) (u : UnitTree) (marks : Vec (Option ℕ)) → slice_get units i ≡ Some u → slice_get all i ≡ Some marks
-    → (place n : ℕ) → may_from marks.items place n ≡ safe volatile (unit_of u).funcs place n
+      → (place n : ℕ) → may_from marks.items place n ≡ safe volatile (unit_of u).funcs place n

@@ -78,16 +78,18 @@ split_and true b h = (refl, h)
 split_and false b h = absurd cc
 
 pub sound_more : (classes : List Class) (marks : List Bool) (i : ℕ) → i < length marks → SoundClasses classes marks → has_new_part classes marks i ≡ true → SoundClasses classes (set marks i true)
-sound_more classes marks i l s h = record { within = λ n depth m c. elim (cases_eq n i) [
-  | inl e ↦ deeper classes marks i n depth (count_set marks i l (false_not (marked marks i) (split_and _ _ h).0)) s (split_and _ _ h).1 e c
-  | inr e ↦ s.within n depth (sym (get_or-set_other marks i n true false e) ∙ m) (let k = count_set marks i l (false_not (marked marks i) (split_and _ _ h).0) in omega arith)
-] }
+sound_more classes marks i l s h = record {
+  within = λ n depth m c. elim (cases_eq n i) [
+    | inl e ↦ deeper classes marks i n depth (count_set marks i l (false_not (marked marks i) (split_and _ _ h).0)) s (split_and _ _ h).1 e c
+    | inr e ↦ s.within n depth (sym (get_or-set_other marks i n true false e) ∙ m) (let k = count_set marks i l (false_not (marked marks i) (split_and _ _ h).0) in omega arith)
+  ];
+}
   where
-  deeper : (classes : List Class) (marks : List Bool) (i n depth : ℕ) → count_marked (set marks i true) ≡ count_marked marks + 1 → SoundClasses classes marks
-      → passes (has_volatile_part_by (marked marks)) (slice_get classes i) ≡ true → n ≡ i → count_marked (set marks i true) ≤ depth → volatile_within depth classes n ≡ true
-  deeper classes marks i n zero k s p e c = absurd (omega arith)
-  deeper classes marks i n (suc d) k s p e c = ap (λ z. volatile_within (suc d) classes z) e
-      ∙ passes_more (has_volatile_part_by (marked marks)) (has_volatile_part_by (volatile_within d classes)) (part_more (marked marks) (volatile_within d classes) (λ m q. s.within m d q (omega arith))) (slice_get classes i) p
+    deeper : (classes : List Class) (marks : List Bool) (i n depth : ℕ) → count_marked (set marks i true) ≡ count_marked marks + 1 → SoundClasses classes marks
+        → passes (has_volatile_part_by (marked marks)) (slice_get classes i) ≡ true → n ≡ i → count_marked (set marks i true) ≤ depth → volatile_within depth classes n ≡ true
+    deeper classes marks i n zero k s p e c = absurd (omega arith)
+    deeper classes marks i n (suc d) k s p e c = ap (λ z. volatile_within (suc d) classes z) e
+        ∙ passes_more (has_volatile_part_by (marked marks)) (has_volatile_part_by (volatile_within d classes)) (part_more (marked marks) (volatile_within d classes) (λ m q. s.within m d q (omega arith))) (slice_get classes i) p
 
 -- A step of a round: the class at an index is marked, if it is to be
 
@@ -114,7 +116,7 @@ pub next_closed : (classes : List Class) (marks new : List Bool) (i : ℕ) (a b 
 next_closed classes marks new i true b h e k t = absurd cc
 next_closed classes marks new i false true h e k t = absurd cc
 next_closed classes marks new i false false h e k t = subst (λ z. ClosedClasses classes z (i + 1)) (sym e)
-    (record { closed = λ n l. elim (cases_eq n i) [ | inl q ↦ ap (has_new_part classes marks) q ∙ sym h | inr q ↦ (k refl).closed n (omega arith) ] })
+    (record { closed = λ n l. elim (cases_eq n i) [ inl q ↦ ap (has_new_part classes marks) q ∙ sym h | inr q ↦ (k refl).closed n (omega arith) ] })
 
 -- The first round and the last
 

@@ -258,25 +258,65 @@ pub fn noted(found: Option<Finding>, test: bool, at: At, reason: UnsafeReason) -
 }
 
 // What a node declares, writes and reads.
-fn with_accesses(nodes: &[TNode], volatile: &[bool], node: &TNode, found: Option<Finding>) -> Option<Finding>
+fn with_accesses(
+    nodes: &[TNode],
+    volatile: &[bool],
+    node: &TNode,
+    found: Option<Finding>,
+) -> Option<Finding>
     requires ordered { IsOrdered nodes.now }
     requires below { are_below (length nodes.now) node.now.kids.items ≡ true }
     ensures { result ≡ fold sooner found (accesses_of (marked volatile.now) (trees_of nodes.now) node.now) }
 {
-    let found = noted(found, is_volatile_declaration(nodes, volatile, node), node.at, UnsafeReason::VolatileLocal);
-    let found = noted(found, is_volatile_write(node), node.at, UnsafeReason::VolatileWrite);
-    noted(found, is_volatile_read(node.kind), read_place(nodes, node), UnsafeReason::VolatileRead)
+    let found = noted(
+        found,
+        is_volatile_declaration(nodes, volatile, node),
+        node.at,
+        UnsafeReason::VolatileLocal,
+    );
+    let found = noted(
+        found,
+        is_volatile_write(node),
+        node.at,
+        UnsafeReason::VolatileWrite,
+    );
+    noted(
+        found,
+        is_volatile_read(node.kind),
+        read_place(nodes, node),
+        UnsafeReason::VolatileRead,
+    )
 }
 
 // What objects a node builds.
-fn with_objects(nodes: &[TNode], volatile: &[bool], node: &TNode, found: Option<Finding>) -> Option<Finding>
+fn with_objects(
+    nodes: &[TNode],
+    volatile: &[bool],
+    node: &TNode,
+    found: Option<Finding>,
+) -> Option<Finding>
     requires ordered { IsOrdered nodes.now }
     requires below { are_below (length nodes.now) node.now.kids.items ≡ true }
     ensures { result ≡ fold sooner found (objects_of (marked volatile.now) (trees_of nodes.now) node.now) }
 {
-    let found = noted(found, is_building(node.kind, node.cat) && is_volatile_class(&node.ty, volatile), node.at, UnsafeReason::VolatileWrite);
-    let found = noted(found, is_volatile_initialisation(nodes, volatile, node), place(nodes, node, 1), UnsafeReason::VolatileWrite);
-    noted(found, is_temporary(node.kind) && has_volatile(&node.ty, volatile), node.at, UnsafeReason::VolatileTemp)
+    let found = noted(
+        found,
+        is_building(node.kind, node.cat) && is_volatile_class(&node.ty, volatile),
+        node.at,
+        UnsafeReason::VolatileWrite,
+    );
+    let found = noted(
+        found,
+        is_volatile_initialisation(nodes, volatile, node),
+        place(nodes, node, 1),
+        UnsafeReason::VolatileWrite,
+    );
+    noted(
+        found,
+        is_temporary(node.kind) && has_volatile(&node.ty, volatile),
+        node.at,
+        UnsafeReason::VolatileTemp,
+    )
 }
 
 // What a node calls that is no function of the unit.
@@ -285,12 +325,27 @@ fn with_calls(nodes: &[TNode], node: &TNode, found: Option<Finding>) -> Option<F
     requires below { are_below (length nodes.now) node.now.kids.items ≡ true }
     ensures { result ≡ fold sooner found (foreign_calls_of (trees_of nodes.now) node.now) }
 {
-    let found = noted(found, is_predeclared_call(node.kind), node.at, UnsafeReason::CallsUnsafe);
-    noted(found, is_unsafe_pointer_call(nodes, node), node.at, UnsafeReason::CallsUnsafePointer)
+    let found = noted(
+        found,
+        is_predeclared_call(node.kind),
+        node.at,
+        UnsafeReason::CallsUnsafe,
+    );
+    noted(
+        found,
+        is_unsafe_pointer_call(nodes, node),
+        node.at,
+        UnsafeReason::CallsUnsafePointer,
+    )
 }
 
 /// What a node is unsafe for by itself, the first of that and of what was found before.
-pub(crate) fn with_own(nodes: &[TNode], volatile: &[bool], node: &TNode, found: Option<Finding>) -> Option<Finding>
+pub(crate) fn with_own(
+    nodes: &[TNode],
+    volatile: &[bool],
+    node: &TNode,
+    found: Option<Finding>,
+) -> Option<Finding>
     requires ordered { IsOrdered nodes.now }
     requires below { are_below (length nodes.now) node.now.kids.items ≡ true }
     ensures { result ≡ fold sooner found (own_of (marked volatile.now) (trees_of nodes.now) node.now) }

@@ -12,7 +12,7 @@ decreases-add_tree l = l.id.0
 abbrev pub invariant-loop-kid : goal.invariant-loop-kid
 invariant-loop-kid l = record {
   first : fold sooner l.contents.first (own_in_all (marked l.volatile) l.deeper (trees_at (trees_of l.nodes) (drop l.kid-index l.kid-items)))
-    ≡ fold sooner l.initial.contents.first (own_in_all (marked l.volatile) l.deeper (trees_at (trees_of l.nodes) l.kid-items));
+      ≡ fold sooner l.initial.contents.first (own_in_all (marked l.volatile) l.deeper (trees_at (trees_of l.nodes) l.kid-items));
   calls : l.contents.calls.items ++ calls_in_all l.deeper (trees_at (trees_of l.nodes) (drop l.kid-index l.kid-items))
-    ≡ l.initial.contents.calls.items ++ calls_in_all l.deeper (trees_at (trees_of l.nodes) l.kid-items);
+      ≡ l.initial.contents.calls.items ++ calls_in_all l.deeper (trees_at (trees_of l.nodes) l.kid-items);
 }
