@@ -1,0 +1,35 @@
+-- What the safety check is for: what happens in the blocks of a safe program.
+use Rattle.std.specs.Prelude.{◌≡◌, ℕ, ℤ, true, List, Option, Some, slice_get}
+use Rattle.tx_events.specs.declared.Reply.{Reply}
+use Rattle.cpp_tree.specs.declared.program.Program.{Program as TypedUnits}
+use Rattle.cpp_tree.specs.Units.{Func, SlotFunc, TypedProgram, program_of}
+use Rattle.cpp_tree.specs.WellFormed.{WellFormed}
+use Rattle.src_mean.specs.Linked.{Program}
+use Rattle.src_mean.specs.Links.{Def, func_at, kept_funcs, number_in, def_of_func, linked}
+use Rattle.src_mean.specs.Frames.{State}
+use Rattle.src_mean.specs.Source.{source, begins, main_state}
+use Rattle.src_mean.specs.Laws.{is_hidden}
+use Rattle.tx_safety.specs.Safe.{IsSafe, is_safe}
+
+-- the states that threads come to: of `main`, of threads that begin with any function and argument, and behind them after any replies
+pub data Comes (p : Program) : State → Type 0 where
+  main : Comes p (main_state p)
+  begun : (number func : ℕ) (arg : ℤ) → Comes p (begins p number func arg)
+  goes_on : {s : State} (reply : Reply) → Comes p s → Comes p ((source p).after s reply)
+
+-- no event inside an atomic block is volatile, output, input, or the start or join of a thread
+pub record HidesBlocks (p : Program) : Type 0 where
+  pub hidden : (s : State) → Comes p s → is_hidden ((source p).next s) ((source p).blocks s) ≡ true
+
+-- the linked program of a typed one, in which exactly the safe functions have safe bodies
+abbrev pub safely_linked : (SlotFunc → Option (List ℕ)) → (entry : List ℕ) → TypedProgram → Program
+safely_linked symbol entry t = linked (is_safe t) symbol entry t
+
+-- a function that is safe in a unit is so where its kept definition stands, which the linker sees to
+pub record LinksSafely (t : TypedProgram) : Type 0 where
+  pub kept : (unit n : ℕ) (f : Func) (d : Def) → func_at t unit n ≡ Some f → is_safe t unit n ≡ true
+    → slice_get (kept_funcs t) (number_in (def_of_func unit n f) (kept_funcs t)) ≡ Some d → is_safe t d.unit d.place ≡ true
+
+-- the blocks of a safe program are hidden, whatever its slots name
+pub record UnsafeFree (p : TypedUnits) : Type 0 where
+  pub free : (symbol : SlotFunc → Option (List ℕ)) (entry : List ℕ) → WellFormed p → IsSafe (program_of p) → LinksSafely (program_of p) → HidesBlocks (safely_linked symbol entry (program_of p))

@@ -1,0 +1,4 @@
+pub mod FuncMarks
+pub mod Contents
+pub mod FindingLists
+pub mod Programs

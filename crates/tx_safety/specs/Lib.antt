@@ -1,0 +1,5 @@
+pub mod Safe
+pub mod Marks
+pub mod Checked
+pub mod Answers
+pub mod Examples
