@@ -28,7 +28,7 @@ safely_linked symbol entry t = linked (is_safe t) symbol entry t
 -- a function that is safe in a unit is so where its kept definition stands, which the linker sees to
 pub record LinksSafely (t : TypedProgram) : Type 0 where
   pub kept : (unit n : ℕ) (f : Func) (d : Def) → func_at t unit n ≡ Some f → is_safe t unit n ≡ true
-    → slice_get (kept_funcs t) (number_in (def_of_func unit n f) (kept_funcs t)) ≡ Some d → is_safe t d.unit d.place ≡ true
+      → slice_get (kept_funcs t) (number_in (def_of_func unit n f) (kept_funcs t)) ≡ Some d → is_safe t d.unit d.place ≡ true
 
 -- the blocks of a safe program are hidden, whatever its slots name
 pub record UnsafeFree (p : TypedUnits) : Type 0 where
