@@ -1,0 +1,14 @@
+pub mod Ascending
+pub mod NameRanks
+pub mod FirstClaims
+pub mod ByRank
+pub mod ListedEntries
+pub mod ToldFaults
+pub mod FirstOnes
+pub mod ClassTests
+pub mod FirstClasses
+pub mod KeptDefinitions
+pub mod Marks
+pub mod MissingByRank
+pub mod PlacedSizes
+pub mod OneImage

@@ -1,0 +1,13 @@
+pub mod Faults
+pub mod Ranks
+pub mod Answers
+pub mod Ranked
+pub mod Disputes
+pub mod Claims
+pub mod Tests
+pub mod Told
+pub mod Kept
+pub mod Sizes
+pub mod Unlisted
+pub mod RankedClasses
+pub mod Examples
