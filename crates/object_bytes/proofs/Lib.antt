@@ -10,3 +10,4 @@ pub mod ByName
 pub mod ChainSteps
 pub mod Positions
 pub mod Puts
+pub mod Sources

@@ -9,13 +9,15 @@ mod chains;
 pub mod laws;
 mod naming;
 mod op;
+mod source;
 mod unused;
 mod whole;
 mod writing;
 
 pub use chains::first_wrong_base;
-pub use naming::names_used;
+pub use naming::{instr_name, names_used};
 pub use op::{Op, op_of};
+pub use source::source_name;
 pub use unused::{first_unused, name_size};
 pub use whole::is_whole;
 pub use writing::write;

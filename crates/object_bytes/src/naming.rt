@@ -18,7 +18,8 @@ fn add_or_none(out: &mut Vec<u32>, number: u32) -> Result<(), AllocError>
     Ok(out.push(number - 1)?)
 }
 
-fn instr_name(instr: Instr) -> Option<u32>
+/// The name that an instruction names, if it names one.
+pub fn instr_name(instr: Instr) -> Option<u32>
     ensures { MatchOption result (named_by instr ≡ []) (λ name. named_by instr ≡ name ∷ []) }
 {
     match instr {

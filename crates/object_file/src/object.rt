@@ -1,14 +1,13 @@
 //! The fields of an object.
-ghost use Rattle.std.specs.Prelude.{◌≡◌, ◌||◌, map, None, Some, Err, MatchOption, length, slice_get, IfOk, OnErr, nat_eq};
+ghost use Rattle.std.specs.Prelude.{◌≡◌, ◌||◌, map, length, nat_eq};
 ghost use Rattle.std.specs.Option.{option_map};
 ghost use Rattle.std.specs.Str.{bytes_eq};
 ghost use Rattle.tx_code.specs.Objects.{ClassView, GlobalView, FuncView, bytes_of, class_view, global_view, func_view, object_view};
-ghost use Rattle.object_file.specs.declared.fault.ReadError.TheVariants.{Memory};
 ghost use Rattle.object_bytes.specs.Spelling.{magic};
 ghost use Rattle.object_file.specs.Reading.{Gives};
 ghost use Rattle.object_bytes.specs.Decoder.{such_that, u32, raw, list};
 ghost use Rattle.object_bytes.specs.Fields.{class, global, func};
-ghost use Rattle.object_bytes.specs.Objects.{source_of, source_field, entries, object};
+ghost use Rattle.object_bytes.specs.Objects.{source_field, entries, object};
 
 use crate::classes::classes_at;
 use crate::fault::ReadError;
@@ -16,6 +15,7 @@ use crate::funcs::funcs_at;
 use crate::globals::globals_at;
 use crate::names::{names_at, raw_at};
 use crate::numbers::{name_or_none_at, u32_at, wrong};
+use object_bytes::source_name;
 use std::alloc::Global;
 use tx_code::{ObjClass, ObjFunc, ObjGlobal, Object};
 
@@ -45,26 +45,6 @@ fn count_of(names: &[Vec<u8>]) -> usize
     ensures { result ≡ length (map bytes_of names.now) }
 {
     names.len()
-}
-
-fn name_in(names: &[Vec<u8>], i: usize) -> Option<&Vec<u8>>
-    ensures { MatchOption result (slice_get (map bytes_of names.now) i ≡ None) (λ name. slice_get (map bytes_of names.now) i ≡ Some (name.now.items)) }
-{
-    names.get(i)
-}
-
-/// The name with this number minus 1, or none where it is 0.
-fn source_name(alloc: Global, names: &[Vec<u8>], number: u32) -> Result<Option<Vec<u8>>, ReadError>
-    ensures source { IfOk result (λ s. option_map bytes_of s ≡ source_of (map bytes_of names.now) number) }
-    ensures memory { OnErr result (result ≡ Err Memory) }
-{
-    if number == 0 {
-        return Ok(None);
-    }
-    match name_in(names, number as usize - 1) {
-        Some(name) => Ok(Some(Vec::from_slice(alloc, name)?)),
-        None => Ok(None),
-    }
 }
 
 #[tactic(auto, unfolding(object_bytes::specs::Decoder::bind, object_bytes::specs::Decoder::done, object_bytes::specs::Objects::source_field))]
