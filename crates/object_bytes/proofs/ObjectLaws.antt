@@ -112,11 +112,11 @@ number_back k (y ∷ ys) x h =
           (suc b.0, rw ne (b.1 ∙ k1), b.2)
     ]
 
-abbrev fits_by : Bool → List (List ℕ) → Option (List ℕ) → Bool
+abbrev pub fits_by : Bool → List (List ℕ) → Option (List ℕ) → Bool
 fits_by b names None = true
 fits_by b names (Some name) = b && list_any (bytes_eq name) names
 
-source_fits_is : (version : ℕ) (names : List (List ℕ)) (source : Option (List ℕ)) → source_fits version names source ≡ fits_by (nat_eq version 2) names source
+pub source_fits_is : (version : ℕ) (names : List (List ℕ)) (source : Option (List ℕ)) → source_fits version names source ≡ fits_by (nat_eq version 2) names source
 source_fits_is version names None = refl
 source_fits_is version names (Some name) = refl
 
@@ -128,11 +128,11 @@ found_in (y ∷ ys) zero x e =
     rw eq refl
 found_in (y ∷ ys) (suc i) x e = or_right (bytes_eq x y) (list_any (bytes_eq x) ys) (found_in ys i x e)
 
-record Numbered (names : List (List ℕ)) (i : ℕ) (source : Option (List ℕ)) : Type 0 where
-  number : i ≡ source_number names source
-  named : fits_by true names source ≡ true
+pub record Numbered (names : List (List ℕ)) (i : ℕ) (source : Option (List ℕ)) : Type 0 where
+  pub number : i ≡ source_number names source
+  pub named : fits_by true names source ≡ true
 
-numbered : (names : List (List ℕ)) (i : ℕ) → ascends bytes_lt names ≡ true → is_name_or_none (length names) i ≡ true → Numbered names i (source_of names i)
+pub numbered : (names : List (List ℕ)) (i : ℕ) → ascends bytes_lt names ≡ true → is_name_or_none (length names) i ≡ true → Numbered names i (source_of names i)
 numbered names zero h fits = record { number = refl; named = refl }
 numbered names (suc i) h fits =
     let lt : i < length names = omega (arith, leb-true (suc i) (length names) fits) in

@@ -20,4 +20,4 @@ pub use op::{Op, op_of};
 pub use source::source_name;
 pub use unused::{first_unused, name_size};
 pub use whole::is_whole;
-pub use writing::write;
+pub use writing::{number_of, write};

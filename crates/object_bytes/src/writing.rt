@@ -365,7 +365,7 @@ fn put_names(out: &mut Vec<u8>, names: &[Vec<u8>]) -> Result<(), AllocError>
 }
 
 /// The number of a name plus 1.
-fn number_of(names: &[Vec<u8>], name: &[u8]) -> usize
+pub fn number_of(names: &[Vec<u8>], name: &[u8]) -> usize
     ensures { result ≡ number_of 1 (map bytes_of names.now) name.now }
 {
     let mut number = 1;
