@@ -1,15 +1,2 @@
 pub mod Loop
-pub mod Codec
-pub mod Parts
-pub mod Lists
-pub mod InstrLaws
-pub mod BodyLaws
-pub mod EntryLaws
-pub mod ObjectLaws
-pub mod Sources
-pub mod WholeLaws
-pub mod ByName
-pub mod ChainSteps
-pub mod Positions
-pub mod Puts
 pub mod ReadLaws

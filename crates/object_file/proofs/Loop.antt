@@ -3,7 +3,8 @@ use Rattle.std.proofs.Common.{◌≡◌, ℕ, zero, suc, ◌-◌, ◌+◌, ◌�
 use Rattle.std.proofs.lemmas.List.{append-nil}
 use Rattle.object_file.specs.declared.fault.ReadError.{ReadError}
 use Rattle.object_file.specs.declared.fault.ReadError.TheVariants.{Memory, Wrong}
-use Rattle.object_file.specs.Decoder.{Decoder, go_on, done, bind, u32, items, list, each, Fails}
+use Rattle.object_bytes.specs.Decoder.{Decoder, go_on, done, bind, u32, items, list, each}
+use Rattle.object_file.specs.Reading.{Fails}
 
 -- what was read before, and what is still read
 abbrev pub with_front : {A : Type 0} → List A → Result (List A × List ℕ) ℕ → Result (List A × List ℕ) ℕ

@@ -6,12 +6,12 @@ use Rattle.tx_code.specs.declared.object.Object.{Object}
 use Rattle.tx_code.specs.Objects.{ObjectView, object_view}
 use Rattle.object_file.specs.declared.fault.ObjectFault.{ObjectFault}
 use Rattle.object_file.specs.declared.fault.ObjectFault.TheVariants.{BadObject, Memory}
-use Rattle.object_file.specs.Spelling.{Spells, object_bytes}
-use Rattle.object_file.specs.Objects.{object, unless_wrong, wrong_as_a_whole, to_the_end, decoded}
+use Rattle.object_bytes.specs.Spelling.{Spells, object_bytes}
+use Rattle.object_bytes.specs.Objects.{object, unless_wrong, wrong_as_a_whole, to_the_end, decoded}
 use Rattle.object_file.specs.Answers.{IsAnswer, IsObjectOrMemory, IsFirstWrong, IsSmall}
-use Rattle.object_file.proofs.Codec.{IsBytes}
-use Rattle.object_file.proofs.ObjectLaws.{object_reads}
-use Rattle.object_file.proofs.WholeLaws.{decoded_spells, decoded_again}
+use Rattle.object_bytes.proofs.Codec.{IsBytes}
+use Rattle.object_bytes.proofs.ObjectLaws.{object_reads}
+use Rattle.object_bytes.proofs.WholeLaws.{decoded_spells, decoded_again}
 
 pub small_object : (bytes : List ℕ) (o : ObjectView) (rest : List ℕ) → IsBytes bytes → object bytes ≡ Ok (o, rest) → length rest ≡ 0 → length bytes < 2 ^ 63 → IsSmall o
 small_object bytes o rest fits e none small =

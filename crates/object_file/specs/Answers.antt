@@ -5,8 +5,8 @@ use Rattle.tx_code.specs.Objects.{ClassView, ObjectView, object_view}
 use Rattle.tx_code.specs.WellFormed.{ascends_by}
 use Rattle.object_file.specs.declared.fault.ObjectFault.{ObjectFault}
 use Rattle.object_file.specs.declared.fault.ObjectFault.TheVariants.{BadObject, Memory}
-use Rattle.object_file.specs.Spelling.{Spells, object_bytes}
-use Rattle.object_file.specs.Objects.{decoded}
+use Rattle.object_bytes.specs.Spelling.{Spells, object_bytes}
+use Rattle.object_bytes.specs.Objects.{decoded}
 
 -- the answer is what reading gives, unless memory ran out
 abbrev pub IsAnswer : Result Object ObjectFault → Result ObjectView ℕ → Type 0

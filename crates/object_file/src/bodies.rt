@@ -2,9 +2,10 @@
 ghost use Rattle.std.specs.Prelude.{◌≡◌, map, not, ◌&&◌, ◌||◌, nat_eq, nat_lt};
 ghost use Rattle.tx_code.specs.WellFormed.{is_name};
 ghost use Rattle.tx_code.specs.Objects.{body_view};
-ghost use Rattle.object_file.specs.Decoder.{Gives, each, list, such_that, u32};
-ghost use Rattle.object_file.specs.Fields.{row, line_row, line_rows, from_above, line_differs, body};
-ghost use Rattle.object_file.specs.Instructions.{instr};
+ghost use Rattle.object_file.specs.Reading.{Gives};
+ghost use Rattle.object_bytes.specs.Decoder.{each, list, such_that, u32};
+ghost use Rattle.object_bytes.specs.Fields.{row, line_row, line_rows, from_above, line_differs, body};
+ghost use Rattle.object_bytes.specs.Instructions.{instr};
 
 use crate::fault::ReadError;
 use crate::instrs::instr_at;
@@ -12,7 +13,7 @@ use crate::numbers::{name_at, u8_at, u32_at, wrong};
 use std::alloc::Global;
 use tx_code::{Body, Instr, LineRow, Row};
 
-#[tactic(auto, unfolding(crate::specs::Decoder::bind, crate::specs::Decoder::list))]
+#[tactic(auto, unfolding(object_bytes::specs::Decoder::bind, object_bytes::specs::Decoder::list))]
 fn code_at(alloc: Global, names: usize, bytes: &[u8]) -> Result<(Vec<Instr>, &[u8]), ReadError>
     ensures { Gives (λ x. (x.0.items, x.1.now)) result (each (instr names) bytes.now) }
 {
@@ -27,7 +28,7 @@ fn code_at(alloc: Global, names: usize, bytes: &[u8]) -> Result<(Vec<Instr>, &[u
 }
 
 /// The type of a row: a name, if the row names it.
-#[tactic(auto, unfolding(crate::specs::Decoder::such_that))]
+#[tactic(auto, unfolding(object_bytes::specs::Decoder::such_that))]
 fn row_type_at(names: usize, what: u8, bytes: &[u8]) -> Result<(u32, &[u8]), ReadError>
     ensures { Gives (λ x. (x.0, x.1.now)) result (such_that u32 (λ ty. not (nat_eq what 1) || is_name names ty) bytes.now) }
 {
@@ -38,7 +39,7 @@ fn row_type_at(names: usize, what: u8, bytes: &[u8]) -> Result<(u32, &[u8]), Rea
     Ok((ty, rest))
 }
 
-#[tactic(auto, unfolding(crate::specs::Decoder::bind, crate::specs::Decoder::done, crate::specs::Fields::row))]
+#[tactic(auto, unfolding(object_bytes::specs::Decoder::bind, object_bytes::specs::Decoder::done, object_bytes::specs::Fields::row))]
 fn row_at(names: usize, bytes: &[u8]) -> Result<(Row, &[u8]), ReadError>
     ensures { Gives (λ x. (x.0, x.1.now)) result (row names bytes.now) }
 {
@@ -61,7 +62,7 @@ fn row_at(names: usize, bytes: &[u8]) -> Result<(Row, &[u8]), ReadError>
     ))
 }
 
-#[tactic(auto, unfolding(crate::specs::Decoder::bind, crate::specs::Decoder::list))]
+#[tactic(auto, unfolding(object_bytes::specs::Decoder::bind, object_bytes::specs::Decoder::list))]
 fn rows_at(alloc: Global, names: usize, bytes: &[u8]) -> Result<(Vec<Row>, &[u8]), ReadError>
     ensures { Gives (λ x. (x.0.items, x.1.now)) result (each (row names) bytes.now) }
 {
@@ -75,7 +76,7 @@ fn rows_at(alloc: Global, names: usize, bytes: &[u8]) -> Result<(Vec<Row>, &[u8]
     Ok((rows, rest))
 }
 
-#[tactic(auto, unfolding(crate::specs::Decoder::such_that))]
+#[tactic(auto, unfolding(object_bytes::specs::Decoder::such_that))]
 fn line_from_at(
     instrs: usize,
     before: Option<LineRow>,
@@ -93,7 +94,7 @@ fn line_from_at(
     Ok((from, rest))
 }
 
-#[tactic(auto, unfolding(crate::specs::Decoder::such_that))]
+#[tactic(auto, unfolding(object_bytes::specs::Decoder::such_that))]
 fn line_number_at(before: Option<LineRow>, bytes: &[u8]) -> Result<(u32, &[u8]), ReadError>
     ensures { Gives (λ x. (x.0, x.1.now)) result (such_that u32 (line_differs before) bytes.now) }
 {
@@ -104,7 +105,7 @@ fn line_number_at(before: Option<LineRow>, bytes: &[u8]) -> Result<(u32, &[u8]),
     Ok((line, rest))
 }
 
-#[tactic(auto, unfolding(crate::specs::Decoder::bind, crate::specs::Decoder::done, crate::specs::Fields::line_row))]
+#[tactic(auto, unfolding(object_bytes::specs::Decoder::bind, object_bytes::specs::Decoder::done, object_bytes::specs::Fields::line_row))]
 fn line_row_at(
     instrs: usize,
     before: Option<LineRow>,
@@ -117,7 +118,7 @@ fn line_row_at(
     Ok((LineRow { from, line }, rest))
 }
 
-#[tactic(auto, unfolding(crate::specs::Decoder::bind, crate::specs::Decoder::list))]
+#[tactic(auto, unfolding(object_bytes::specs::Decoder::bind, object_bytes::specs::Decoder::list))]
 fn lines_at(alloc: Global, instrs: usize, bytes: &[u8]) -> Result<(Vec<LineRow>, &[u8]), ReadError>
     ensures { Gives (λ x. (x.0.items, x.1.now)) result (list (λ l. l) (line_row instrs) bytes.now) }
 {
@@ -133,7 +134,7 @@ fn lines_at(alloc: Global, instrs: usize, bytes: &[u8]) -> Result<(Vec<LineRow>,
     Ok((lines, rest))
 }
 
-#[tactic(auto, unfolding(crate::specs::Decoder::done, crate::specs::Fields::line_rows))]
+#[tactic(auto, unfolding(object_bytes::specs::Decoder::done, object_bytes::specs::Fields::line_rows))]
 fn line_rows_at(
     alloc: Global,
     version: u32,
@@ -148,7 +149,7 @@ fn line_rows_at(
     Ok((Vec::new(alloc), bytes))
 }
 
-#[tactic(auto, unfolding(crate::specs::Decoder::bind, crate::specs::Decoder::done, crate::specs::Fields::body))]
+#[tactic(auto, unfolding(object_bytes::specs::Decoder::bind, object_bytes::specs::Decoder::done, object_bytes::specs::Fields::body))]
 pub(crate) fn body_at(
     alloc: Global,
     version: u32,

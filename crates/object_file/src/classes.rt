@@ -1,16 +1,17 @@
 //! Classes.
 ghost use Rattle.std.specs.Prelude.{◌≡◌, map};
 ghost use Rattle.tx_code.specs.Objects.{ClassView, class_view};
-ghost use Rattle.object_file.specs.Decoder.{Gives, each, list};
-ghost use Rattle.object_file.specs.Instructions.{name};
-ghost use Rattle.object_file.specs.Fields.{name_or_none, member, class};
+ghost use Rattle.object_file.specs.Reading.{Gives};
+ghost use Rattle.object_bytes.specs.Decoder.{each, list};
+ghost use Rattle.object_bytes.specs.Instructions.{name};
+ghost use Rattle.object_bytes.specs.Fields.{name_or_none, member, class};
 
 use crate::fault::ReadError;
 use crate::numbers::{name_at, name_or_none_at, next_name_at, u32_at};
 use std::alloc::Global;
 use tx_code::{ObjClass, ObjMember};
 
-#[tactic(auto, unfolding(crate::specs::Decoder::bind, crate::specs::Decoder::done, crate::specs::Fields::member))]
+#[tactic(auto, unfolding(object_bytes::specs::Decoder::bind, object_bytes::specs::Decoder::done, object_bytes::specs::Fields::member))]
 fn member_at(names: usize, bytes: &[u8]) -> Result<(ObjMember, &[u8]), ReadError>
     ensures { Gives (λ x. (x.0, x.1.now)) result (member names bytes.now) }
 {
@@ -20,7 +21,7 @@ fn member_at(names: usize, bytes: &[u8]) -> Result<(ObjMember, &[u8]), ReadError
     Ok((ObjMember { name, offset, ty }, rest))
 }
 
-#[tactic(auto, unfolding(crate::specs::Decoder::bind, crate::specs::Decoder::done, crate::specs::Decoder::list))]
+#[tactic(auto, unfolding(object_bytes::specs::Decoder::bind, object_bytes::specs::Decoder::done, object_bytes::specs::Decoder::list))]
 fn members_at(
     alloc: Global,
     names: usize,
@@ -38,7 +39,7 @@ fn members_at(
     Ok((members, rest))
 }
 
-#[tactic(auto, unfolding(crate::specs::Decoder::bind, crate::specs::Decoder::done, crate::specs::Decoder::list))]
+#[tactic(auto, unfolding(object_bytes::specs::Decoder::bind, object_bytes::specs::Decoder::done, object_bytes::specs::Decoder::list))]
 fn slots_at(alloc: Global, names: usize, bytes: &[u8]) -> Result<(Vec<u32>, &[u8]), ReadError>
     ensures { Gives (λ x. (x.0.items, x.1.now)) result (each (name_or_none names) bytes.now) }
 {
@@ -52,7 +53,7 @@ fn slots_at(alloc: Global, names: usize, bytes: &[u8]) -> Result<(Vec<u32>, &[u8
     Ok((slots, rest))
 }
 
-#[tactic(auto, unfolding(crate::specs::Decoder::bind, crate::specs::Decoder::done, crate::specs::Fields::class))]
+#[tactic(auto, unfolding(object_bytes::specs::Decoder::bind, object_bytes::specs::Decoder::done, object_bytes::specs::Fields::class))]
 fn class_at(
     alloc: Global,
     names: usize,
@@ -84,7 +85,7 @@ fn class_at(
     ))
 }
 
-#[tactic(auto, unfolding(crate::specs::Decoder::bind, crate::specs::Decoder::list))]
+#[tactic(auto, unfolding(object_bytes::specs::Decoder::bind, object_bytes::specs::Decoder::list))]
 pub(crate) fn classes_at(
     alloc: Global,
     names: usize,

@@ -3,8 +3,9 @@ ghost use Rattle.std.specs.Prelude.{◌≡◌, ◌&&◌, ◌||◌, ◌<◌, Bool
 ghost use Rattle.std.specs.Option.{option_map};
 ghost use Rattle.tx_code.specs.Objects.{FuncView, func_view, body_view};
 ghost use Rattle.tx_code.specs.WellFormed.{bit, same, flags_fit};
-ghost use Rattle.object_file.specs.Decoder.{Gives, such_that, u8, u32, when, list};
-ghost use Rattle.object_file.specs.Fields.{name_or_none, body, func};
+ghost use Rattle.object_file.specs.Reading.{Gives};
+ghost use Rattle.object_bytes.specs.Decoder.{such_that, u8, u32, when, list};
+ghost use Rattle.object_bytes.specs.Fields.{name_or_none, body, func};
 
 use crate::bodies::body_at;
 use crate::fault::ReadError;
@@ -29,7 +30,7 @@ fn are_flags(flags: u8) -> bool
     flags < 16 && (!has_bit(flags, 1) || has_bit(flags, 0))
 }
 
-#[tactic(auto, unfolding(crate::specs::Decoder::such_that))]
+#[tactic(auto, unfolding(object_bytes::specs::Decoder::such_that))]
 fn flags_at(bytes: &[u8]) -> Result<(u8, &[u8]), ReadError>
     ensures { Gives (λ x. (x.0, x.1.now)) result (such_that u8 flags_fit bytes.now) }
 {
@@ -48,7 +49,7 @@ fn has_text(linkage: u8, flags: u8) -> bool
 }
 
 /// The text of a function: an inline definition has one.
-#[tactic(auto, unfolding(crate::specs::Decoder::such_that))]
+#[tactic(auto, unfolding(object_bytes::specs::Decoder::such_that))]
 fn definition_at(
     names: usize,
     linkage: u8,
@@ -64,7 +65,7 @@ fn definition_at(
     Ok((text, rest))
 }
 
-#[tactic(auto, unfolding(crate::specs::Decoder::such_that))]
+#[tactic(auto, unfolding(object_bytes::specs::Decoder::such_that))]
 fn frame_at(flags: u8, bytes: &[u8]) -> Result<(u32, &[u8]), ReadError>
     ensures { Gives (λ x. (x.0, x.1.now)) result (such_that u32 (λ f. bit 0 flags || nat_eq f 0) bytes.now) }
 {
@@ -75,7 +76,7 @@ fn frame_at(flags: u8, bytes: &[u8]) -> Result<(u32, &[u8]), ReadError>
     Ok((frame, rest))
 }
 
-#[tactic(auto, unfolding(crate::specs::Decoder::bind, crate::specs::Decoder::done, crate::specs::Decoder::when))]
+#[tactic(auto, unfolding(object_bytes::specs::Decoder::bind, object_bytes::specs::Decoder::done, object_bytes::specs::Decoder::when))]
 fn some_body_at(
     alloc: Global,
     version: u32,
@@ -92,7 +93,7 @@ fn some_body_at(
     Ok((Some(body), rest))
 }
 
-#[tactic(auto, unfolding(crate::specs::Decoder::bind, crate::specs::Decoder::done, crate::specs::Fields::func))]
+#[tactic(auto, unfolding(object_bytes::specs::Decoder::bind, object_bytes::specs::Decoder::done, object_bytes::specs::Fields::func))]
 fn func_at(
     alloc: Global,
     version: u32,
@@ -125,7 +126,7 @@ fn func_at(
     ))
 }
 
-#[tactic(auto, unfolding(crate::specs::Decoder::bind, crate::specs::Decoder::list))]
+#[tactic(auto, unfolding(object_bytes::specs::Decoder::bind, object_bytes::specs::Decoder::list))]
 pub(crate) fn funcs_at(
     alloc: Global,
     version: u32,

@@ -2,8 +2,9 @@
 ghost use Rattle.std.specs.Prelude.{◌≡◌, true, not, IfOk, ◌&&◌, ◌||◌, ◌+◌, ◌*◌, ◌^◌, map, None, nat_eq, nat_lt, nat_le};
 ghost use Rattle.tx_code.specs.Objects.{GlobalView, global_view};
 ghost use Rattle.tx_code.specs.WellFormed.{is_cell_size, is_multiple, same};
-ghost use Rattle.object_file.specs.Decoder.{Gives, such_that, u8, u32, u64, items, list};
-ghost use Rattle.object_file.specs.Fields.{name_or_none, is_clear, cell, global};
+ghost use Rattle.object_file.specs.Reading.{Gives};
+ghost use Rattle.object_bytes.specs.Decoder.{such_that, u8, u32, u64, items, list};
+ghost use Rattle.object_bytes.specs.Fields.{name_or_none, is_clear, cell, global};
 
 use crate::fault::ReadError;
 use crate::numbers::{
@@ -12,7 +13,7 @@ use crate::numbers::{
 use std::alloc::Global;
 use tx_code::{ObjCell, ObjGlobal};
 
-#[tactic(auto, unfolding(crate::specs::Decoder::such_that))]
+#[tactic(auto, unfolding(object_bytes::specs::Decoder::such_that))]
 fn cell_offset_at(before: Option<ObjCell>, bytes: &[u8]) -> Result<(u32, &[u8]), ReadError>
     ensures { Gives (λ x. (x.0, x.1.now)) result (such_that u32 (is_clear before) bytes.now) }
 {
@@ -33,7 +34,7 @@ fn is_cell_size_at(size: u8, offset: u32, global_size: u32) -> bool
         && u64::from(offset) + u64::from(size) <= u64::from(global_size)
 }
 
-#[tactic(auto, unfolding(crate::specs::Decoder::such_that))]
+#[tactic(auto, unfolding(object_bytes::specs::Decoder::such_that))]
 fn cell_size_at(offset: u32, global_size: u32, bytes: &[u8]) -> Result<(u8, &[u8]), ReadError>
     ensures read { Gives (λ x. (x.0, x.1.now)) result (such_that u8 (λ s. is_cell_size s && is_multiple offset s && nat_le (offset + s) global_size) bytes.now) }
     ensures size { IfOk result (λ x. is_cell_size x.0 ≡ true) }
@@ -45,7 +46,7 @@ fn cell_size_at(offset: u32, global_size: u32, bytes: &[u8]) -> Result<(u8, &[u8
     Ok((size, rest))
 }
 
-#[tactic(auto, unfolding(crate::specs::Decoder::such_that))]
+#[tactic(auto, unfolding(object_bytes::specs::Decoder::such_that))]
 fn cell_kind_at(size: u8, bytes: &[u8]) -> Result<(u8, &[u8]), ReadError>
     ensures { Gives (λ x. (x.0, x.1.now)) result (such_that u8 (λ w. nat_lt w 3 && (nat_eq w 0 || nat_eq size 8)) bytes.now) }
 {
@@ -69,7 +70,7 @@ fn fits_cell(size: u8, value: u64) -> bool
     }
 }
 
-#[tactic(auto, unfolding(crate::specs::Decoder::such_that))]
+#[tactic(auto, unfolding(object_bytes::specs::Decoder::such_that))]
 fn cell_value_at(size: u8, bytes: &[u8]) -> Result<(u64, &[u8]), ReadError>
     requires { is_cell_size size ≡ true }
     ensures { Gives (λ x. (x.0, x.1.now)) result (such_that u64 (λ v. nat_lt v (2 ^ (8 * size))) bytes.now) }
@@ -81,7 +82,7 @@ fn cell_value_at(size: u8, bytes: &[u8]) -> Result<(u64, &[u8]), ReadError>
     Ok((value, rest))
 }
 
-#[tactic(auto, unfolding(crate::specs::Decoder::such_that))]
+#[tactic(auto, unfolding(object_bytes::specs::Decoder::such_that))]
 fn cell_symbol_at(names: usize, what: u8, bytes: &[u8]) -> Result<(u32, &[u8]), ReadError>
     ensures { Gives (λ x. (x.0, x.1.now)) result (such_that (name_or_none names) (λ s. same (nat_eq what 0) (nat_eq s 0)) bytes.now) }
 {
@@ -92,7 +93,7 @@ fn cell_symbol_at(names: usize, what: u8, bytes: &[u8]) -> Result<(u32, &[u8]), 
     Ok((symbol, rest))
 }
 
-#[tactic(auto, unfolding(crate::specs::Decoder::bind, crate::specs::Decoder::done, crate::specs::Fields::cell))]
+#[tactic(auto, unfolding(object_bytes::specs::Decoder::bind, object_bytes::specs::Decoder::done, object_bytes::specs::Fields::cell))]
 fn cell_at(
     names: usize,
     global_size: u32,
@@ -139,7 +140,7 @@ fn cells_at(
     Ok((cells, rest))
 }
 
-#[tactic(auto, unfolding(crate::specs::Decoder::such_that))]
+#[tactic(auto, unfolding(object_bytes::specs::Decoder::such_that))]
 fn global_size_at(defined: u8, bytes: &[u8]) -> Result<(u32, &[u8]), ReadError>
     ensures { Gives (λ x. (x.0, x.1.now)) result (such_that u32 (λ s. same (nat_eq defined 0) (nat_eq s 0)) bytes.now) }
 {
@@ -150,7 +151,7 @@ fn global_size_at(defined: u8, bytes: &[u8]) -> Result<(u32, &[u8]), ReadError>
     Ok((size, rest))
 }
 
-#[tactic(auto, unfolding(crate::specs::Decoder::such_that))]
+#[tactic(auto, unfolding(object_bytes::specs::Decoder::such_that))]
 fn cell_count_at(defined: u8, bytes: &[u8]) -> Result<(u32, &[u8]), ReadError>
     ensures { Gives (λ x. (x.0, x.1.now)) result (such_that u32 (λ c. not (nat_eq defined 0) || nat_eq c 0) bytes.now) }
 {
@@ -161,7 +162,7 @@ fn cell_count_at(defined: u8, bytes: &[u8]) -> Result<(u32, &[u8]), ReadError>
     Ok((count, rest))
 }
 
-#[tactic(auto, unfolding(crate::specs::Decoder::bind, crate::specs::Decoder::done, crate::specs::Fields::global))]
+#[tactic(auto, unfolding(object_bytes::specs::Decoder::bind, object_bytes::specs::Decoder::done, object_bytes::specs::Fields::global))]
 fn global_at(
     alloc: Global,
     names: usize,
@@ -190,7 +191,7 @@ fn global_at(
     ))
 }
 
-#[tactic(auto, unfolding(crate::specs::Decoder::bind, crate::specs::Decoder::list))]
+#[tactic(auto, unfolding(object_bytes::specs::Decoder::bind, object_bytes::specs::Decoder::list))]
 pub(crate) fn globals_at(
     alloc: Global,
     names: usize,

@@ -1,73 +1,14 @@
 //! Instructions.
-ghost use Rattle.std.specs.Prelude.{◌≡◌, slice_get};
-ghost use Rattle.object_file.specs.Decoder.{Gives};
-ghost use Rattle.object_file.specs.Instructions.{op, ops, operands, instr};
+ghost use Rattle.std.specs.Prelude.{◌≡◌};
+ghost use Rattle.object_file.specs.Reading.{Gives};
+ghost use Rattle.object_bytes.specs.Instructions.{op, operands, instr};
 
 use crate::fault::ReadError;
 use crate::numbers::{name_at, u8_at, u32_at, u64_at, wrong};
-use crate::op::Op;
+use object_bytes::{Op, op_of};
 use tx_code::Instr;
 
-/// In the order of their op bytes.
-const OPS: [Op; 42] = [
-    Op::Push,
-    Op::Dup,
-    Op::Pop,
-    Op::Swap,
-    Op::FrameAddr,
-    Op::GlobalAddr,
-    Op::FuncAddr,
-    Op::ClassAddr,
-    Op::Load,
-    Op::Store,
-    Op::TLoad,
-    Op::TStore,
-    Op::VLoad,
-    Op::VStore,
-    Op::Bin,
-    Op::Neg,
-    Op::Conv,
-    Op::Jump,
-    Op::JumpZero,
-    Op::Call,
-    Op::TCall,
-    Op::CallIndirect,
-    Op::TCallIndirect,
-    Op::Slot,
-    Op::Ret,
-    Op::Begin,
-    Op::End,
-    Op::BeginSync,
-    Op::EndSync,
-    Op::Out,
-    Op::Inp,
-    Op::Spawn,
-    Op::Join,
-    Op::Abort,
-    Op::NewException,
-    Op::PutException,
-    Op::Throw,
-    Op::Rethrow,
-    Op::GetException,
-    Op::EndHandler,
-    Op::Resume,
-    Op::Over,
-];
-
-fn op_in(table: &[Op], byte: u8) -> Option<Op>
-    ensures { result ≡ slice_get table.now byte }
-{
-    table.get(byte as usize).copied()
-}
-
-/// The op of an op byte.
-pub fn op_of(byte: u8) -> Option<Op>
-    ensures { result ≡ slice_get ops byte }
-{
-    op_in(&OPS, byte)
-}
-
-#[tactic(auto, unfolding(crate::specs::Decoder::such_that, crate::specs::Decoder::bind, crate::specs::Decoder::done, crate::specs::Decoder::fail, crate::specs::Instructions::op))]
+#[tactic(auto, unfolding(object_bytes::specs::Decoder::such_that, object_bytes::specs::Decoder::bind, object_bytes::specs::Decoder::done, object_bytes::specs::Decoder::fail, object_bytes::specs::Instructions::op))]
 fn op_at(bytes: &[u8]) -> Result<(Op, &[u8]), ReadError>
     ensures { Gives (λ x. (x.0, x.1.now)) result (op bytes.now) }
 {
@@ -78,7 +19,7 @@ fn op_at(bytes: &[u8]) -> Result<(Op, &[u8]), ReadError>
     }
 }
 
-#[tactic(auto, unfolding(crate::specs::Decoder::bind, crate::specs::Decoder::done, crate::specs::Instructions::operands))]
+#[tactic(auto, unfolding(object_bytes::specs::Decoder::bind, object_bytes::specs::Decoder::done, object_bytes::specs::Instructions::operands))]
 fn operands_at(names: usize, op: Op, bytes: &[u8]) -> Result<(Instr, &[u8]), ReadError>
     ensures { Gives (λ x. (x.0, x.1.now)) result (operands names op bytes.now) }
 {
@@ -215,7 +156,7 @@ fn operands_at(names: usize, op: Op, bytes: &[u8]) -> Result<(Instr, &[u8]), Rea
     }
 }
 
-#[tactic(auto, unfolding(crate::specs::Decoder::bind, crate::specs::Instructions::instr))]
+#[tactic(auto, unfolding(object_bytes::specs::Decoder::bind, object_bytes::specs::Instructions::instr))]
 pub(crate) fn instr_at(names: usize, bytes: &[u8]) -> Result<(Instr, &[u8]), ReadError>
     ensures { Gives (λ x. (x.0, x.1.now)) result (instr names bytes.now) }
 {

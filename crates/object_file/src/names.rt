@@ -2,14 +2,15 @@
 ghost use Rattle.std.specs.Prelude.{◌≡◌, ◌++◌, ◌∷◌, [], map, Some, None, Option, List, ℕ};
 ghost use Rattle.tx_code.specs.Objects.{bytes_of};
 ghost use Rattle.tx_code.specs.WellFormed.{bytes_lt};
-ghost use Rattle.object_file.specs.Decoder.{Gives, such_that, u32, raw, list};
-ghost use Rattle.object_file.specs.Fields.{lent, above, is_name_length, text, name_item};
+ghost use Rattle.object_file.specs.Reading.{Gives};
+ghost use Rattle.object_bytes.specs.Decoder.{such_that, u32, raw, list};
+ghost use Rattle.object_bytes.specs.Fields.{lent, above, is_name_length, text, name_item};
 
 use crate::fault::ReadError;
 use crate::numbers::{u32_at, wrong};
 use std::alloc::Global;
 
-#[tactic(auto, unfolding(crate::specs::Decoder::such_that))]
+#[tactic(auto, unfolding(object_bytes::specs::Decoder::such_that))]
 fn name_length_at(bytes: &[u8]) -> Result<(u32, &[u8]), ReadError>
     ensures { Gives (λ x. (x.0, x.1.now)) result (such_that u32 is_name_length bytes.now) }
 {
@@ -20,7 +21,7 @@ fn name_length_at(bytes: &[u8]) -> Result<(u32, &[u8]), ReadError>
     Ok((length, rest))
 }
 
-#[tactic(auto, unfolding(crate::specs::Decoder::raw))]
+#[tactic(auto, unfolding(object_bytes::specs::Decoder::raw))]
 pub(crate) fn raw_at(count: usize, bytes: &[u8]) -> Result<(&[u8], &[u8]), ReadError>
     ensures { Gives (λ x. (x.0.now, x.1.now)) result (raw count bytes.now) }
 {
@@ -30,7 +31,7 @@ pub(crate) fn raw_at(count: usize, bytes: &[u8]) -> Result<(&[u8], &[u8]), ReadE
     Ok(bytes.split_at(count))
 }
 
-#[tactic(auto, unfolding(crate::specs::Decoder::bind, crate::specs::Fields::text))]
+#[tactic(auto, unfolding(object_bytes::specs::Decoder::bind, object_bytes::specs::Fields::text))]
 fn text_at(bytes: &[u8]) -> Result<(&[u8], &[u8]), ReadError>
     ensures { Gives (λ x. (x.0.now, x.1.now)) result (text bytes.now) }
 {
@@ -47,7 +48,7 @@ fn is_next(before: Option<&[u8]>, name: &[u8]) -> bool
     }
 }
 
-#[tactic(auto, unfolding(crate::specs::Decoder::such_that, crate::specs::Fields::name_item))]
+#[tactic(auto, unfolding(object_bytes::specs::Decoder::such_that, object_bytes::specs::Fields::name_item))]
 fn name_item_at<'a>(
     before: Option<&[u8]>,
     bytes: &'a [u8],
@@ -61,7 +62,7 @@ fn name_item_at<'a>(
     Ok((name, rest))
 }
 
-#[tactic(auto, unfolding(crate::specs::Decoder::bind, crate::specs::Decoder::list))]
+#[tactic(auto, unfolding(object_bytes::specs::Decoder::bind, object_bytes::specs::Decoder::list))]
 pub(crate) fn names_at(alloc: Global, bytes: &[u8]) -> Result<(Vec<Vec<u8>>, &[u8]), ReadError>
     ensures { Gives (λ x. (map bytes_of x.0.items, x.1.now)) result (list (λ name. name) name_item bytes.now) }
 {

@@ -1,9 +1,10 @@
 //! Numbers and names.
 ghost use Rattle.std.specs.Prelude.{◌≡◌, length, nat_lt};
 ghost use Rattle.object_file.specs.declared.fault.ReadError.TheVariants.{Wrong};
-ghost use Rattle.object_file.specs.Decoder.{Gives, such_that, u8, u32, u64};
-ghost use Rattle.object_file.specs.Instructions.{name};
-ghost use Rattle.object_file.specs.Fields.{name_or_none, next_name};
+ghost use Rattle.object_file.specs.Reading.{Gives};
+ghost use Rattle.object_bytes.specs.Decoder.{such_that, u8, u32, u64};
+ghost use Rattle.object_bytes.specs.Instructions.{name};
+ghost use Rattle.object_bytes.specs.Fields.{name_or_none, next_name};
 
 use crate::fault::ReadError;
 
@@ -14,7 +15,7 @@ pub(crate) fn wrong(bytes: &[u8]) -> ReadError
     ReadError::Wrong(bytes.len())
 }
 
-#[tactic(auto, unfolding(crate::specs::Decoder::u8))]
+#[tactic(auto, unfolding(object_bytes::specs::Decoder::u8))]
 pub(crate) fn u8_at(bytes: &[u8]) -> Result<(u8, &[u8]), ReadError>
     ensures { Gives (λ x. (x.0, x.1.now)) result (u8 bytes.now) }
 {
@@ -24,7 +25,7 @@ pub(crate) fn u8_at(bytes: &[u8]) -> Result<(u8, &[u8]), ReadError>
     }
 }
 
-#[tactic(auto, unfolding(crate::specs::Decoder::u32))]
+#[tactic(auto, unfolding(object_bytes::specs::Decoder::u32))]
 pub(crate) fn u32_at(bytes: &[u8]) -> Result<(u32, &[u8]), ReadError>
     ensures { Gives (λ x. (x.0, x.1.now)) result (u32 bytes.now) }
 {
@@ -36,7 +37,7 @@ pub(crate) fn u32_at(bytes: &[u8]) -> Result<(u32, &[u8]), ReadError>
     Ok((number, rest))
 }
 
-#[tactic(auto, unfolding(crate::specs::Decoder::u64))]
+#[tactic(auto, unfolding(object_bytes::specs::Decoder::u64))]
 pub(crate) fn u64_at(bytes: &[u8]) -> Result<(u64, &[u8]), ReadError>
     ensures { Gives (λ x. (x.0, x.1.now)) result (u64 bytes.now) }
 {
@@ -50,7 +51,7 @@ pub(crate) fn u64_at(bytes: &[u8]) -> Result<(u64, &[u8]), ReadError>
     Ok((number, rest))
 }
 
-#[tactic(auto, unfolding(crate::specs::Decoder::such_that))]
+#[tactic(auto, unfolding(object_bytes::specs::Decoder::such_that))]
 pub(crate) fn name_at(names: usize, bytes: &[u8]) -> Result<(u32, &[u8]), ReadError>
     ensures { Gives (λ x. (x.0, x.1.now)) result (name names bytes.now) }
 {
@@ -61,7 +62,7 @@ pub(crate) fn name_at(names: usize, bytes: &[u8]) -> Result<(u32, &[u8]), ReadEr
     Ok((name, rest))
 }
 
-#[tactic(auto, unfolding(crate::specs::Decoder::such_that))]
+#[tactic(auto, unfolding(object_bytes::specs::Decoder::such_that))]
 pub(crate) fn name_or_none_at(names: usize, bytes: &[u8]) -> Result<(u32, &[u8]), ReadError>
     ensures { Gives (λ x. (x.0, x.1.now)) result (name_or_none names bytes.now) }
 {
@@ -72,7 +73,7 @@ pub(crate) fn name_or_none_at(names: usize, bytes: &[u8]) -> Result<(u32, &[u8])
     Ok((name, rest))
 }
 
-#[tactic(auto, unfolding(crate::specs::Decoder::such_that))]
+#[tactic(auto, unfolding(object_bytes::specs::Decoder::such_that))]
 pub(crate) fn next_name_at(
     names: usize,
     before: Option<u32>,
@@ -87,7 +88,7 @@ pub(crate) fn next_name_at(
     Ok((name, rest))
 }
 
-#[tactic(auto, unfolding(crate::specs::Decoder::such_that))]
+#[tactic(auto, unfolding(object_bytes::specs::Decoder::such_that))]
 pub(crate) fn u8_below_at(limit: u8, bytes: &[u8]) -> Result<(u8, &[u8]), ReadError>
     ensures { Gives (λ x. (x.0, x.1.now)) result (such_that u8 (λ n. nat_lt n limit) bytes.now) }
 {

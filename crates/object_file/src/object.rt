@@ -1,13 +1,13 @@
 //! The fields of an object.
-ghost use Rattle.std.specs.Prelude.{◌≡◌, ◌||◌, map, None, Some, Err, MatchOption, length, slice_get, IfOk, OnErr, nat_eq};
+ghost use Rattle.std.specs.Prelude.{◌≡◌, ◌||◌, map, length, nat_eq};
 ghost use Rattle.std.specs.Option.{option_map};
 ghost use Rattle.std.specs.Str.{bytes_eq};
 ghost use Rattle.tx_code.specs.Objects.{ClassView, GlobalView, FuncView, bytes_of, class_view, global_view, func_view, object_view};
-ghost use Rattle.object_file.specs.declared.fault.ReadError.TheVariants.{Memory};
-ghost use Rattle.object_file.specs.Spelling.{magic};
-ghost use Rattle.object_file.specs.Decoder.{Gives, such_that, u32, raw, list};
-ghost use Rattle.object_file.specs.Fields.{class, global, func};
-ghost use Rattle.object_file.specs.Objects.{source_of, source_field, entries, object};
+ghost use Rattle.object_bytes.specs.Spelling.{magic};
+ghost use Rattle.object_file.specs.Reading.{Gives};
+ghost use Rattle.object_bytes.specs.Decoder.{such_that, u32, raw, list};
+ghost use Rattle.object_bytes.specs.Fields.{class, global, func};
+ghost use Rattle.object_bytes.specs.Objects.{source_field, entries, object};
 
 use crate::classes::classes_at;
 use crate::fault::ReadError;
@@ -15,10 +15,11 @@ use crate::funcs::funcs_at;
 use crate::globals::globals_at;
 use crate::names::{names_at, raw_at};
 use crate::numbers::{name_or_none_at, u32_at, wrong};
+use object_bytes::source_name;
 use std::alloc::Global;
 use tx_code::{ObjClass, ObjFunc, ObjGlobal, Object};
 
-#[tactic(auto, unfolding(crate::specs::Decoder::such_that))]
+#[tactic(auto, unfolding(object_bytes::specs::Decoder::such_that))]
 fn head_at(bytes: &[u8]) -> Result<(&[u8], &[u8]), ReadError>
     ensures { Gives (λ x. (x.0.now, x.1.now)) result (such_that (raw 4) (λ b. bytes_eq b magic) bytes.now) }
 {
@@ -29,7 +30,7 @@ fn head_at(bytes: &[u8]) -> Result<(&[u8], &[u8]), ReadError>
     Ok((head, rest))
 }
 
-#[tactic(auto, unfolding(crate::specs::Decoder::such_that))]
+#[tactic(auto, unfolding(object_bytes::specs::Decoder::such_that))]
 fn version_at(bytes: &[u8]) -> Result<(u32, &[u8]), ReadError>
     ensures { Gives (λ x. (x.0, x.1.now)) result (such_that u32 (λ v. nat_eq v 1 || nat_eq v 2) bytes.now) }
 {
@@ -46,27 +47,7 @@ fn count_of(names: &[Vec<u8>]) -> usize
     names.len()
 }
 
-fn name_in(names: &[Vec<u8>], i: usize) -> Option<&Vec<u8>>
-    ensures { MatchOption result (slice_get (map bytes_of names.now) i ≡ None) (λ name. slice_get (map bytes_of names.now) i ≡ Some (name.now.items)) }
-{
-    names.get(i)
-}
-
-/// The name with this number minus 1, or none where it is 0.
-fn source_name(alloc: Global, names: &[Vec<u8>], number: u32) -> Result<Option<Vec<u8>>, ReadError>
-    ensures source { IfOk result (λ s. option_map bytes_of s ≡ source_of (map bytes_of names.now) number) }
-    ensures memory { OnErr result (result ≡ Err Memory) }
-{
-    if number == 0 {
-        return Ok(None);
-    }
-    match name_in(names, number as usize - 1) {
-        Some(name) => Ok(Some(Vec::from_slice(alloc, name)?)),
-        None => Ok(None),
-    }
-}
-
-#[tactic(auto, unfolding(crate::specs::Decoder::bind, crate::specs::Decoder::done, crate::specs::Objects::source_field))]
+#[tactic(auto, unfolding(object_bytes::specs::Decoder::bind, object_bytes::specs::Decoder::done, object_bytes::specs::Objects::source_field))]
 fn source_at<'a>(
     alloc: Global,
     version: u32,
@@ -114,7 +95,7 @@ fn funcs_of<'a>(
     funcs_at(alloc, version, count_of(names), bytes)
 }
 
-#[tactic(auto, unfolding(crate::specs::Decoder::bind, crate::specs::Decoder::done, crate::specs::Objects::entries))]
+#[tactic(auto, unfolding(object_bytes::specs::Decoder::bind, object_bytes::specs::Decoder::done, object_bytes::specs::Objects::entries))]
 fn entries_at(
     alloc: Global,
     version: u32,
@@ -140,7 +121,7 @@ fn entries_at(
     ))
 }
 
-#[tactic(auto, unfolding(crate::specs::Decoder::bind, crate::specs::Objects::object))]
+#[tactic(auto, unfolding(object_bytes::specs::Decoder::bind, object_bytes::specs::Objects::object))]
 pub(crate) fn object_at(alloc: Global, bytes: &[u8]) -> Result<(Object, &[u8]), ReadError>
     ensures { Gives (λ x. (object_view x.0, x.1.now)) result (object bytes.now) }
 {

@@ -3,24 +3,15 @@ ghost use Rattle.std.specs.Prelude.{◌≡◌, ◌<◌, ◌+◌, ◌-◌, ◌^�
 ghost use Rattle.std.specs.List.{flat_map};
 ghost use Rattle.std.specs.Option.{option_map};
 ghost use Rattle.tx_code.specs.Objects.{ObjectView, bytes_of, object_view};
-ghost use Rattle.object_file.specs.Spelling.{Spells, name_bytes, source_bytes, object_bytes};
-ghost use Rattle.object_file.specs.Objects.{first_class, wrong_as_a_whole, unless_wrong, decoded};
+ghost use Rattle.object_bytes.specs.Spelling.{Spells, name_bytes, source_bytes, object_bytes};
+ghost use Rattle.object_bytes.specs.Objects.{first_class, wrong_as_a_whole, unless_wrong, decoded};
 ghost use Rattle.object_file.specs.Answers.{IsSmall, IsAnswer, IsObjectOrMemory, IsFirstWrong};
 
-use crate::chains::first_wrong_base;
 use crate::fault::{ObjectFault, ReadError};
-use crate::naming::names_used;
 use crate::object::object_at;
-use crate::unused::first_unused;
+use object_bytes::{first_unused, first_wrong_base, name_size, names_used};
 use std::alloc::{AllocError, Global};
 use tx_code::Object;
-
-/// How many bytes spell a name.
-pub(crate) fn name_size(name: &[u8]) -> u64
-    ensures { result ≡ length (name_bytes name.now) }
-{
-    4 + name.len() as u64
-}
 
 /// How many bytes spell the names.
 fn names_size(names: &[Vec<u8>]) -> u64
@@ -42,7 +33,7 @@ fn source_size(version: u32) -> u64
 }
 
 /// Where the first class stands.
-#[tactic(auto, unfolding(crate::specs::Objects::first_class))]
+#[tactic(auto, unfolding(object_bytes::specs::Objects::first_class))]
 fn first_class(object: &Object) -> u64
     requires { IsSmall (object_view object.now) }
     ensures { result ≡ first_class (object_view object.now) }
@@ -51,7 +42,7 @@ fn first_class(object: &Object) -> u64
 }
 
 /// Where the first field stands that is wrong only where all else is right.
-#[tactic(auto, unfolding(crate::specs::Objects::wrong_as_a_whole))]
+#[tactic(auto, unfolding(object_bytes::specs::Objects::wrong_as_a_whole))]
 fn wrong_as_a_whole(alloc: Global, object: &Object) -> Result<Option<u64>, AllocError>
     requires { IsSmall (object_view object.now) }
     ensures { IfOk result (λ at. at ≡ wrong_as_a_whole (object_view object.now)) }
@@ -88,7 +79,7 @@ fn is_end(rest: &[u8]) -> bool
 }
 
 /// Reads all of the bytes.
-#[tactic(auto, unfolding(crate::specs::Objects::decoded))]
+#[tactic(auto, unfolding(object_bytes::specs::Objects::decoded))]
 fn read_all(alloc: Global, bytes: &[u8]) -> Result<Object, ObjectFault>
     ensures { IsAnswer result (decoded bytes.now) }
 {

@@ -1,6 +1,6 @@
 use Rattle.std.proofs.Common.{◌≡◌, ◌-◌, None}
-use Rattle.object_file.specs.Decoder.{items, each}
-use Rattle.object_file.specs.Instructions.{instr}
+use Rattle.object_bytes.specs.Decoder.{items, each}
+use Rattle.object_bytes.specs.Instructions.{instr}
 use Rattle.object_file.proofs.Loop.{with_front}
 use Rattle.object_file.proofs.bodies.code_at.Given as goal
 

@@ -1,6 +1,6 @@
 use Rattle.std.proofs.Common.{◌≡◌, ◌-◌}
-use Rattle.object_file.specs.Decoder.{items, list}
-use Rattle.object_file.specs.Fields.{line_row}
+use Rattle.object_bytes.specs.Decoder.{items, list}
+use Rattle.object_bytes.specs.Fields.{line_row}
 use Rattle.object_file.proofs.Loop.{with_front}
 use Rattle.object_file.proofs.bodies.lines_at.Given as goal
 

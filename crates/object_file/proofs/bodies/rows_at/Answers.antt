@@ -1,5 +1,5 @@
 use Rattle.std.proofs.lemmas.Result.{err_from_is_err_and}
-use Rattle.object_file.specs.Fields.{row}
+use Rattle.object_bytes.specs.Fields.{row}
 use Rattle.object_file.proofs.Loop.{each_begins, each_goes_on, each_ends, each_is_done}
 use Rattle.object_file.proofs.bodies.rows_at.Goals as goal
 

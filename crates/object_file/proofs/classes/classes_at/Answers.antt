@@ -3,7 +3,7 @@ use Rattle.std.proofs.lemmas.List.{map_push}
 use Rattle.std.proofs.Common.{map}
 use Rattle.tx_code.specs.Objects.{class_view}
 use Rattle.tx_code.specs.Objects.{ClassView}
-use Rattle.object_file.specs.Fields.{class}
+use Rattle.object_bytes.specs.Fields.{class}
 use Rattle.object_file.proofs.Loop.{begins, goes_on, ends, is_done}
 use Rattle.object_file.proofs.classes.classes_at.Goals as goal
 

@@ -1,8 +1,8 @@
 use Rattle.std.proofs.Common.{◌≡◌, ◌-◌, map}
 use Rattle.tx_code.specs.Objects.{class_view}
 use Rattle.tx_code.specs.Objects.{ClassView}
-use Rattle.object_file.specs.Decoder.{items, list}
-use Rattle.object_file.specs.Fields.{class}
+use Rattle.object_bytes.specs.Decoder.{items, list}
+use Rattle.object_bytes.specs.Fields.{class}
 use Rattle.object_file.proofs.Loop.{with_front}
 use Rattle.object_file.proofs.classes.classes_at.Given as goal
 

@@ -1,6 +1,6 @@
 use Rattle.std.proofs.Common.{◌≡◌, ◌-◌, None}
-use Rattle.object_file.specs.Decoder.{items, each}
-use Rattle.object_file.specs.Fields.{name_or_none}
+use Rattle.object_bytes.specs.Decoder.{items, each}
+use Rattle.object_bytes.specs.Fields.{name_or_none}
 use Rattle.object_file.proofs.Loop.{with_front}
 use Rattle.object_file.proofs.classes.slots_at.Given as goal
 

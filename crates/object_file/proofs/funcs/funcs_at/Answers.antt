@@ -3,7 +3,7 @@ use Rattle.std.proofs.lemmas.List.{map_push}
 use Rattle.std.proofs.Common.{map}
 use Rattle.tx_code.specs.Objects.{func_view}
 use Rattle.tx_code.specs.Objects.{FuncView}
-use Rattle.object_file.specs.Fields.{func}
+use Rattle.object_bytes.specs.Fields.{func}
 use Rattle.object_file.proofs.Loop.{begins, goes_on, ends, is_done}
 use Rattle.object_file.proofs.funcs.funcs_at.Goals as goal
 

@@ -1,8 +1,8 @@
 use Rattle.std.proofs.Common.{◌≡◌, ◌-◌, map}
 use Rattle.tx_code.specs.Objects.{func_view}
 use Rattle.tx_code.specs.Objects.{FuncView}
-use Rattle.object_file.specs.Decoder.{items, list}
-use Rattle.object_file.specs.Fields.{func}
+use Rattle.object_bytes.specs.Decoder.{items, list}
+use Rattle.object_bytes.specs.Fields.{func}
 use Rattle.object_file.proofs.Loop.{with_front}
 use Rattle.object_file.proofs.funcs.funcs_at.Given as goal
 

@@ -1,5 +1,5 @@
 use Rattle.std.proofs.lemmas.Result.{err_from_is_err_and}
-use Rattle.object_file.specs.Fields.{cell}
+use Rattle.object_bytes.specs.Fields.{cell}
 use Rattle.object_file.proofs.Loop.{starts, goes_on, ends, is_done}
 use Rattle.object_file.proofs.globals.cells_at.Goals as goal
 

@@ -1,6 +1,6 @@
 use Rattle.std.proofs.Common.{◌≡◌, ◌-◌, None}
-use Rattle.object_file.specs.Decoder.{items}
-use Rattle.object_file.specs.Fields.{cell}
+use Rattle.object_bytes.specs.Decoder.{items}
+use Rattle.object_bytes.specs.Fields.{cell}
 use Rattle.object_file.proofs.Loop.{with_front}
 use Rattle.object_file.proofs.globals.cells_at.Given as goal
 

@@ -1,8 +1,8 @@
 use Rattle.std.proofs.Common.{◌≡◌, ◌-◌, map}
 use Rattle.tx_code.specs.Objects.{global_view}
 use Rattle.tx_code.specs.Objects.{GlobalView}
-use Rattle.object_file.specs.Decoder.{items, list}
-use Rattle.object_file.specs.Fields.{global}
+use Rattle.object_bytes.specs.Decoder.{items, list}
+use Rattle.object_bytes.specs.Fields.{global}
 use Rattle.object_file.proofs.Loop.{with_front}
 use Rattle.object_file.proofs.globals.globals_at.Given as goal
 

@@ -2,7 +2,7 @@ use Rattle.std.proofs.lemmas.Result.{err_from_is_err_and}
 use Rattle.std.proofs.lemmas.List.{map_push}
 use Rattle.std.proofs.Common.{◌≡◌, map, rules}
 use Rattle.tx_code.specs.Objects.{bytes_of}
-use Rattle.object_file.specs.Fields.{lent, name_item}
+use Rattle.object_bytes.specs.Fields.{lent, name_item}
 use Rattle.object_file.proofs.Loop.{begins, goes_on, ends, is_done}
 use Rattle.object_file.proofs.names.names_at.Goals as goal
 

@@ -1,7 +1,7 @@
 use Rattle.std.proofs.Common.{◌≡◌, ◌-◌, map}
 use Rattle.tx_code.specs.Objects.{bytes_of}
-use Rattle.object_file.specs.Decoder.{items, list}
-use Rattle.object_file.specs.Fields.{lent, name_item}
+use Rattle.object_bytes.specs.Decoder.{items, list}
+use Rattle.object_bytes.specs.Fields.{lent, name_item}
 use Rattle.object_file.proofs.Loop.{with_front}
 use Rattle.object_file.proofs.names.names_at.Given as goal
 

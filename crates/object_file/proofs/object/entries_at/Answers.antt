@@ -1,7 +1,7 @@
 use Rattle.std.proofs.Common.{refl}
 use Rattle.std.proofs.lemmas.Result.{err_from_is_err_and}
-use Rattle.object_file.specs.Decoder.{bind, done}
-use Rattle.object_file.specs.Objects.{entries}
+use Rattle.object_bytes.specs.Decoder.{bind, done}
+use Rattle.object_bytes.specs.Objects.{entries}
 use Rattle.object_file.proofs.Loop.{fails_on}
 use Rattle.object_file.proofs.object.entries_at.Goals as goal
 

@@ -1,9 +1,9 @@
 use Rattle.std.proofs.Common.{◌≡◌, length, map, ap, sym, ◌∙◌, arith}
 use Rattle.std.specs.List.{flat_map}
 use Rattle.tx_code.specs.Objects.{bytes_of, object_view}
-use Rattle.object_file.specs.Spelling.{name_bytes, source_bytes}
-use Rattle.object_file.specs.Objects.{first_class}
-use Rattle.object_file.proofs.Positions.{parts_of, source_size}
+use Rattle.object_bytes.specs.Spelling.{name_bytes, source_bytes}
+use Rattle.object_bytes.specs.Objects.{first_class}
+use Rattle.object_bytes.proofs.Positions.{parts_of, source_size}
 use Rattle.object_file.proofs.reading.first_class.Goals as goal
 
 pub names_size-requires : goal.names_size-requires

@@ -1,7 +1,7 @@
 use Rattle.std.proofs.Common.{◌≡◌, length, ap, ◌∙◌, arith}
 use Rattle.tx_code.specs.Objects.{bytes_of}
-use Rattle.object_file.specs.Spelling.{name_bytes}
-use Rattle.object_file.proofs.Positions.{dropped, size_more}
+use Rattle.object_bytes.specs.Spelling.{name_bytes}
+use Rattle.object_bytes.proofs.Positions.{dropped, size_more}
 use Rattle.object_file.proofs.reading.names_size.Goals as goal
 
 pub loop-name-preserved : goal.loop-name-preserved

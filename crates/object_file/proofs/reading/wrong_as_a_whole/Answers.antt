@@ -1,6 +1,6 @@
 use Rattle.std.proofs.Common.{arith}
 use Rattle.tx_code.specs.Objects.{object_view}
-use Rattle.object_file.proofs.Positions.{parts_of}
+use Rattle.object_bytes.proofs.Positions.{parts_of}
 use Rattle.object_file.proofs.reading.wrong_as_a_whole.Goals as goal
 
 pub first_unused-requires : goal.first_unused-requires

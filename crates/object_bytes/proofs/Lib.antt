@@ -1,0 +1,13 @@
+pub mod Codec
+pub mod Parts
+pub mod Lists
+pub mod InstrLaws
+pub mod BodyLaws
+pub mod EntryLaws
+pub mod ObjectLaws
+pub mod WholeLaws
+pub mod ByName
+pub mod ChainSteps
+pub mod Positions
+pub mod Puts
+pub mod Sources

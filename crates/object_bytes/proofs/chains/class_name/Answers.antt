@@ -1,0 +1,8 @@
+use Rattle.std.proofs.Common.{ap}
+use Rattle.tx_code.specs.declared.object.ObjClass.{ObjClass}
+use Rattle.tx_code.specs.Objects.{class_view}
+use Rattle.object_bytes.proofs.ByName.{class_there}
+use Rattle.object_bytes.proofs.chains.class_name.Goals as goal
+
+pub returns : goal.returns
+returns c = record { class = class_view c.index-classes-i.result; at = class_there _ _ _ c.requires c.index-classes-i.is; name_is = ap (λ (z : ObjClass). z.name) c.index-classes-i.is }

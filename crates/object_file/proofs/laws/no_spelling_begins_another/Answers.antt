@@ -1,5 +1,0 @@
-use Rattle.object_file.proofs.WholeLaws.{none_begins}
-use Rattle.object_file.proofs.laws.no_spelling_begins_another.Goals as goal
-
-pub returns : goal.returns
-returns c = λ a more o p s t. none_begins a more o p s t
