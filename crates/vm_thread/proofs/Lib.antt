@@ -1,0 +1,5 @@
+pub mod Stacked
+pub mod Spellings
+pub mod Bases
+pub mod Numbers
+pub mod Operands

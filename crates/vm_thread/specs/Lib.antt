@@ -1,0 +1,5 @@
+pub mod Stacks
+pub mod Frames
+pub mod FrameStacks
+pub mod Lookups
+pub mod Steps
