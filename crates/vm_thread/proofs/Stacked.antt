@@ -1,6 +1,6 @@
 -- Stacks as lists with the top last.
 use Rattle.std.proofs.Common.{◌≡◌, ◌<◌, ◌≤◌, ℕ, zero, suc, ◌+◌, ◌-◌, List, [], ◌∷◌, ◌++◌, length, take, drop, reverse, refl, sym, ap, ◌∙◌, arith, append_assoc, length-drop, get_or}
-use Rattle.std.proofs.lemmas.List.{reverse-append, reverse-reverse, length-reverse, take-append-le, take-append-drop, length-take-le, get_or-take}
+use Rattle.std.proofs.lemmas.List.{reverse-append, reverse-reverse, length-reverse, take-append-le, take-append-drop, length-take-le, get_or-take, take_all, drop_all}
 use Rattle.std.proofs.Math.Seq.{take-length, take-suc, take-append_seam}
 use Rattle.std.specs.Prelude.{false}
 use Rattle.vm_thread.specs.Stacks.{above, has_two}
@@ -20,18 +20,6 @@ take_pushed n xs x h = take-append-le n xs (x ∷ []) h
 pub above_length : {A : Type 0} (n : ℕ) (xs : List A) → length (above n xs) ≡ length xs - n
 unfolding above
 above_length n xs = length-reverse (drop n xs) ∙ length-drop n xs
-
-take_all : {A : Type 0} (n : ℕ) (xs : List A) → length xs ≤ n → take n xs ≡ xs
-take_all zero [] h = refl
-take_all zero (x ∷ xs) h = absurd (omega arith)
-take_all (suc n) [] h = refl
-take_all (suc n) (x ∷ xs) h = ap (λ z. x ∷ z) (take_all n xs (omega arith))
-
-drop_all : {A : Type 0} (n : ℕ) (xs : List A) → length xs ≤ n → drop n xs ≡ []
-drop_all zero [] h = refl
-drop_all zero (x ∷ xs) h = absurd (omega arith)
-drop_all (suc n) [] h = refl
-drop_all (suc n) (x ∷ xs) h = drop_all n xs (omega arith)
 
 the_nil : (A : Type 0) → List A
 the_nil A = []
@@ -165,3 +153,19 @@ one_more_turned n [] h = absurd (omega arith)
 one_more_turned n (x ∷ xs) h =
     let e : n + 1 ≡ suc n = omega arith in
     ap (λ z. drop 1 (reverse (take z (x ∷ xs)))) e ∙ ap (λ z. drop 1 (reverse z)) (take-suc (x ∷ xs) n x h) ∙ ap (drop 1) (reverse-append (take n (x ∷ xs)) (get_or (x ∷ xs) n x ∷ []))
+
+drop_more : {A : Type 0} (j k : ℕ) (xs : List A) → drop j (drop k xs) ≡ drop (k + j) xs
+unfolding the_nil
+drop_more j zero xs = let e : 0 + j ≡ j = omega arith in sym (ap (λ z. drop z xs) e)
+drop_more {A} j (suc k) [] = drop_nil j ∙ sym (drop_nil (suc k + j))
+drop_more j (suc k) (x ∷ xs) = let e : suc k + j ≡ suc (k + j) = omega arith in drop_more j k xs ∙ sym (ap (λ z. drop z (x ∷ xs)) e)
+
+-- the item under the first so many
+pub item_is : {A : Type 0} (n k : ℕ) (xs : List A) (x : A) → n + k < length xs → x ≡ get_or xs (length xs - 1 - k) x → drop k (above n xs) ≡ x ∷ drop (k + 1) (above n xs)
+item_is {A} n k xs x h e =
+    let front : List A = take (length xs - k) xs in
+    let l : length front ≡ length xs - k = length-take-le (length xs - k) xs (omega arith) in
+    let j : length front - 1 ≡ length xs - 1 - k = omega arith in
+    let a : above n front ≡ drop k (above n xs) = taken_off n k (length xs - k) xs (omega arith) (omega arith) in
+    let t : above n front ≡ x ∷ drop 1 (above n front) = top_is n front x (omega arith) (e ∙ sym (get_or-take (length xs - k) xs (length xs - 1 - k) x (omega arith)) ∙ ap (λ z. get_or front z x) (sym j)) in
+    sym a ∙ t ∙ ap (λ z. x ∷ drop 1 z) a ∙ ap (λ z. x ∷ z) (drop_more 1 k (above n xs))

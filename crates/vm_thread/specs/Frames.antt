@@ -1,5 +1,5 @@
 -- What the vectors of a thread show: its frames, as the meaning of code has them.
-use Rattle.std.specs.Prelude.{Bool, true, ℕ, List, [], ◌∷◌, map, take, Option, Some, None, ◌&&◌, nat_le}
+use Rattle.std.specs.Prelude.{Bool, true, false, ℕ, List, [], ◌∷◌, ◌++◌, reverse, map, take, Option, Some, None, ◌&&◌, nat_le, nat_eq}
 use Rattle.tx_events.specs.Thread.{Open, Atomic, Sync}
 use Rattle.tx_code.specs.Meaning as meaning
 use Rattle.tx_code.specs.Meaning.{State, Runs, Unwinds, on_with}
@@ -38,9 +38,9 @@ abbrev pub frames_of : (thread : ℕ) → List Suspended → List ℕ → List B
 frames_of t [] words blocks caught = []
 frames_of t (s ∷ ss) words blocks caught = frame_of t s.frame (above s.words words) (above s.blocks blocks) (above s.caught caught) ∷ frames_of t ss (take s.words words) (take s.blocks blocks) (take s.caught caught)
 
--- what a frame has begins where that of the frame below it begins, or above
+-- what a frame has begins where that of the frame below it begins, or above, and that of the outermost begins at 0
 abbrev pub are_nested : (words blocks caught : ℕ) → List Suspended → Bool
-are_nested w b c [] = true
+are_nested w b c [] = nat_eq w 0 && nat_eq b 0 && nat_eq c 0
 are_nested w b c (s ∷ ss) = nat_le s.words w && nat_le s.blocks b && nat_le s.caught c && are_nested s.words s.blocks s.caught ss
 
 abbrev pub state_of : Option meaning.Exception → meaning.Frame → List meaning.Frame → State
@@ -56,3 +56,16 @@ returned w f (g ∷ rest) = Runs (on_with g (put w g.words)) rest
 abbrev pub left : meaning.Exception → meaning.Frame → List meaning.Frame → State
 left e f [] = Unwinds e f []
 left e f (g ∷ rest) = Unwinds e g rest
+
+abbrev pub is_outermost : List meaning.Frame → Bool
+is_outermost [] = true
+is_outermost (f ∷ rest) = false
+
+-- the operands of frames, the innermost frame first and its top first
+abbrev pub words_down : List meaning.Frame → List ℕ
+words_down [] = []
+words_down (f ∷ fs) = f.words ++ words_down fs
+
+-- and the outermost frame first, each frame's from the bottom up
+abbrev pub words_in : List meaning.Frame → List ℕ
+words_in fs = reverse (words_down fs)

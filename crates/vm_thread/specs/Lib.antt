@@ -3,3 +3,4 @@ pub mod Frames
 pub mod FrameStacks
 pub mod Lookups
 pub mod Steps
+pub mod Modes

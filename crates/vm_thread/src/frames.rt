@@ -24,11 +24,33 @@ pub struct FrameStack {
 
 impl FrameStack {
     ghost use Rattle.std.specs.Prelude.{ℕ, ◌+◌, ◌-◌, ◌<◌, ◌≤◌, ◌∷◌, [], drop, take, length, IfOk, OnOk, Some, None, if◌then◌else◌};
+    ghost use Rattle.std.specs.Option.{option_map};
     ghost use Rattle.tx_code.specs.Meaning as meaning;
     ghost use Rattle.tx_code.specs.Meaning.{Runs, Unwinds, at, opening, closing, holding, handled, catching, cut, first_frame, on_with};
     ghost use Rattle.vm_thread.specs.Stacks.{put, swapped};
-    ghost use Rattle.vm_thread.specs.Frames.{exception_of, frame_of, held_of, open_of, returned, left};
+    ghost use Rattle.vm_thread.specs.Frames.{exception_of, frame_of, held_of, open_of, returned, left, is_outermost, words_in};
     ghost use Rattle.vm_thread.specs.FrameStacks.{top_of, rest_of, shown, CanTake};
+
+    /// Whether no frame lies below.
+    pub(crate) fn is_outermost(&self) -> bool
+        ensures { result ≡ is_outermost (rest_of self.now) }
+    {
+        self.below.is_empty()
+    }
+
+    /// The exception of the handler that was entered last and not left.
+    pub(crate) fn current(&self) -> Option<Exception>
+        ensures { option_map exception_of result ≡ meaning.current (top_of self.now ∷ rest_of self.now) }
+    {
+        self.caught.last()
+    }
+
+    /// The operands of all frames, the outermost frame first and each frame's from the bottom up.
+    pub(crate) fn all_words(&self) -> &[u64]
+        ensures { result.now ≡ words_in (top_of self.now ∷ rest_of self.now) }
+    {
+        self.words.all()
+    }
 
     /// Takes off so many operands, puts one on, if it is given, and goes on at that index.
     pub(crate) fn operate(&mut self, taken: usize, given: Option<u64>, index: usize)

@@ -1,9 +1,9 @@
 //! What the numbers of an image stand for.
-ghost use Rattle.std.specs.Prelude.{◌≡◌, ◌<◌, ◌&&◌, IfSome, map, length};
+ghost use Rattle.std.specs.Prelude.{◌≡◌, ◌<◌, ◌&&◌, not, true, is_some, IfSome, map, length};
 ghost use Rattle.std.specs.Option.{option_map};
 ghost use Rattle.tx_code.specs.Objects.{body_view};
 ghost use Rattle.tx_code.specs.Meaning.{find, covers, takes};
-ghost use Rattle.tx_code.specs.Program.{names_of, number_at, func_at, derives};
+ghost use Rattle.tx_code.specs.Program.{names_of, number_at, func_at, func_address, class_address, global_address, derives, stack_start, stack_end};
 ghost use Rattle.tx_code.specs.Signatures.{without_safety};
 ghost use Rattle.tx_code.specs.Images.{image_class_view};
 ghost use Rattle.tx_code.specs.Views.{image_view};
@@ -28,6 +28,20 @@ pub(crate) fn body<'i>(image: &'i Image, func: u32, safe: bool) -> Option<&'i Bo
     } else {
         Some(&func.plain)
     }
+}
+
+/// Whether a function has that body.
+pub(crate) fn has_body(image: &Image, func: u32, safe: bool) -> bool
+    ensures { result ≡ is_some (body_of image.now func safe) }
+{
+    body(image, func, safe).is_some()
+}
+
+/// Whether a function that is called in a transaction has no body for it.
+pub(crate) fn is_unsafe(image: &Image, func: u32, transaction: bool) -> bool
+    ensures { result ≡ (transaction && not (is_some (body_of image.now func true))) }
+{
+    transaction && !has_body(image, func, true)
 }
 
 /// An instruction of a body.
@@ -182,4 +196,40 @@ pub(crate) fn cancels(image: &Image, ty: u32) -> bool
         None => false,
         Some(ty) => ty.starts_with(b"std::tx_exception<"),
     }
+}
+
+/// The address of a function.
+pub(crate) fn func_address(func: u32) -> u64
+    ensures { result ≡ func_address func }
+{
+    FUNCS + 16 * u64::from(func)
+}
+
+/// Where the stack of a thread begins.
+pub(crate) fn stack_start(thread: u8) -> u32
+    ensures { result ≡ stack_start thread }
+{
+    16777216 + 131072 * u32::from(thread)
+}
+
+/// Where it ends.
+pub(crate) fn stack_end(thread: u8) -> u64
+    ensures is { result ≡ stack_end thread }
+    ensures bound { result < 4294967296 }
+{
+    u64::from(stack_start(thread)) + 65536
+}
+
+/// The address of a class.
+pub(crate) fn class_address(class: u32) -> u64
+    ensures { result ≡ class_address class }
+{
+    CLASSES + 16 * u64::from(class)
+}
+
+/// The address of a global.
+pub(crate) fn global_address(offset: u32) -> u64
+    ensures { result ≡ global_address offset }
+{
+    65536 + u64::from(offset)
 }

@@ -32,7 +32,7 @@ fn turn<T>(items: &mut Vec<T>, start: usize)
 }
 
 impl<T: Copy> Stack<T> {
-    ghost use Rattle.std.specs.Prelude.{◌<◌, ◌+◌, ◌-◌, ◌∷◌, [], ℕ, false, OnOk, IfOk, MatchOption};
+    ghost use Rattle.std.specs.Prelude.{◌<◌, ◌+◌, ◌-◌, ◌∷◌, [], ℕ, false, slice_get, OnOk, IfOk, MatchOption};
     ghost use Rattle.vm_thread.specs.Stacks.{own, under, above, put, has_two, swapped, HasRoom};
 
     /// A stack of a frame without items.
@@ -101,6 +101,23 @@ impl<T: Copy> Stack<T> {
         if let Some(item) = item {
             self.push(item);
         }
+    }
+
+    /// The item of the innermost frame under so many.
+    pub(crate) fn item(&self, above: usize) -> Option<T>
+        ensures { MatchOption result (length (own self.now) ≤ above) (λ x. (drop above (own self.now) ≡ x ∷ drop (above + 1) (own self.now)) × (above < length (own self.now))) }
+    {
+        if self.count() <= above {
+            return None;
+        }
+        Some(self.items[self.items.len() - 1 - above])
+    }
+
+    /// The last item of all frames.
+    pub(crate) fn last(&self) -> Option<T>
+        ensures { result ≡ slice_get self.now.items.items (length self.now.items.items - 1) }
+    {
+        self.items.as_slice().last().copied()
     }
 
     /// The two top items of the innermost frame.

@@ -1,11 +1,13 @@
 //! Numbers as words, as bytes in memory and as bytes of exceptions.
 ghost use Rattle.std.specs.Prelude.{◌≡◌, ◌<◌, ◌≤◌, ◌*◌, ◌^◌, slice_index_or, slice_set};
-ghost use Rattle.tx_ints.specs.Words.{value_of_word};
-ghost use Rattle.tx_code.specs.Meaning.{loaded, answered, bits_of, put_bytes, get_bytes};
+ghost use Rattle.tx_ints.specs.Words.{word_of, value_of_word};
+ghost use Rattle.tx_code.specs.Meaning.{loaded, answered, bits_of, put_bytes, get_bytes, new_exception, with_number, number_in};
+ghost use Rattle.vm_thread.specs.Frames.{exception_of};
 
+use crate::parts::Exception;
 use tx_code::size;
 use tx_events::Reply;
-use tx_ints::IntKind;
+use tx_ints::{IntKind, value_of_word, word_of};
 
 /// The bytes that a reply has read, as one number.
 pub(crate) fn loaded(reply: Reply) -> u64
@@ -90,4 +92,31 @@ fn get_bytes(bytes: &[u8], at: usize, count: u8) -> u64
         value = value * 256 + u64::from(byte_at(bytes, at + usize::from(count - 1 - i)));
     }
     value
+}
+
+/// An exception of zero bytes.
+pub(crate) fn zeros(ty: u32) -> Exception
+    ensures { exception_of result ≡ new_exception ty }
+{
+    Exception { ty, bytes: [0; 64] }
+}
+
+/// An exception with the number of a kind that a word stands for.
+pub(crate) fn with_number(exception: Exception, offset: u8, kind: IntKind, word: u64) -> Exception
+    ensures { exception_of result ≡ with_number (exception_of exception) offset kind (value_of_word kind word) }
+{
+    let mut bytes = exception.bytes;
+    put_bytes(&mut bytes, usize::from(offset), size(kind), bits(kind, word));
+    Exception {
+        ty: exception.ty,
+        bytes,
+    }
+}
+
+/// The word of a number of a kind in an exception.
+pub(crate) fn number_in(exception: Exception, offset: u8, kind: IntKind) -> u64
+    ensures { result ≡ word_of (number_in (exception_of exception) offset kind) }
+{
+    let number = get_bytes(&exception.bytes, usize::from(offset), size(kind));
+    word_of(value_of_word(kind, number))
 }
