@@ -41,7 +41,7 @@ module _ (i : ImageView) (sound : Sound i) where
   abbrev t : Table
   t = table_of i
 
-  body_here : (h : Home) (spot : Spot i h) → x.body h.func h.safe ≡ Some spot.body
+  pub body_here : (h : Home) (spot : Spot i h) → x.body h.func h.safe ≡ Some spot.body
   body_here h spot = ap (λ o. option_and_then (λ (g : ImageFuncView). body_in g h.safe) o) spot.is ∙ spot.has
 
   -- ---- unwinding

@@ -4,3 +4,5 @@ pub mod FrameStacks
 pub mod Lookups
 pub mod Steps
 pub mod Modes
+pub mod Threads
+pub mod ThreadLaws

@@ -23,13 +23,67 @@ pub struct FrameStack {
 }
 
 impl FrameStack {
-    ghost use Rattle.std.specs.Prelude.{ℕ, ◌+◌, ◌-◌, ◌<◌, ◌≤◌, ◌∷◌, [], drop, take, length, IfOk, OnOk, Some, None, if◌then◌else◌};
+    ghost use Rattle.std.specs.Prelude.{ℕ, ◌+◌, ◌-◌, ◌<◌, ◌≤◌, ◌∷◌, [], drop, take, length, false, IfOk, OnOk, Some, None, if◌then◌else◌};
     ghost use Rattle.std.specs.Option.{option_map};
     ghost use Rattle.tx_code.specs.Meaning as meaning;
     ghost use Rattle.tx_code.specs.Meaning.{Runs, Unwinds, at, opening, closing, holding, handled, catching, cut, first_frame, on_with};
     ghost use Rattle.vm_thread.specs.Stacks.{put, swapped};
     ghost use Rattle.vm_thread.specs.Frames.{exception_of, frame_of, held_of, open_of, returned, left, is_outermost, words_in};
     ghost use Rattle.vm_thread.specs.FrameStacks.{top_of, rest_of, shown, CanTake};
+
+    /// The first frame of a thread: a plain body, with this operand if there is one.
+    pub(crate) fn start(alloc: Global, thread: u8, func: u32, address: u32, word: Option<u64>) -> Result<FrameStack, AllocError>
+        ensures { IfOk result (λ s. shown s ≡ Runs (first_frame (record { thread = thread; func = func; safe = false; base = address }) (put word [])) []) }
+    {
+        let mut words = Stack::new(alloc);
+        words.reserve(1)?;
+        words.put(word);
+        Ok(FrameStack {
+            thread,
+            top: Frame {
+                func,
+                safe: false,
+                address,
+                index: 0,
+                held: Held::Free,
+            },
+            below: Vec::new(alloc),
+            words,
+            blocks: Stack::new(alloc),
+            caught: Stack::new(alloc),
+            flight: None,
+        })
+    }
+
+    /// Makes room for what one instruction adds.
+    pub(crate) fn ready(&mut self) -> Result<(), AllocError>
+        ensures same { shown self.new ≡ shown self.old }
+        ensures room { OnOk result (CanTake self.new) }
+    {
+        self.words.reserve(2)?;
+        self.blocks.reserve(1)?;
+        self.caught.reserve(1)?;
+        self.below.reserve(1)
+    }
+
+    /// The same frames once more.
+    pub(crate) fn copy(&self, alloc: Global) -> Result<FrameStack, AllocError>
+        ensures { IfOk result (λ s. shown s ≡ shown self.now) }
+    {
+        let below = Vec::from_slice(alloc, &self.below)?;
+        let words = self.words.copy(alloc)?;
+        let blocks = self.blocks.copy(alloc)?;
+        let caught = self.caught.copy(alloc)?;
+        Ok(FrameStack {
+            thread: self.thread,
+            top: self.top,
+            below,
+            words,
+            blocks,
+            caught,
+            flight: self.flight,
+        })
+    }
 
     /// Whether no frame lies below.
     pub(crate) fn is_outermost(&self) -> bool

@@ -7,8 +7,12 @@
 mod changes;
 mod deciding;
 pub mod frames;
+pub mod laws;
 mod lookups;
 pub mod parts;
 pub mod stack;
 pub mod step;
+pub mod thread;
 mod values;
+
+pub use thread::VmThread;
