@@ -1,5 +1,5 @@
 -- The walk along the bases of a class.
-use Rattle.std.proofs.Common.{Bool, true, false, ◌≡◌, ℕ, suc, List, Option, Some, None, refl, ap, ◌∙◌}
+use Rattle.std.proofs.Common.{Bool, true, false, ◌≡◌, ℕ, suc, List, Some, refl, ap, ◌∙◌}
 use Rattle.std.specs.Prelude.{nat_eq, slice_get, ◌||◌}
 use Rattle.std.specs.Option.{option_map_or}
 use Rattle.std.proofs.lemmas.Bool.{eqb-true}

@@ -1,6 +1,6 @@
 -- Frames below the innermost one.
-use Rattle.std.proofs.Common.{Bool, true, false, ◌≡◌, ◌<◌, ℕ, List, [], ◌∷◌, ◌++◌, length, reverse, refl, sym, ap, ◌∙◌, arith}
-use Rattle.std.specs.Prelude.{Option, Some, None, nat_eq}
+use Rattle.std.proofs.Common.{Bool, true, false, ◌≡◌, ◌<◌, ℕ, List, [], ◌∷◌, length, reverse, refl, sym, ap, ◌∙◌, arith}
+use Rattle.std.specs.Prelude.{Some, None, nat_eq}
 use Rattle.std.proofs.lemmas.List.{length-reverse}
 use Rattle.std.proofs.lemmas.Bool.{true≢false, eqb-true}
 use Rattle.tx_events.specs.declared.Event.TheVariants.{Silent}
@@ -9,8 +9,8 @@ use Rattle.vm_thread.specs.declared.parts.Suspended.{Suspended}
 use Rattle.vm_thread.specs.declared.parts.Block.{Block}
 use Rattle.vm_thread.specs.declared.parts.Exception.{Exception}
 use Rattle.vm_thread.specs.declared.step.Step.TheVariants.{Does}
-use Rattle.vm_thread.specs.declared.step.Change.TheVariants.{Return, Leave}
-use Rattle.vm_thread.specs.Frames.{frames_of, is_outermost, exception_of}
+use Rattle.vm_thread.specs.declared.step.Change.TheVariants.{Return}
+use Rattle.vm_thread.specs.Frames.{frames_of, is_outermost}
 use Rattle.vm_thread.specs.Steps.{Means}
 
 shown_none : (t : ℕ) (ss : List Suspended) (ws : List ℕ) (bs : List Block) (cs : List Exception) → length ss ≡ 0 → is_outermost (frames_of t ss ws bs cs) ≡ true

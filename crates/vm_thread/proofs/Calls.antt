@@ -1,13 +1,12 @@
 -- What calls come to.
-use Rattle.std.proofs.Common.{Bool, true, false, ◌≡◌, ◌<◌, ◌≤◌, ℕ, ◌+◌, List, [], ◌∷◌, length, take, drop, reverse, refl, sym, ap, ◌∙◌, arith}
-use Rattle.std.specs.Prelude.{Option, Some, None, is_some, not, nat_le, nat_lt, ◌&&◌, if◌then◌else◌}
+use Rattle.std.proofs.Common.{Bool, true, false, ◌≡◌, ◌<◌, ◌≤◌, ℕ, ◌+◌, List, ◌∷◌, length, take, drop, reverse, refl, sym, ap, ◌∙◌, arith}
+use Rattle.std.specs.Prelude.{Option, Some, None, is_some, not, nat_le, ◌&&◌, if◌then◌else◌}
 use Rattle.std.proofs.lemmas.Bool.{true≢false, leb-false}
 use Rattle.std.proofs.lemmas.Bool.Decides.{Decides-ltb}
 use Rattle.tx_events.specs.declared.Trap.TheVariants.{StackOverflow, UnsafeCall, BadCall}
 use Rattle.tx_events.specs.declared.End.TheVariants.{Trapped}
 use Rattle.tx_events.specs.declared.Event.TheVariants.{Silent, Stop}
-use Rattle.tx_code.specs.Meaning.{Names, Home, Frame, Act, Lost, Runs, goes, traps, one, if_some, at, first_frame, fits, next_home, entered_act, call_act, call_indirect_act, checked_act, in_transaction}
-use Rattle.vm_thread.specs.declared.step.Callee.{Callee}
+use Rattle.tx_code.specs.Meaning.{Names, Frame, Act, Lost, Runs, goes, traps, one, if_some, at, first_frame, fits, next_home, entered_act, call_act, call_indirect_act, checked_act, in_transaction}
 use Rattle.vm_thread.specs.declared.step.Step.{Step}
 use Rattle.vm_thread.specs.declared.step.Step.TheVariants.{Does, Ends, Lost as NoStep}
 use Rattle.vm_thread.specs.declared.step.Change.TheVariants.{Call, CallIndirect}

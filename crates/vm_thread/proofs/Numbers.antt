@@ -1,9 +1,9 @@
 -- Numbers as bytes.
-use Rattle.std.proofs.Common.{◌≡◌, ◌<◌, ◌≤◌, ◌⊎◌, inl, inr, ℕ, zero, suc, ◌+◌, ◌-◌, ◌*◌, ◌/◌, ◌%◌, ◌^◌, ℤ, pos, List, refl, sym, ap, ◌∙◌, subst, arith}
+use Rattle.std.proofs.Common.{◌≡◌, ◌<◌, ◌≤◌, ◌⊎◌, inl, inr, ℕ, zero, suc, ◌+◌, ◌*◌, ◌/◌, ◌%◌, ◌^◌, pos, List, refl, sym, ap, ◌∙◌, subst, arith}
 use Rattle.std.specs.Prelude.{slice_set, slice_index_or, unsigned_abs}
 use Rattle.std.proofs.lemmas.Grind.{pow_more}
 use Rattle.tx_ints.specs.declared.kinds.IntKind.{IntKind}
-use Rattle.tx_ints.specs.declared.kinds.IntKind.TheVariants.{Bool, Char, SChar, UChar, Short, UShort, Int, UInt, Long, ULong, LLong, ULLong}
+use Rattle.tx_ints.specs.declared.kinds.IntKind.TheVariants.{Char, SChar, UChar, Short, UShort, Int, UInt, Long, ULong, LLong, ULLong}
 use Rattle.tx_ints.specs.Words.{value_of_word}
 use Rattle.tx_ints.proofs.ConversionLaws.{converts_modulo}
 use Rattle.tx_code.specs.Meaning.{bits_of, put_bytes, get_bytes}

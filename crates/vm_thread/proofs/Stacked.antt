@@ -1,6 +1,6 @@
 -- Stacks as lists with the top last.
-use Rattle.std.proofs.Common.{◌≡◌, ◌<◌, ◌≤◌, ℕ, zero, suc, ◌+◌, ◌-◌, List, [], ◌∷◌, ◌++◌, length, take, drop, reverse, refl, sym, ap, ◌∙◌, arith, append_assoc, length-drop, get_or}
-use Rattle.std.proofs.lemmas.List.{reverse-append, reverse-reverse, length-reverse, take-append-le, take-append-drop, length-take-le, get_or-take, take_all, drop_all}
+use Rattle.std.proofs.Common.{◌≡◌, ◌<◌, ◌≤◌, ℕ, zero, suc, ◌+◌, ◌-◌, List, [], ◌∷◌, ◌++◌, length, take, drop, reverse, refl, sym, ap, ◌∙◌, arith, length-drop, get_or}
+use Rattle.std.proofs.lemmas.List.{reverse-append, length-reverse, take-append-le, take-append-drop, length-take-le, get_or-take, take_all, drop_all}
 use Rattle.std.proofs.Math.Seq.{take-length, take-suc, take-append_seam}
 use Rattle.std.specs.Prelude.{false}
 use Rattle.vm_thread.specs.Stacks.{above, has_two}
@@ -42,9 +42,9 @@ drop_reversed k ys h =
     let e : reverse ys ≡ reverse (drop k ys) ++ reverse (take k ys) = ap reverse (sym (take-append-drop k ys)) ∙ reverse-append (take k ys) (drop k ys) in
     let l : length (reverse (drop k ys)) ≡ length ys - k = length-reverse (drop k ys) ∙ length-drop k ys in
     ap (drop (length ys - k)) e ∙ ap (λ z. drop z (reverse (drop k ys) ++ reverse (take k ys))) (sym l) ∙ dropped (reverse (drop k ys)) (reverse (take k ys)) where
-  dropped : {A : Type 0} (us vs : List A) → drop (length us) (us ++ vs) ≡ vs
-  dropped [] vs = refl
-  dropped (u ∷ us) vs = dropped us vs
+      dropped : {A : Type 0} (us vs : List A) → drop (length us) (us ++ vs) ≡ vs
+      dropped [] vs = refl
+      dropped (u ∷ us) vs = dropped us vs
 
 -- the top ones taken off
 pub above_cut : {A : Type 0} (n m : ℕ) (xs : List A) → n ≤ m → m ≤ length xs → above n (take m xs) ≡ drop (length xs - m) (above n xs)
@@ -87,7 +87,6 @@ top_is {A} n xs x h e =
     let k : length front ≡ length xs - 1 = length-take-le (length xs - 1) xs (omega arith) in
     let a : above n xs ≡ x ∷ above n front = ap (above n) whole ∙ above_pushed n front x (omega arith) in
     a ∙ ap (λ z. x ∷ drop 1 z) (sym a)
-
 
 -- ---- a frame that begins with the last ones, turned round
 

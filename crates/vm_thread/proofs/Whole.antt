@@ -1,9 +1,9 @@
 -- What the stacks of all frames have.
-use Rattle.std.proofs.Common.{Bool, true, false, ◌≡◌, ◌<◌, ◌≤◌, ℕ, zero, suc, ◌-◌, List, [], ◌∷◌, ◌++◌, map, length, take, drop, reverse, refl, sym, ap, ◌∙◌, arith, get_or}
-use Rattle.std.specs.Prelude.{Option, Some, None, nat_eq, nat_le, ◌&&◌, slice_get}
+use Rattle.std.proofs.Common.{true, ◌≡◌, ◌≤◌, ℕ, ◌-◌, List, [], ◌∷◌, ◌++◌, map, length, take, drop, reverse, refl, sym, ap, ◌∙◌, arith, get_or}
+use Rattle.std.specs.Prelude.{Option, Some, None, nat_eq, ◌&&◌, slice_get}
 use Rattle.std.specs.Option.{option_map}
-use Rattle.std.proofs.lemmas.Bool.{true≢false, eqb-true, leb-true}
-use Rattle.std.proofs.lemmas.List.{reverse-append, reverse-reverse, take-append-drop, length-take, append-nil}
+use Rattle.std.proofs.lemmas.Bool.{eqb-true}
+use Rattle.std.proofs.lemmas.List.{reverse-append, reverse-reverse, take-append-drop, length-take}
 use Rattle.tx_code.specs.Meaning as meaning
 use Rattle.tx_code.proofs.ReachedIndexes.{and_left, and_right}
 use Rattle.vm_thread.specs.declared.parts.Suspended.{Suspended}

@@ -1,5 +1,5 @@
 -- Whether calls by an address stand in a transaction, as their instructions say.
-use Rattle.std.specs.Prelude.{true, false, ◌≡◌, ℕ, List, Some}
+use Rattle.std.specs.Prelude.{true, false, ◌≡◌, List, Some}
 use Rattle.tx_code.specs.declared.instr.Instr.{Instr}
 use Rattle.tx_code.specs.declared.instr.Instr.TheVariants.{CallIndirect, TCallIndirect}
 use Rattle.tx_code.specs.Meaning.{Names, Frame, State, Runs, Unwinds, fetch, in_transaction}

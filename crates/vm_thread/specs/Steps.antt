@@ -1,6 +1,5 @@
 -- What a step does.
-use Rattle.std.specs.Prelude.{◌≡◌, Bool, true, ℕ, ◌+◌, pos, List, [], ◌∷◌, drop, take, reverse, length, Option, Some, None, ◌&&◌, nat_le, nat_lt}
-use Rattle.std.specs.Option.{option_map}
+use Rattle.std.specs.Prelude.{◌≡◌, Bool, true, ℕ, ◌+◌, pos, List, ◌∷◌, drop, take, reverse, length, Option, Some, None, ◌&&◌, nat_le, nat_lt}
 use Rattle.tx_ints.specs.Integers.{convert_of}
 use Rattle.tx_ints.specs.Words.{word_of}
 use Rattle.tx_events.specs.declared.Reply.{Reply}
@@ -10,7 +9,6 @@ use Rattle.vm_thread.specs.Stacks.{put, swapped}
 use Rattle.vm_thread.specs.Frames.{exception_of, held_of, open_of, returned, left}
 use Rattle.vm_thread.specs.declared.step.Given.{Given}
 use Rattle.vm_thread.specs.declared.step.Given.TheVariants.{Nothing, Word, Loaded, Answered}
-use Rattle.vm_thread.specs.declared.step.Callee.{Callee}
 use Rattle.vm_thread.specs.declared.step.Change.{Change}
 use Rattle.vm_thread.specs.declared.step.Change.TheVariants.{Operate, Exchange, Call, CallIndirect, Return, Open, Close, Hold, EndHandler, Fly, Clean, Handle, Cross, Leave}
 use Rattle.vm_thread.specs.declared.step.Step.{Step}

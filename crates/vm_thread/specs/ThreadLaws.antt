@@ -1,31 +1,31 @@
 -- A thread of a sound image keeps the laws of threads.
-use Rattle.std.proofs.Common.{Bool, true, false, ◌≡◌, ℕ, ℤ, List, [], ◌∷◌, Option, Some, None, refl, sym, ap, ◌∙◌, subst}
-use Rattle.std.specs.Prelude.{not, ◌||◌, slice_get}
+use Rattle.std.proofs.Common.{Bool, true, false, ◌≡◌, ◌<◌, length, ℕ, ℤ, List, ◌∷◌, Some, refl, sym, ap, ◌∙◌}
+use Rattle.std.specs.Prelude.{not, ◌||◌, nat_lt, slice_get}
 use Rattle.std.specs.Option.{option_map}
 use Rattle.std.proofs.Props.{props}
 use mathlib.Core.Logic.{∥∥₁_map, ∥∥₁_elim}
 use Rattle.std.proofs.lemmas.Grind.{merely, not_there}
-use Rattle.std.proofs.lemmas.Bool.{true≢false}
-use Rattle.std.proofs.lemmas.Option.{same_Some}
+use Rattle.std.proofs.lemmas.Bool.{true≢false, ltb-true}
+use Rattle.std.proofs.lemmas.Bool.Decides.{Decides-ltb}
+use Rattle.std.proofs.lemmas.Option.{slice_get_within}
 use Rattle.tx_events.specs.declared.Event.TheVariants.{Spawn}
-use Rattle.tx_events.specs.declared.Reply.{Reply}
-use Rattle.tx_events.specs.Thread.{Thread, Open, Answers, Lawful, may_come, blocks_after, no_atomic}
+use Rattle.tx_events.specs.Thread.{Open, Lawful, no_atomic}
 use Rattle.tx_code.specs.declared.instr.Instr.{Instr}
 use Rattle.tx_code.specs.declared.instr.Instr.TheVariants.{CallIndirect, TCallIndirect}
 use Rattle.tx_code.specs.Images.{ImageView, IsImage}
 use Rattle.tx_code.specs.Renaming.{itself, renamed}
 use Rattle.tx_code.specs.Meaning as meaning
 use Rattle.tx_code.specs.Meaning.{Frame, State, Runs, Unwinds, code_of, fetch, in_transaction, blocks_in}
-use Rattle.tx_code.specs.Program.{names_of, first_state}
+use Rattle.tx_code.specs.Program.{names_of}
 use Rattle.tx_code.specs.Sound.{Sound, signature, table_of}
-use Rattle.tx_code.specs.InShape.{InShape, Ready, Below}
+use Rattle.tx_code.specs.InShape.{InShape, Ready}
 use Rattle.tx_code.proofs.OwnBodies.{same_instr}
 use Rattle.tx_code.proofs.ReachedIndexes.{instr_at}
 use Rattle.tx_code.proofs.SaneSteps.{outside_front, outside_all, inside_all, spot_sound}
 use Rattle.tx_code.proofs.SaneInstructions.{outside_now, inside_now}
 use Rattle.tx_code.proofs.LawfulThreads.{lawful, first_in, body_here}
 use Rattle.vm_thread.specs.Threads.{Running, running, Stands, IsReached, at_main}
-use Rattle.vm_thread.specs.Modes.{InMode, KnowsMode, Modes}
+use Rattle.vm_thread.specs.Modes.{KnowsMode, Modes}
 
 -- ---- the laws
 
@@ -57,6 +57,13 @@ running_laws = record {
 
 pub at_main_stands : (i : ImageView) → IsImage i → Sound i → IsReached (at_main i)
 at_main_stands i is sound = merely (record { sound = sound; shaped = first_in i sound is })
+
+-- a function that is spawned is one of the image
+spawned_there : (s : Running) (number func : ℕ) (arg : ℤ) → Stands (running.child s number func arg) → nat_lt func (length s.image.funcs) ≡ true
+spawned_there s number func arg k = (Decides-ltb func (length s.image.funcs)).1 (slice_get_within s.image.funcs func k.shaped.0.spot.func k.shaped.0.spot.is)
+
+pub spawned_within : (s : Running) (number func : ℕ) (arg : ℤ) → IsReached s → running.next s ≡ Spawn func arg → func < length s.image.funcs
+spawned_within s number func arg h e = ltb-true func (length s.image.funcs) (is_true _ (running_laws.starts s number func arg h e) (spawned_there s number func arg))
 
 -- ---- modes
 

@@ -1,7 +1,5 @@
 -- A thread together with the image that it runs.
-use Rattle.std.specs.Prelude.{ℕ, ℤ, List, ◌∷◌}
-use Rattle.tx_events.specs.declared.Event.{Event}
-use Rattle.tx_events.specs.declared.Reply.{Reply}
+use Rattle.std.specs.Prelude.{List, ◌∷◌}
 use Rattle.tx_events.specs.Thread.{Thread}
 use Rattle.tx_code.specs.Images.{ImageView}
 use Rattle.tx_code.specs.Meaning as meaning

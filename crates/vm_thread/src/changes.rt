@@ -28,7 +28,11 @@ pub(crate) fn apply(frames: &mut FrameStack, change: Change, reply: Reply)
     ensures { shown frames.new ≡ changed change reply (top_of frames.old) (rest_of frames.old) }
 {
     match change {
-        Change::Operate { taken, given, index } => {
+        Change::Operate {
+            taken,
+            given,
+            index,
+        } => {
             frames.operate(usize::from(taken), given_word(given, reply), index);
         }
         Change::Exchange { index } => frames.exchange(index),

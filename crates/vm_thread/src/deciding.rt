@@ -23,7 +23,7 @@ use crate::step::{Callee, Change, Given, Landing, Step};
 use crate::values::{bits, number_in, with_number, zeros};
 use tx_code::{Image, Instr, block_kind, int_kind, operator, size};
 use tx_events::{BlockKind, End, Event, Trap};
-use tx_ints::{ArithTrap, BinOp, IntKind, apply, negate, convert, value_of_word, word_of};
+use tx_ints::{ArithTrap, BinOp, IntKind, apply, convert, negate, value_of_word, word_of};
 
 /// `load`, `tload` and `vload`.
 fn load(frames: &FrameStack, kind: u8, volatile: bool) -> Step
@@ -430,7 +430,8 @@ fn ret_word(frames: &FrameStack) -> Step
 fn address(image: &Image, frames: &FrameStack, func: u32, safe: bool) -> Option<u32>
     ensures { MatchOption result (meaning.fits (names_of (image_view image.now)) (meaning.next_home (names_of (image_view image.now)) (top_of frames.now).home func safe) ≡ false) (λ a. (a ≡ frames.now.top.address + (names_of (image_view image.now)).frame frames.now.top.func) × (meaning.fits (names_of (image_view image.now)) (meaning.next_home (names_of (image_view image.now)) (top_of frames.now).home func safe) ≡ true)) }
 {
-    let address = u64::from(frames.top.address) + u64::from(lookups::frame_size(image, frames.top.func));
+    let address = u64::from(frames.top.address)
+        + u64::from(lookups::frame_size(image, frames.top.func));
     if address + u64::from(lookups::frame_size(image, func)) <= stack_end(frames.thread) {
         Some(address as u32)
     } else {

@@ -32,7 +32,13 @@ impl FrameStack {
     ghost use Rattle.vm_thread.specs.FrameStacks.{top_of, rest_of, shown, CanTake};
 
     /// The first frame of a thread: a plain body, with this operand if there is one.
-    pub(crate) fn start(alloc: Global, thread: u8, func: u32, address: u32, word: Option<u64>) -> Result<FrameStack, AllocError>
+    pub(crate) fn start(
+        alloc: Global,
+        thread: u8,
+        func: u32,
+        address: u32,
+        word: Option<u64>,
+    ) -> Result<FrameStack, AllocError>
         ensures { IfOk result (λ s. shown s ≡ Runs (first_frame (record { thread = thread; func = func; safe = false; base = address }) (put word [])) []) }
     {
         let mut words = Stack::new(alloc);

@@ -15,4 +15,4 @@ pub mod step;
 pub mod thread;
 mod values;
 
-pub use thread::VmThread;
+pub use thread::{Here, VmThread};

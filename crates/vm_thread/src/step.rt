@@ -36,18 +36,35 @@ pub struct Landing {
 #[derive(Clone, Copy)]
 pub enum Change {
     /// Takes operands off, leaves a word and goes on at an index.
-    Operate { taken: u8, given: Given, index: usize },
+    Operate {
+        taken: u8,
+        given: Given,
+        index: usize,
+    },
     /// Exchanges the two top operands.
-    Exchange { index: usize },
+    Exchange {
+        index: usize,
+    },
     Call(Callee),
     /// The same, where the function's address lies under the operands.
     CallIndirect(Callee),
     /// Hands a word, or none, to the frame below.
     Return(Option<u64>),
-    Open { block: Block, index: usize },
-    Close { index: usize },
-    Hold { taken: u8, held: Held, index: usize },
-    EndHandler { index: usize },
+    Open {
+        block: Block,
+        index: usize,
+    },
+    Close {
+        index: usize,
+    },
+    Hold {
+        taken: u8,
+        held: Held,
+        index: usize,
+    },
+    EndHandler {
+        index: usize,
+    },
     /// Begins to unwind.
     Fly(Exception),
     Clean(Landing),

@@ -1,5 +1,5 @@
 //! A thread of an image.
-ghost use Rattle.std.specs.Prelude.{◌≡◌, IfOk};
+ghost use Rattle.std.specs.Prelude.{◌≡◌, IfOk, min};
 ghost use Rattle.tx_code.specs.Views.{image_view};
 ghost use Rattle.tx_code.specs.Sound.{Sound};
 ghost use Rattle.vm_thread.specs.FrameStacks.{shown, CanTake};
@@ -12,10 +12,20 @@ use crate::deciding::next_step;
 use crate::frames::FrameStack;
 use crate::lookups::stack_start;
 use crate::step::Step;
+use crate::values::argument;
 use std::alloc::{AllocError, Global};
 use tx_code::Image;
+use tx_code::laws::an_image_is_whole;
 use tx_events::{Actor, End, Event, Reply};
-use tx_ints::word_of;
+
+/// The place of a thread in its image.
+#[derive(Clone, Copy, PartialEq, Eq, Debug)]
+pub struct Here {
+    pub func: u32,
+    /// It runs the function's safe body.
+    pub safe: bool,
+    pub index: u32,
+}
 
 /// A thread of a sound image, which it shares with the other threads.
 #[derive(Drop)]
@@ -78,7 +88,13 @@ impl<'a> Actor for VmThread<'a> {
     }
 
     fn start(&self, number: u8, func: u64, arg: i64) -> Result<VmThread<'a>, AllocError> {
-        let frames = FrameStack::start(self.alloc, number, func as u32, stack_start(number), Some(word_of(i128::from(arg))))?;
+        let frames = FrameStack::start(
+            self.alloc,
+            number,
+            func as u32,
+            stack_start(number),
+            Some(argument(arg)),
+        )?;
         Ok(VmThread {
             alloc: self.alloc,
             image: self.image,
@@ -95,11 +111,34 @@ impl<'a> VmThread<'a> {
         requires { Sound (image_view image.now) }
         ensures { IfOk result (λ t. ⟦<VmThread<'a> as Actor>⟧.state t ≡ at_main (image_view image.now)) }
     {
+        an_image_is_whole(image);
         let frames = FrameStack::start(alloc, 0, image.main, stack_start(0), None)?;
         Ok(VmThread {
             alloc,
             image,
             frames,
         })
+    }
+
+    /// Where the thread is: its function and body, and the index of its next instruction, or of the last one where an
+    /// exception unwinds a frame. An index past the greatest `u32`, which no object can spell, is given as that.
+    pub fn here(&self) -> Here
+        ensures func { result.func ≡ (innermost (shown self.now.frames)).home.func }
+        ensures safe { result.safe ≡ (innermost (shown self.now.frames)).home.safe }
+        ensures index { result.index ≡ min (innermost (shown self.now.frames)).index 4294967295 }
+    {
+        let frame = &self.frames.top;
+        Here {
+            func: frame.func,
+            safe: frame.safe,
+            index: frame.index.min(4294967295) as u32,
+        }
+    }
+
+    /// The operands of all frames, the outermost frame first and each frame's from the bottom up.
+    pub fn words(&self) -> &[u64]
+        ensures { result.now ≡ words_in (all_frames (shown self.now.frames)) }
+    {
+        self.frames.all_words()
     }
 }

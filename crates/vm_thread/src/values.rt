@@ -35,13 +35,7 @@ pub(crate) fn bits(kind: IntKind, word: u64) -> u64
     ensures { result ≡ bits_of kind (value_of_word kind word) }
 {
     match kind {
-        IntKind::Bool => {
-            if word == 0 {
-                0
-            } else {
-                1
-            }
-        }
+        IntKind::Bool => { if word == 0 { 0 } else { 1 } }
         IntKind::Char | IntKind::SChar | IntKind::UChar => word % 256,
         IntKind::Short | IntKind::UShort => word % 65536,
         IntKind::Int | IntKind::UInt => word % 4294967296,
@@ -106,7 +100,12 @@ pub(crate) fn with_number(exception: Exception, offset: u8, kind: IntKind, word:
     ensures { exception_of result ≡ with_number (exception_of exception) offset kind (value_of_word kind word) }
 {
     let mut bytes = exception.bytes;
-    put_bytes(&mut bytes, usize::from(offset), size(kind), bits(kind, word));
+    put_bytes(
+        &mut bytes,
+        usize::from(offset),
+        size(kind),
+        bits(kind, word),
+    );
     Exception {
         ty: exception.ty,
         bytes,
@@ -119,4 +118,11 @@ pub(crate) fn number_in(exception: Exception, offset: u8, kind: IntKind) -> u64
 {
     let number = get_bytes(&exception.bytes, usize::from(offset), size(kind));
     word_of(value_of_word(kind, number))
+}
+
+/// The word of a thread's argument.
+pub(crate) fn argument(arg: i64) -> u64
+    ensures { result ≡ word_of arg }
+{
+    word_of(i128::from(arg))
 }

@@ -1,9 +1,6 @@
-use Rattle.std.proofs.Common.{sym, ap, ◌∙◌, refl, ◌∷◌}
-use Rattle.tx_code.specs.Meaning as meaning
+use Rattle.std.proofs.Common.{sym}
 use Rattle.vm_thread.specs.FrameStacks.{top_of, rest_of}
-use Rattle.vm_thread.specs.Steps.{act_of}
-use Rattle.vm_thread.proofs.Operands.{one_is}
-use Rattle.vm_thread.proofs.Below.{returns, returns_word}
+use Rattle.vm_thread.proofs.Below.{returns}
 use Rattle.vm_thread.proofs.deciding.ret_none.Goals as goal
 
 pub returns-else-is_outermost : goal.returns-else-is_outermost

@@ -1,4 +1,4 @@
-use Rattle.vm_thread.specs.ThreadLaws.{running_laws, at_main_stands, modes}
+use Rattle.vm_thread.specs.ThreadLaws.{running_laws, at_main_stands}
 use Rattle.vm_thread.proofs.laws.threads_keep_the_laws.Goals as goal
 
 pub returns-clause-laws : goal.returns-clause-laws

@@ -1,4 +1,4 @@
-use Rattle.std.proofs.Common.{refl, sym, ap, ◌∙◌, ◌≡◌, Some}
+use Rattle.std.proofs.Common.{sym, ap, ◌∙◌}
 use Rattle.std.specs.Prelude.{map, Option}
 use Rattle.tx_code.specs.Renaming.{itself, renamed_row}
 use Rattle.tx_code.specs.Objects.{BodyView}

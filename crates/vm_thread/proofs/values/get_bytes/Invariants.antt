@@ -1,4 +1,4 @@
-use Rattle.std.proofs.Common.{◌≡◌, ◌<◌, ◌+◌, ◌-◌, ◌*◌, ◌^◌}
+use Rattle.std.proofs.Common.{◌≡◌, ◌<◌, ◌+◌, ◌-◌, ◌^◌}
 use Rattle.tx_code.specs.Meaning.{get_bytes}
 use Rattle.vm_thread.proofs.values.get_bytes.Given as goal
 

@@ -1,4 +1,4 @@
-use Rattle.std.proofs.Common.{arith, sym, ap, ◌∙◌}
+use Rattle.std.proofs.Common.{◌∙◌}
 use Rattle.vm_thread.proofs.Whole.{all_words_are}
 use Rattle.vm_thread.proofs.frames.FrameStack.all_words.Goals as goal
 

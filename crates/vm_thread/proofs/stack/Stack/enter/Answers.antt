@@ -1,6 +1,6 @@
-use Rattle.std.proofs.Common.{rules, ◌≤◌, length, ◌≡◌, ◌<◌, ◌+◌, ◌-◌, ◌∷◌, [], ℕ, take, drop, reverse, refl, sym, ap, ◌∙◌, arith, vec_len, slice_index_or, List, ◌++◌}
-use Rattle.vm_thread.specs.Stacks.{own, under, above, HasRoom}
-use Rattle.vm_thread.proofs.Stacked.{above_length, above_none, above_pushed, taken_off, all_off, top_is, turned, front_kept, front_cut}
+use Rattle.std.proofs.Common.{◌-◌, take, ap, ◌∙◌, arith}
+use Rattle.vm_thread.specs.Stacks.{above}
+use Rattle.vm_thread.proofs.Stacked.{above_length, taken_off, turned, front_kept, front_cut}
 use Rattle.vm_thread.proofs.stack.Stack.enter.Goals as goal
 
 pub overflow_sub-start : goal.overflow_sub-start

@@ -1,6 +1,6 @@
-use Rattle.std.proofs.Common.{rules, ◌≤◌, length, ◌≡◌, ◌<◌, ◌+◌, ◌-◌, ◌∷◌, [], ℕ, take, drop, reverse, refl, sym, ap, ◌∙◌, arith, vec_len, slice_index_or, List, ◌++◌}
-use Rattle.vm_thread.specs.Stacks.{own, under, above, HasRoom}
-use Rattle.vm_thread.proofs.Stacked.{above_length, above_none, above_pushed, taken_off, all_off, top_is}
+use Rattle.std.proofs.Common.{[], ap, ◌∙◌, arith}
+use Rattle.vm_thread.specs.Stacks.{above}
+use Rattle.vm_thread.proofs.Stacked.{above_none}
 use Rattle.vm_thread.proofs.stack.Stack.new.Goals as goal
 
 pub returns-clause-own : goal.returns-clause-own

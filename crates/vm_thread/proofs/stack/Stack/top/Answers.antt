@@ -1,6 +1,5 @@
-use Rattle.std.proofs.Common.{rules, ◌≤◌, length, ◌≡◌, ◌<◌, ◌+◌, ◌-◌, ◌∷◌, [], ℕ, take, drop, reverse, refl, sym, ap, ◌∙◌, arith, vec_len, slice_index_or, List, ◌++◌}
-use Rattle.vm_thread.specs.Stacks.{own, under, above, HasRoom}
-use Rattle.vm_thread.proofs.Stacked.{above_length, above_none, above_pushed, taken_off, all_off, top_is, turned, front_kept, front_cut}
+use Rattle.std.proofs.Common.{length, ◌≡◌, ◌-◌, ap, ◌∙◌, arith, slice_index_or}
+use Rattle.vm_thread.proofs.Stacked.{above_none, top_is}
 use Rattle.vm_thread.proofs.stack.Stack.top.Goals as goal
 
 pub returns-then-len-self : goal.returns-then-len-self

@@ -1,6 +1,5 @@
-use Rattle.std.proofs.Common.{rules, ◌≤◌, length, ◌≡◌, ◌<◌, ◌+◌, ◌-◌, ◌∷◌, [], ℕ, take, drop, reverse, refl, sym, ap, ◌∙◌, arith, vec_len, slice_index_or, List, ◌++◌}
-use Rattle.vm_thread.specs.Stacks.{own, under, above, HasRoom}
-use Rattle.vm_thread.proofs.Stacked.{above_length, above_none, above_pushed, taken_off, all_off, top_is, top_two_are, no_two, turned, front_kept, front_cut}
+use Rattle.std.proofs.Common.{length, ◌≡◌, ◌-◌, ap, ◌∙◌, arith, slice_index_or}
+use Rattle.vm_thread.proofs.Stacked.{above_length, top_two_are}
 use Rattle.vm_thread.proofs.stack.Stack.top_two.Goals as goal
 
 pub overflow_sub-len : goal.overflow_sub-len
@@ -21,5 +20,5 @@ returns g c =
     let e : c.len-2.result - 1 ≡ length c.args.self.now.items.items - 1 = omega arith in
     let f : c.len.result - 2 ≡ length c.args.self.now.items.items - 2 = omega arith in
     top_two_are c.args.self.now.base c.args.self.now.items.items c.index-2.result.now c.index.result.now (omega (arith, l))
-      (c.index-2.ensures ∙ ap (λ z. slice_index_or c.args.self.now.items.items z c.index-2.result.now) e)
-      (c.index.ensures ∙ ap (λ z. slice_index_or c.args.self.now.items.items z c.index.result.now) f)
+    (c.index-2.ensures ∙ ap (λ z. slice_index_or c.args.self.now.items.items z c.index-2.result.now) e)
+    (c.index.ensures ∙ ap (λ z. slice_index_or c.args.self.now.items.items z c.index.result.now) f)
