@@ -7,10 +7,10 @@ use Rattle.tx_events.specs.declared.Trap.TheVariants.{StackOverflow, UnsafeCall,
 use Rattle.tx_events.specs.declared.End.TheVariants.{Trapped}
 use Rattle.tx_events.specs.declared.Event.TheVariants.{Silent, Stop}
 use Rattle.tx_code.specs.Meaning.{Names, Frame, Act, Lost, Runs, goes, traps, one, if_some, at, first_frame, fits, next_home, entered_act, call_act, call_indirect_act, checked_act, in_transaction}
-use Rattle.vm_thread.specs.declared.step.Step.{Step}
-use Rattle.vm_thread.specs.declared.step.Step.TheVariants.{Does, Ends, Lost as NoStep}
-use Rattle.vm_thread.specs.declared.step.Change.TheVariants.{Call, CallIndirect}
-use Rattle.vm_thread.specs.Steps.{Means}
+use Rattle.vm_frames.specs.declared.step.Step.{Step}
+use Rattle.vm_frames.specs.declared.step.Step.TheVariants.{Does, Ends, Lost as NoStep}
+use Rattle.vm_frames.specs.declared.step.Change.TheVariants.{Call, CallIndirect}
+use Rattle.vm_frames.specs.Steps.{Means}
 use Rattle.vm_thread.proofs.Operands.{none_is, some_is, moved_are, moved_lost, under_lost}
 
 pub const_some : {A : Type 0} (o : Option A) (l a : Act) → is_some o ≡ true → if_some o l (λ b. a) ≡ a

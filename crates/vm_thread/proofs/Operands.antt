@@ -4,7 +4,7 @@ use Rattle.std.proofs.lemmas.List.{reverse-append, append-nil, drop_all}
 use Rattle.std.specs.Prelude.{nat_le}
 use Rattle.std.proofs.lemmas.Bool.{true≢false, leb-true, leb-false}
 use Rattle.tx_code.specs.Meaning.{Act, Lost, one, two, moved, if_some}
-use Rattle.vm_thread.specs.Stacks.{has_two}
+use Rattle.vm_frames.specs.Stacks.{has_two}
 
 pub one_is : (ws : List ℕ) (w : ℕ) (g : ℕ → List ℕ → Act) → ws ≡ w ∷ drop 1 ws → one ws g ≡ g w (drop 1 ws)
 one_is ws w g e = ap (λ z. one z g) e

@@ -2,17 +2,17 @@
 ghost use Rattle.std.specs.Prelude.{◌≡◌, IfOk, min};
 ghost use Rattle.tx_code.specs.Views.{image_view};
 ghost use Rattle.tx_code.specs.Sound.{Sound};
-ghost use Rattle.vm_thread.specs.FrameStacks.{shown, CanTake};
+ghost use Rattle.vm_frames.specs.FrameStacks.{shown, CanTake};
 ghost use Rattle.vm_thread.specs.Threads.{Running, running, IsReached, at_main, innermost, all_frames};
-ghost use Rattle.vm_thread.specs.Frames.{words_in};
+ghost use Rattle.vm_frames.specs.Frames.{words_in};
 ghost use Rattle.vm_thread.specs.ThreadLaws.{running_laws};
 
-use crate::changes::apply;
+use vm_frames::changes::apply;
 use crate::deciding::next_step;
-use crate::frames::FrameStack;
+use vm_frames::frames::FrameStack;
 use crate::lookups::stack_start;
-use crate::step::Step;
-use crate::values::argument;
+use vm_frames::step::Step;
+use vm_frames::values::argument;
 use std::alloc::{AllocError, Global};
 use tx_code::Image;
 use tx_code::laws::an_image_is_whole;

@@ -1,7 +1,7 @@
 use Rattle.std.proofs.Common.{sym, arith}
 use Rattle.tx_code.specs.Program.{names_of}
 use Rattle.tx_code.specs.Views.{image_view}
-use Rattle.vm_thread.specs.FrameStacks.{top_of, rest_of}
+use Rattle.vm_frames.specs.FrameStacks.{top_of, rest_of}
 use Rattle.vm_thread.proofs.Calls.{call_short, call_lost, call_over, call_in}
 use Rattle.vm_thread.proofs.deciding.call.Goals as goal
 

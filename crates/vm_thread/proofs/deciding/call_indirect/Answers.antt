@@ -1,7 +1,7 @@
 use Rattle.std.proofs.Common.{sym, arith}
 use Rattle.tx_code.specs.Program.{names_of}
 use Rattle.tx_code.specs.Views.{image_view}
-use Rattle.vm_thread.specs.FrameStacks.{top_of, rest_of}
+use Rattle.vm_frames.specs.FrameStacks.{top_of, rest_of}
 use Rattle.vm_thread.proofs.Calls.{indirect_short, indirect_bad, indirect_unsafe, indirect_in}
 use Rattle.vm_thread.proofs.deciding.call_indirect.Goals as goal
 

@@ -1,6 +1,6 @@
 use Rattle.std.proofs.Common.{sym}
-use Rattle.vm_thread.specs.FrameStacks.{top_of, rest_of}
-use Rattle.vm_thread.proofs.Below.{returns}
+use Rattle.vm_frames.specs.FrameStacks.{top_of, rest_of}
+use Rattle.vm_frames.proofs.Below.{returns}
 use Rattle.vm_thread.proofs.deciding.ret_none.Goals as goal
 
 pub returns-else-is_outermost : goal.returns-else-is_outermost

@@ -1,8 +1,8 @@
 use Rattle.std.proofs.Common.{sym, ◌∙◌, [], ◌∷◌}
 use Rattle.tx_code.specs.Meaning as meaning
-use Rattle.vm_thread.specs.FrameStacks.{top_of, rest_of}
+use Rattle.vm_frames.specs.FrameStacks.{top_of, rest_of}
 use Rattle.vm_thread.proofs.Operands.{one_is}
-use Rattle.vm_thread.proofs.Below.{returns_word}
+use Rattle.vm_frames.proofs.Below.{returns_word}
 use Rattle.vm_thread.proofs.deciding.ret_word.Goals as goal
 
 pub returns-else-is_outermost : goal.returns-else-is_outermost

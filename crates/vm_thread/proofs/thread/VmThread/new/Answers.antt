@@ -3,7 +3,7 @@ use Rattle.std.proofs.Common.{◌≡◌, [], sym, ap, ◌∙◌, subst}
 use Rattle.tx_code.specs.Views.{image_view}
 use Rattle.tx_code.specs.Meaning.{Runs, first_frame}
 use Rattle.tx_code.specs.Program.{first_state}
-use Rattle.vm_thread.specs.FrameStacks.{shown}
+use Rattle.vm_frames.specs.FrameStacks.{shown}
 use Rattle.vm_thread.specs.Threads.{IsReached}
 use Rattle.vm_thread.specs.ThreadLaws.{at_main_stands}
 use Rattle.vm_thread.proofs.thread.VmThread.new.Goals as goal

@@ -1,5 +1,5 @@
 use Rattle.tx_code.specs.Views.{image_view}
-use Rattle.vm_thread.specs.FrameStacks.{shown}
+use Rattle.vm_frames.specs.FrameStacks.{shown}
 use Rattle.vm_thread.specs.ThreadLaws.{modes}
 use Rattle.vm_thread.proofs.thread.VmThreadActor.next.Goals as goal
 

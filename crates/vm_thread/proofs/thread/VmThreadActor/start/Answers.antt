@@ -6,7 +6,7 @@ use Rattle.tx_code.specs.Program.{stack_start}
 use Rattle.tx_ints.specs.Words.{word_of}
 use Rattle.std.specs.Prelude.{false}
 use Rattle.std.proofs.lemmas.Int.{to_z-of_z}
-use Rattle.vm_thread.specs.FrameStacks.{shown}
+use Rattle.vm_frames.specs.FrameStacks.{shown}
 use Rattle.vm_thread.specs.Threads.{IsReached}
 use Rattle.vm_thread.specs.ThreadLaws.{running_laws, spawned_within}
 use Rattle.std.proofs.lemmas.List.{length-map}

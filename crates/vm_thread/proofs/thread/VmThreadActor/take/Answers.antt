@@ -2,7 +2,7 @@ use Rattle.std.proofs.Common.{◌≡◌, sym, ap, ◌∙◌, subst}
 use Rattle.tx_code.specs.Views.{image_view}
 use Rattle.tx_code.specs.Meaning.{state_after, step_act}
 use Rattle.tx_code.specs.Program.{names_of}
-use Rattle.vm_thread.specs.FrameStacks.{shown}
+use Rattle.vm_frames.specs.FrameStacks.{shown}
 use Rattle.vm_thread.specs.Threads.{IsReached}
 use Rattle.vm_thread.specs.ThreadLaws.{running_laws, modes}
 use Rattle.vm_thread.proofs.thread.VmThreadActor.take.Goals as goal

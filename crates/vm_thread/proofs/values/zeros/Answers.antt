@@ -1,7 +1,0 @@
-use Rattle.std.proofs.Common.{refl}
-use Rattle.tx_code.specs.Meaning.{no_bytes}
-use Rattle.vm_thread.proofs.values.zeros.Goals as goal
-
-pub returns : goal.returns
-unfolding no_bytes
-returns c = refl
