@@ -25,7 +25,7 @@ use Rattle.tx_code.proofs.OwnBodies.{same_instr, same_row}
 use Rattle.tx_code.proofs.SaneSteps.{kind_front, sync_front, rest_kind, rest_sync, none_open, cut_length, find_some, find_none, Startable, Sane, quiet, event, there_sane, if_sane, spot_sound, no_start}
 use Rattle.tx_code.proofs.SaneInstructions.{act_sane}
 
-rows_itself : (rs : List Row) → map (renamed_row itself) rs ≡ rs
+pub rows_itself : (rs : List Row) → map (renamed_row itself) rs ≡ rs
 rows_itself [] = refl
 rows_itself (r ∷ rs) = ap (λ z. z ∷ map (renamed_row itself) rs) (same_row r) ∙ ap (λ z. r ∷ z) (rows_itself rs)
 
@@ -41,7 +41,7 @@ module _ (i : ImageView) (sound : Sound i) where
   abbrev t : Table
   t = table_of i
 
-  body_here : (h : Home) (spot : Spot i h) → x.body h.func h.safe ≡ Some spot.body
+  pub body_here : (h : Home) (spot : Spot i h) → x.body h.func h.safe ≡ Some spot.body
   body_here h spot = ap (λ o. option_and_then (λ (g : ImageFuncView). body_in g h.safe) o) spot.is ∙ spot.has
 
   -- ---- unwinding

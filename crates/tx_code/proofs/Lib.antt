@@ -1,7 +1,7 @@
 pub mod LineLemmas
 mod Lockstep
-mod OwnBodies
-mod ReachedIndexes
-mod SaneSteps
-mod SaneInstructions
-mod LawfulThreads
+pub mod OwnBodies
+pub mod ReachedIndexes
+pub mod SaneSteps
+pub mod SaneInstructions
+pub mod LawfulThreads

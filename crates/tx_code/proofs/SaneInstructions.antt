@@ -156,17 +156,17 @@ module _ (i : ImageView) (sound : Sound i) where
     goes_next a is m ws e = quiet i sound bs _ (on_to i sound f rest ready below_it a is f.nest (f.index + 1) ws m e) refl
 
     -- it is outside of transactions where the instruction may not be inside
-    outside_now : (a : Instr) → At a → inside_right t a ≡ false → is_inside f.home.safe f.nest.opens ≡ false
+    pub outside_now : (a : Instr) → At a → inside_right t a ≡ false → is_inside f.home.safe f.nest.opens ≡ false
     outside_now a is e = by_test (is_inside f.home.safe f.nest.opens) refl where
       by_test : (b : Bool) → is_inside f.home.safe f.nest.opens ≡ b → b ≡ false
       by_test true h = absurd (true≢false (sym ((spot_sound i sound f.home ready.spot).inside f.index (shape_of f) a ready.reached is h) ∙ e))
       by_test false h = refl
 
-    no_block : (a : Instr) → At a → inside_right t a ≡ false → no_atomic bs ≡ true
+    pub no_block : (a : Instr) → At a → inside_right t a ≡ false → no_atomic bs ≡ true
     no_block a is e = outside_all i sound f rest below_it (outside_now a is e)
 
     -- it is inside where the instruction may not be outside
-    inside_now : (a : Instr) → At a → outside_right a ≡ false → is_inside f.home.safe f.nest.opens ≡ true
+    pub inside_now : (a : Instr) → At a → outside_right a ≡ false → is_inside f.home.safe f.nest.opens ≡ true
     inside_now a is e = by_test (is_inside f.home.safe f.nest.opens) refl where
       by_test : (b : Bool) → is_inside f.home.safe f.nest.opens ≡ b → b ≡ true
       by_test true h = refl

@@ -1,0 +1,4 @@
+pub mod Stacked
+pub mod Numbers
+pub mod Below
+pub mod Whole

@@ -1,0 +1,4 @@
+pub mod Stacks
+pub mod Frames
+pub mod FrameStacks
+pub mod Steps

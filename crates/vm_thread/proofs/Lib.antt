@@ -1,0 +1,4 @@
+pub mod Spellings
+pub mod Bases
+pub mod Operands
+pub mod Calls

@@ -1,0 +1,4 @@
+pub mod Lookups
+pub mod Modes
+pub mod Threads
+pub mod ThreadLaws
