@@ -44,7 +44,7 @@ lowest_later n k s ss l = record { place = suc l.place; is = omega (arith, l.is)
 pub lowest_some : {S : Type 0} (n : ℕ) (ss : List (Slot S)) (k : ℕ) → lowest n ss ≡ Some k → Lowest n ss k
 lowest_some n [] k h = absurd (none-some k h)
 lowest_some n (s ∷ ss) k h = elim (cases_Bool (waits s)) [
-    inl e ↦ let q : n ≡ k = same_Some n k (sym (ap (λ b. if b then Some n else lowest (n + 1) ss) e) ∙ h) in record { place = 0; is = omega (arith, q); within = omega arith; waits = e }
+  | inl e ↦ let q : n ≡ k = same_Some n k (sym (ap (λ b. if b then Some n else lowest (n + 1) ss) e) ∙ h) in record { place = 0; is = omega (arith, q); within = omega arith; waits = e }
   | inr e ↦ lowest_later n k s ss (lowest_some (n + 1) ss k (sym (ap (λ b. if b then Some n else lowest (n + 1) ss) e) ∙ h))
 ]
 
@@ -59,7 +59,7 @@ left_none : {S : Type 0} (n : ℕ) (ss : List (Slot S)) → left ss ≡ 0 → lo
 unfolding left
 left_none n [] h = refl
 left_none n (s ∷ ss) h = elim (cases_Bool s.looked) [
-    inl e ↦ left_not s.shape s.looked n ss e (left_none (n + 1) ss (sym (ap (λ b. if b then left ss else suc (left ss)) e) ∙ h))
+  | inl e ↦ left_not s.shape s.looked n ss e (left_none (n + 1) ss (sym (ap (λ b. if b then left ss else suc (left ss)) e) ∙ h))
   | inr e ↦ absurd (let q : suc (left ss) ≡ 0 = sym (ap (λ b. if b then left ss else suc (left ss)) e) ∙ h in omega (arith, q))
 ]
 

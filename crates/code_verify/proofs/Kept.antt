@@ -29,23 +29,23 @@ pub record Kept {S : Type 0} (w : Space S) (slots : List (Slot S)) : Type 0 wher
 module _ {S : Type 0} (w : Space S) (l : Tests w) where
   true_note : (slots : List (Slot S)) (g : Given S) → (g.at < w.count → Has w g.at g.shape) → True w slots → True w (note w slots g)
   true_note slots g r t = elim (cases_lt g.at (length slots)) [
-      inl h ↦ record {
-          long = length_note w l slots g ∙ t.long;
-          shapes = λ j s e. elim (cases_eq j g.at) [
-              inl q ↦ elim (shape_noted w l (slot_at slots g.at) g.shape s (sym (ap (λ x. x.shape) (note_same w l slots g.at g.shape h)) ∙ subst (λ k. (slot_at (note w slots g) k).shape ≡ Some s) q e)) [
-                  inl o ↦ t.shapes j s (subst (λ k. (slot_at slots k).shape ≡ Some s) (sym q) o)
-                | inr o ↦ subst (λ x. Has w j x) o (subst (λ k. Has w k g.shape) (sym q) (r (subst (λ n. g.at < n) t.long h)))
-              ]
-            | inr n ↦ t.shapes j s (sym (ap (λ x. x.shape) (note_other w l slots g.at j g.shape n)) ∙ e)
-          ];
-          clashes = λ j e. elim (cases_eq j g.at) [
-              inl q ↦ elim (clash_noted w l (slot_at slots g.at) g.shape (sym (ap (λ x. x.clash) (note_same w l slots g.at g.shape h)) ∙ subst (λ k. (slot_at (note w slots g) k).clash ≡ true) q e)) [
-                  inl o ↦ t.clashes j (subst (λ k. (slot_at slots k).clash ≡ true) (sym q) o)
-                | inr o ↦ subst (λ k. Two w k) (sym q) (record { one = o.0; other = g.shape; has_one = t.shapes g.at o.0 o.1; has_other = r (subst (λ n. g.at < n) t.long h); differ = o.2 })
-              ]
-            | inr n ↦ t.clashes j (sym (ap (λ x. x.clash) (note_other w l slots g.at j g.shape n)) ∙ e)
-          ];
-      }
+    | inl h ↦ record {
+      long = length_note w l slots g ∙ t.long;
+      shapes = λ j s e. elim (cases_eq j g.at) [
+        | inl q ↦ elim (shape_noted w l (slot_at slots g.at) g.shape s (sym (ap (λ x. x.shape) (note_same w l slots g.at g.shape h)) ∙ subst (λ k. (slot_at (note w slots g) k).shape ≡ Some s) q e)) [
+          | inl o ↦ t.shapes j s (subst (λ k. (slot_at slots k).shape ≡ Some s) (sym q) o)
+          | inr o ↦ subst (λ x. Has w j x) o (subst (λ k. Has w k g.shape) (sym q) (r (subst (λ n. g.at < n) t.long h)))
+        ]
+        | inr n ↦ t.shapes j s (sym (ap (λ x. x.shape) (note_other w l slots g.at j g.shape n)) ∙ e)
+      ];
+      clashes = λ j e. elim (cases_eq j g.at) [
+        | inl q ↦ elim (clash_noted w l (slot_at slots g.at) g.shape (sym (ap (λ x. x.clash) (note_same w l slots g.at g.shape h)) ∙ subst (λ k. (slot_at (note w slots g) k).clash ≡ true) q e)) [
+          | inl o ↦ t.clashes j (subst (λ k. (slot_at slots k).clash ≡ true) (sym q) o)
+          | inr o ↦ subst (λ k. Two w k) (sym q) (record { one = o.0; other = g.shape; has_one = t.shapes g.at o.0 o.1; has_other = r (subst (λ n. g.at < n) t.long h); differ = o.2 })
+        ]
+        | inr n ↦ t.clashes j (sym (ap (λ x. x.clash) (note_other w l slots g.at j g.shape n)) ∙ e)
+      ];
+    }
     | inr h ↦ subst (λ x. True w x) (sym (past w l slots g h)) t
   ]
 
@@ -61,13 +61,13 @@ module _ {S : Type 0} (w : Space S) (l : Tests w) where
 
   mark_shape : (slots : List (Slot S)) (i j : ℕ) → i < length slots → (slot_at (set slots i (seen_slot (slot_at slots i))) j).shape ≡ (slot_at slots j).shape
   mark_shape slots i j h = elim (cases_eq j i) [
-      inl e ↦ subst (λ k. (slot_at (set slots i (seen_slot (slot_at slots i))) k).shape ≡ (slot_at slots k).shape) (sym e) (ap (λ x. x.shape) (mark_same slots i h))
+    | inl e ↦ subst (λ k. (slot_at (set slots i (seen_slot (slot_at slots i))) k).shape ≡ (slot_at slots k).shape) (sym e) (ap (λ x. x.shape) (mark_same slots i h))
     | inr n ↦ ap (λ x. x.shape) (mark_other slots i j n)
   ]
 
   mark_clash : (slots : List (Slot S)) (i j : ℕ) → i < length slots → (slot_at (set slots i (seen_slot (slot_at slots i))) j).clash ≡ (slot_at slots j).clash
   mark_clash slots i j h = elim (cases_eq j i) [
-      inl e ↦ subst (λ k. (slot_at (set slots i (seen_slot (slot_at slots i))) k).clash ≡ (slot_at slots k).clash) (sym e) (ap (λ x. x.clash) (mark_same slots i h))
+    | inl e ↦ subst (λ k. (slot_at (set slots i (seen_slot (slot_at slots i))) k).clash ≡ (slot_at slots k).clash) (sym e) (ap (λ x. x.clash) (mark_same slots i h))
     | inr n ↦ ap (λ x. x.clash) (mark_other slots i j n)
   ]
 
@@ -93,7 +93,7 @@ module _ {S : Type 0} (w : Space S) (l : Tests w) where
         facts = true_all gs mid (λ g m b. goes_on start m b) (true_mark slots pc h k.facts);
         first = (grow 0).shape w.entry (mark_shape slots pc 0 h ∙ k.first);
         looked = λ i b. elim (cases_eq i pc) [
-            inl q ↦ subst (λ x. Gave w (note_all w mid gs) x) (sym q)
+          | inl q ↦ subst (λ x. Gave w (note_all w mid gs) x) (sym q)
               (record { shape = s; is = (grow pc).shape s (mark_shape slots pc pc h ∙ e); told = λ g m b. all_told w l m mid (subst (λ n. g.at < n) (sym midlong) b) })
           | inr n ↦
               let old : Gave w slots i = k.looked i (sym (ap (λ x. x.looked) (mark_other slots pc i n)) ∙ sym ((grow i).looked) ∙ b) in
@@ -123,17 +123,17 @@ module _ {S : Type 0} (w : Space S) (l : Tests w) where
     facts = record {
       long = length-set (replicate w.count bare) 0 (slot (Some w.entry) false false) ∙ length_bares S w.count;
       shapes = λ j s e. elim (cases_eq j 0) [
-          inl q ↦ subst (λ k. Has w k s) (sym q) (subst (λ t. Has w 0 t) (same_Some w.entry s (sym (ap (λ x. x.shape) (at_start h)) ∙ subst (λ k. (slot_at (start w) k).shape ≡ Some s) q e)) (at_first h))
+        | inl q ↦ subst (λ k. Has w k s) (sym q) (subst (λ t. Has w 0 t) (same_Some w.entry s (sym (ap (λ x. x.shape) (at_start h)) ∙ subst (λ k. (slot_at (start w) k).shape ≡ Some s) q e)) (at_first h))
         | inr n ↦ absurd (none-some s (sym (ap (λ x. x.shape) (after_start j n)) ∙ e))
       ];
       clashes = λ j e. elim (cases_eq j 0) [
-          inl q ↦ absurd (false≢true (sym (ap (λ x. x.clash) (at_start h)) ∙ subst (λ k. (slot_at (start w) k).clash ≡ true) q e))
+        | inl q ↦ absurd (false≢true (sym (ap (λ x. x.clash) (at_start h)) ∙ subst (λ k. (slot_at (start w) k).clash ≡ true) q e))
         | inr n ↦ absurd (false≢true (sym (ap (λ x. x.clash) (after_start j n)) ∙ e))
       ];
     };
     first = ap (λ x. x.shape) (at_start h);
     looked = λ j e. elim (cases_eq j 0) [
-        inl q ↦ absurd (false≢true (sym (ap (λ x. x.looked) (at_start h)) ∙ subst (λ k. (slot_at (start w) k).looked ≡ true) q e))
+      | inl q ↦ absurd (false≢true (sym (ap (λ x. x.looked) (at_start h)) ∙ subst (λ k. (slot_at (start w) k).looked ≡ true) q e))
       | inr n ↦ absurd (false≢true (sym (ap (λ x. x.looked) (after_start j n)) ∙ e))
     ];
   }

@@ -111,10 +111,10 @@ module _ {S : Type 0} (w : Space S) (l : Tests w) where
   -- each slot grows by a note
   note_grows : (slots : List (Slot S)) (g : Given S) (j : ℕ) → Grows (slot_at slots j) (slot_at (note w slots g) j)
   note_grows slots g j = elim (cases_eq j g.at) [
-      inl e ↦ elim (cases_lt g.at (length slots)) [
-          inl h ↦ subst (λ k. Grows (slot_at slots k) (slot_at (note w slots g) k)) (sym e) (subst (λ x. Grows (slot_at slots g.at) x) (sym (note_same slots g.at g.shape h)) (grows_noted (slot_at slots g.at) g.shape))
-        | inr h ↦ subst (λ x. Grows (slot_at slots j) (slot_at x j)) (sym (past slots g h)) (grows_self (slot_at slots j))
-      ]
+    | inl e ↦ elim (cases_lt g.at (length slots)) [
+      | inl h ↦ subst (λ k. Grows (slot_at slots k) (slot_at (note w slots g) k)) (sym e) (subst (λ x. Grows (slot_at slots g.at) x) (sym (note_same slots g.at g.shape h)) (grows_noted (slot_at slots g.at) g.shape))
+      | inr h ↦ subst (λ x. Grows (slot_at slots j) (slot_at x j)) (sym (past slots g h)) (grows_self (slot_at slots j))
+    ]
     | inr n ↦ subst (λ x. Grows (slot_at slots j) x) (sym (note_other slots g.at j g.shape n)) (grows_self (slot_at slots j))
   ]
 

@@ -80,10 +80,10 @@ shape_yes s t h =
     let front = and_left (nat_eq s.depth t.depth && same_opens s.opens t.opens && nat_eq s.handlers t.handlers) (same_hand s.hand t.hand) h in
     let two = and_left (nat_eq s.depth t.depth && same_opens s.opens t.opens) (nat_eq s.handlers t.handlers) front in
     alike s.depth t.depth s.opens t.opens s.handlers t.handlers s.hand t.hand
-      (eqb-true s.depth t.depth (and_left (nat_eq s.depth t.depth) (same_opens s.opens t.opens) two))
-      (opens_yes s.opens t.opens (and_right (nat_eq s.depth t.depth) (same_opens s.opens t.opens) two))
-      (eqb-true s.handlers t.handlers (and_right (nat_eq s.depth t.depth && same_opens s.opens t.opens) (nat_eq s.handlers t.handlers) front))
-      (hand_yes s.hand t.hand (and_right (nat_eq s.depth t.depth && same_opens s.opens t.opens && nat_eq s.handlers t.handlers) (same_hand s.hand t.hand) h))
+    (eqb-true s.depth t.depth (and_left (nat_eq s.depth t.depth) (same_opens s.opens t.opens) two))
+    (opens_yes s.opens t.opens (and_right (nat_eq s.depth t.depth) (same_opens s.opens t.opens) two))
+    (eqb-true s.handlers t.handlers (and_right (nat_eq s.depth t.depth && same_opens s.opens t.opens) (nat_eq s.handlers t.handlers) front))
+    (hand_yes s.hand t.hand (and_right (nat_eq s.depth t.depth && same_opens s.opens t.opens && nat_eq s.handlers t.handlers) (same_hand s.hand t.hand) h))
 
 shape_itself : (s : Shape) → same_shape s s ≡ true
 shape_itself s = both _ _ (both _ _ (both _ _ (eq-eqb s.depth s.depth refl) (opens_itself s.opens)) (eq-eqb s.handlers s.handlers refl)) (hand_itself s.hand)
