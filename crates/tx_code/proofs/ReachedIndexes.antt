@@ -67,7 +67,7 @@ goes_on : (i n : ℕ) → i < n → (i + 1 ≡ n → false ≡ true) → i + 1 <
 goes_on i n h last = less_or_last (i + 1) n (omega arith) last
 
 -- an instruction that is in the body leads into it
-led : (a : Instr) (i j n : ℕ) → target_lies n a ≡ true → (i + 1 ≡ n → is_last a ≡ true) → i < n → Among j (targets a i) → j < n
+pub led : (a : Instr) (i j n : ℕ) → target_lies n a ≡ true → (i + 1 ≡ n → is_last a ≡ true) → i < n → Among j (targets a i) → j < n
 led (Push v) i j n lies last within m = next_in n (goes_on i n within last) m
 led Dup i j n lies last within m = next_in n (goes_on i n within last) m
 led Pop i j n lies last within m = next_in n (goes_on i n within last) m

@@ -15,15 +15,15 @@ ghost use Rattle.vm_thread.specs.Modes.{InMode, KnowsMode, Modes};
 ghost use Rattle.vm_frames.specs.declared.step.Step.TheVariants.{Ends};
 ghost use Rattle.vm_frames.specs.Steps.{Means};
 
-use vm_frames::frames::FrameStack;
 use crate::lookups::{self, stack_end};
+use tx_code::{Image, Instr, block_kind, int_kind, operator, size};
+use tx_events::{BlockKind, End, Event, Trap};
+use tx_ints::{ArithTrap, BinOp, IntKind, apply, convert, negate, value_of_word, word_of};
+use vm_frames::frames::FrameStack;
 use vm_frames::parts::{Block, Exception, Held};
 use vm_frames::stack::Two;
 use vm_frames::step::{Callee, Change, Given, Landing, Step};
 use vm_frames::values::{bits, number_in, with_number, zeros};
-use tx_code::{Image, Instr, block_kind, int_kind, operator, size};
-use tx_events::{BlockKind, End, Event, Trap};
-use tx_ints::{ArithTrap, BinOp, IntKind, apply, convert, negate, value_of_word, word_of};
 
 /// `load`, `tload` and `vload`.
 fn load(frames: &FrameStack, kind: u8, volatile: bool) -> Step

@@ -7,16 +7,16 @@ ghost use Rattle.vm_thread.specs.Threads.{Running, running, IsReached, at_main, 
 ghost use Rattle.vm_frames.specs.Frames.{words_in};
 ghost use Rattle.vm_thread.specs.ThreadLaws.{running_laws};
 
-use vm_frames::changes::apply;
 use crate::deciding::next_step;
-use vm_frames::frames::FrameStack;
 use crate::lookups::stack_start;
-use vm_frames::step::Step;
-use vm_frames::values::argument;
 use std::alloc::{AllocError, Global};
 use tx_code::Image;
 use tx_code::laws::an_image_is_whole;
 use tx_events::{Actor, End, Event, Reply};
+use vm_frames::changes::apply;
+use vm_frames::frames::FrameStack;
+use vm_frames::step::Step;
+use vm_frames::values::argument;
 
 /// The place of a thread in its image.
 #[derive(Clone, Copy, PartialEq, Eq, Debug)]

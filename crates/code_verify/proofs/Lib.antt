@@ -1,0 +1,5 @@
+pub mod Notes
+pub mod Ends
+pub mod Kept
+pub mod Reached
+pub mod Exact
