@@ -13,7 +13,8 @@ use Rattle.cpp_ast.specs.Orders.{are_below}
 use Rattle.cpp_ast.specs.Units.{IsForest, times_a_kid, times_in}
 use Rattle.cpp_ast.specs.Trees.{Tree, node, Trees, none, more, NodeAt, ShowsWith, ShowsAllWith, Extends, kids_with}
 
-get_grow : (ns extra : List Node) (id : ℕ) (n : Node) → slice_get ns id ≡ Some n → slice_get (ns ++ extra) id ≡ Some n
+-- a node stays where it is when nodes are added
+pub get_grow : (ns extra : List Node) (id : ℕ) (n : Node) → slice_get ns id ≡ Some n → slice_get (ns ++ extra) id ≡ Some n
 get_grow ns extra id n h =
     let w : id < length ns = slice_get_within ns id n h in
     let v : id < length (ns ++ extra) = simp length-append (omega arith) in
