@@ -1,5 +1,5 @@
 -- Typed trees as text: a line for each node, deeper ones indented, with the offset of its place, and its category and type where it has one.
-use Rattle.std.specs.Prelude.{ℕ, zero, suc, Bool, true, false, List, [], ◌∷◌, ◌++◌, length, map, Option, Some, None, Result, Ok, Err, if◌then◌else◌, slice_get, codes, decimal}
+use Rattle.std.specs.Prelude.{ℕ, zero, suc, Bool, true, false, List, [], ◌∷◌, ◌++◌, ◌+◌, ◌/◌, ◌%◌, nat_lt, length, map, Option, Some, None, Result, Ok, Err, if◌then◌else◌, slice_get, codes}
 use Rattle.std.specs.Str.{bytes_eq}
 use Rattle.tx_events.specs.declared.BlockKind.{BlockKind}
 use Rattle.tx_events.specs.declared.BlockKind.TheVariants.{NoExcept, Cancel, Commit}
@@ -24,6 +24,14 @@ use Rattle.cpp_tree.specs.Notation.{plain}
 use Rattle.elab_rules.specs.Initialising.{func_at}
 use Rattle.elab_rules.specs.Globals.{symbol_of, global_symbol}
 use Rattle.elab_rules.specs.Statements.{State, Body}
+
+-- a number in decimal digits, which the checker computes
+abbrev pub digits : ℕ → ℕ → List ℕ
+digits zero n = []
+digits (suc most) n = (if nat_lt n 10 then [] else digits most (n / 10)) ++ (48 + n % 10) ∷ []
+
+abbrev pub decimal : ℕ → List ℕ
+decimal n = if nat_lt n 100000 then digits 5 n else digits 20 n
 
 abbrev pub kind_name : IntKind → List ℕ
 kind_name BoolKind = codes "Bool"
