@@ -26,7 +26,7 @@ use Rattle.elab_rules.specs.Initialising.{no_function}
 use Rattle.elab_rules.specs.Types.{Declared}
 use Rattle.elab_rules.specs.Strings.{string_bytes}
 use Rattle.elab_rules.specs.Expressions.{type_of_specifiers, type_id_of, declared_by}
-use Rattle.elab_rules.specs.Statements.{State, Lambdas, name_of, no_labels, bound_by_initialiser}
+use Rattle.elab_rules.specs.Statements.{State, Lambdas, is_own_name, name_of, no_labels, bound_by_initialiser}
 use Rattle.elab_rules.specs.Functions.{Storage, no_storage, with_specifier, Header, Placed, function_declared, function_body, with_definition, text_between}
 use Rattle.elab_rules.specs.Globals.{global_declared, alias_declared, enum_declared}
 
@@ -66,7 +66,7 @@ declared_of_type s st x at d init (func sig) = Err (Ill at BadDeclaration)
 declared_of_type s st x at d init f = global_declared s st x at (name_of s d.name) (bound_by_initialiser s d.typ init) init
 
 abbrev pub file_declarator : List Lexeme → Storage → Typ → State → syntax.Tree → Result State ElabFault
-file_declarator s x t st (syntax.node k.InitDeclarator p token (syntax.more d init)) = and_then (declared_by s st.ctx st.work (at_of p) t d) (λ (r : Declared). declared_of_type s st x (at_of p) r init (form_in r.typ))
+file_declarator s x t st (syntax.node k.InitDeclarator p token (syntax.more d init)) = and_then (declared_by s st.ctx st.work (at_of p) t d) (λ (r : Declared). and_then (check (at_of p) BadDeclaration (is_own_name r)) (λ z. declared_of_type s st x (at_of p) r init (form_in r.typ)))
 file_declarator s x t st (syntax.node kind p token kids) = Err (Ill (at_of p) OutOfProfile)
 
 abbrev pub file_declarators : List Lexeme → Storage → Typ → State → syntax.Trees → Result State ElabFault
