@@ -67,4 +67,3 @@ pub looks_index : (ns : List TNode) (id : TNodeId) (n : TNode) → id.0 < length
 looks_index ns id n h e =
     let len : length (fold with_node [] ns) ≡ 0 + length ns = length_shown [] ns in
     looks ns id n (slice_get-get_or ns id.0 n (omega arith) ∙ ap Some (sym e))
-

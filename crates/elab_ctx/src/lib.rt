@@ -5,6 +5,6 @@ pub mod env;
 pub mod nodes;
 
 pub use env::{
-    Capture, Closure, DefaultInit, EnumRec, Env, FuncDecl, Label, Labels, Lambda, Returns, Special, This, Traits,
-    TypeName, Variable, Work,
+    Capture, Closure, DefaultInit, EnumRec, Env, FuncDecl, Label, Labels, Lambda, Returns, Special,
+    This, Traits, TypeName, Variable, Work,
 };

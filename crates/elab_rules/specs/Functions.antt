@@ -170,8 +170,11 @@ this_at before None = None
 
 -- into a function: no names and no variables yet, the words of a call in the frame
 abbrev pub entered : State → Typ → Option Typ → Option ℕ → State
-entered st r this cls = record { ctx = record st.ctx { scopes = [] ∷ st.ctx.scopes; variables = []; this = this_at (result_items r) this; class = cls; returns = known r; breaks = false; continues = false; label = Outside; labels = no_labels (plain void); lambda = None };
-    work = record st.work { frame = result_items r ++ this_items this }; bodies = st.bodies }
+entered st r this cls = record {
+  ctx = record st.ctx { scopes = [] ∷ st.ctx.scopes; variables = []; this = this_at (result_items r) this; class = cls; returns = known r; breaks = false; continues = false; label = Outside; labels = no_labels (plain void); lambda = None };
+  work = record st.work { frame = result_items r ++ this_items this };
+  bodies = st.bodies;
+}
 
 abbrev pub with_parameter : State → List ℕ → Typ → State
 with_parameter st name t = record st { ctx = with_variable st.ctx name (next_variable st.ctx) (record { typ = Some t; place = next_place st.work }); work = with_item st.work (word_item t) }

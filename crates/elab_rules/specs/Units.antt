@@ -46,9 +46,31 @@ builtins = builtin PutChar (codes "putchar") (and_typ int_typ no_typs) int_typ �
     ∷ builtin Spawn (codes "__txcc_spawn") (and_typ thread_function (and_typ (plain (int Long)) no_typs)) int_typ ∷ builtin Join (codes "__txcc_join") (and_typ int_typ no_typs) (plain void) ∷ []
 
 abbrev pub start : ℕ → State
-start source = record { ctx = record { source = source; scopes = ((codes "putchar", record { kind = entities.Funcs; id = 0 }) ∷ (codes "getchar", record { kind = entities.Funcs; id = 1 }) ∷ (codes "__txcc_spawn", record { kind = entities.Funcs; id = 2 }) ∷ (codes "__txcc_join", record { kind = entities.Funcs; id = 3 }) ∷ []) ∷ [];
-    types = []; classes = []; traits = []; slots = []; defaults = []; funcs = builtins; enumerators = []; variables = []; this = None; class = None; returns = known (plain void); breaks = false; continues = false; label = Outside; labels = no_labels (plain void); lambda = None; closures = [] };
-    work = record { frame = []; globals = [] }; bodies = [] }
+start source = record {
+  ctx = record {
+    source = source;
+    scopes = ((codes "putchar", record { kind = entities.Funcs; id = 0 }) ∷ (codes "getchar", record { kind = entities.Funcs; id = 1 }) ∷ (codes "__txcc_spawn", record { kind = entities.Funcs; id = 2 }) ∷ (codes "__txcc_join", record { kind = entities.Funcs; id = 3 }) ∷ []) ∷ [];
+    types = [];
+    classes = [];
+    traits = [];
+    slots = [];
+    defaults = [];
+    funcs = builtins;
+    enumerators = [];
+    variables = [];
+    this = None;
+    class = None;
+    returns = known (plain void);
+    breaks = false;
+    continues = false;
+    label = Outside;
+    labels = no_labels (plain void);
+    lambda = None;
+    closures = [];
+  };
+  work = record { frame = []; globals = [] };
+  bodies = [];
+}
 
 -- What makes classes and members that are defined behind them
 pub record ClassRules : Type 0 where
