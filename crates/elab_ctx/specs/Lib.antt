@@ -1,2 +1,3 @@
 pub mod Ctx
+pub mod Says
 pub mod Steps

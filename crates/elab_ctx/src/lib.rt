@@ -2,6 +2,7 @@
 #![tactic(auto)]
 
 pub mod env;
+pub mod nodes;
 
 pub use env::{
     Capture, Closure, DefaultInit, EnumRec, Env, FuncDecl, Label, Labels, Lambda, Returns, Special,

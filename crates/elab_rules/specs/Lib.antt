@@ -2,7 +2,10 @@ pub mod Braces
 pub mod Calls
 pub mod Casts
 pub mod Constants
+pub mod Dump
 pub mod Expressions
+pub mod Functions
+pub mod Globals
 pub mod Initialising
 pub mod Names
 pub mod Objects
@@ -10,4 +13,5 @@ pub mod Operators
 pub mod Statements
 pub mod Strings
 pub mod Types
+pub mod Units
 pub mod Values

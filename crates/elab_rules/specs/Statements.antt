@@ -349,9 +349,13 @@ name_of s None = []
 abbrev pub declared_more : Declaring → Typ → syntax.Trees → Deduction → Declaring
 declared_more d t init x = record { trees = followed_by d.trees x.done.trees; state = past_declaration t init x.done.state; auto = x.auto }
 
+-- no name of a class before it, and no destructor's
+abbrev pub is_own_name : Declared → Bool
+is_own_name d = is_none d.owner && not d.is_destructor
+
 -- one declarator of a declaration in a block
 abbrev pub block_declarator : Lambdas → List Lexeme → Typ → Declaring → syntax.Tree → Result Declaring ElabFault
-block_declarator lams s t d (syntax.node k.InitDeclarator p token (syntax.more x init)) = and_then (declared_by s d.state.ctx d.state.work (at_of p) t x) (λ (r : Declared). and_then (variable lams s d.state (name_of s r.name) r.typ (at_of p) d.auto init) (λ (y : Deduction). Ok (declared_more d r.typ init y)))
+block_declarator lams s t d (syntax.node k.InitDeclarator p token (syntax.more x init)) = and_then (declared_by s d.state.ctx d.state.work (at_of p) t x) (λ (r : Declared). and_then (check (at_of p) BadDeclaration (is_own_name r)) (λ z. and_then (variable lams s d.state (name_of s r.name) r.typ (at_of p) d.auto init) (λ (y : Deduction). Ok (declared_more d r.typ init y))))
 block_declarator lams s t d (syntax.node kind p token kids) = Err (Ill (at_of p) OutOfProfile)
 
 abbrev pub block_declarators : Lambdas → List Lexeme → Typ → Declaring → syntax.Trees → Result Declaring ElabFault
@@ -421,7 +425,7 @@ case_fits (Some j) (Some k) w = int_eq (convert_of k (value_of_word j w)) (value
 case_fits _ _ w = true
 
 abbrev pub case_checked : State → At → Operand → Tree → ℕ → ℕ → Result Done ElabFault
-case_checked st at o v w word = and_then (check at Narrowing (case_fits (kind_in (form_in (typ_in (value o)))) (kind_in (form_in st.ctx.labels.typ)) w)) (λ x. and_then (check at BadCase (not (list_any (λ (n : ℕ). n == word) st.ctx.labels.words))) (λ y.
+case_checked st at o v w word = and_then (check o.at Narrowing (case_fits (kind_in (form_in (typ_in (value o)))) (kind_in (form_in st.ctx.labels.typ)) w)) (λ x. and_then (check at BadCase (not (list_any (λ (n : ℕ). n == word) st.ctx.labels.words))) (λ y.
     done (one (statement (forms.Case word) at none)) (with_labels st (record st.ctx.labels { words = st.ctx.labels.words ++ word ∷ [] }))))
 
 abbrev pub case_label : List Lexeme → State → At → syntax.Tree → Result Done ElabFault

@@ -1,0 +1,15 @@
+-- What is read of an expression where its value is wanted.
+use Rattle.std.specs.Prelude.{Some}
+use Rattle.cpp_types.specs.Conversion.{decayed}
+use Rattle.cpp_types.specs.declared.classes.At.{At}
+use Rattle.cpp_types.specs.declared.ranks.Cat.TheVariants.{Prvalue}
+use Rattle.cpp_tree.specs.Trees.{Tree, typ_in}
+use Rattle.cpp_tree.specs.Notation.{plain}
+use Rattle.elab_rules.specs.Values.{retyped, loaded}
+use Rattle.elab_conv.specs.declared.values.Reading.{Reading}
+use Rattle.elab_conv.specs.declared.values.Reading.TheVariants.{Stays, Decays, Loads}
+
+abbrev pub read_as : Reading → At → Tree → Tree
+read_as Stays at e = e
+read_as Decays at e = retyped at (plain (decayed (typ_in e))) Prvalue e
+read_as (Loads kind) at e = loaded at (Some kind) e

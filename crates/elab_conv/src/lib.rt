@@ -1,0 +1,11 @@
+//! Values and conversions as typed nodes.
+#![tactic(auto)]
+
+pub mod conversions;
+#[cfg(test)]
+mod tests;
+pub mod types;
+pub mod values;
+
+pub use conversions::{converted, stepped, stored};
+pub use values::valued;

@@ -1,0 +1,14 @@
+pub mod BlocksAbort
+pub mod Builtins
+pub mod CancelOtherType
+pub mod CommitOnThrow
+pub mod ConditionalLvalue
+pub mod HandlerSlots
+pub mod IndirectionAddress
+pub mod LostUpdate
+pub mod NameLocal
+pub mod Notation
+pub mod Overloads
+pub mod Parentheses
+pub mod Refusals
+pub mod UnsignedWrap

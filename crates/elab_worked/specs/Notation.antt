@@ -1,0 +1,50 @@
+-- Short forms for tokens, trees and texts that are written out.
+use Rattle.std.specs.Prelude.{ℕ, List, [], ◌∷◌, ◌++◌, Result, Ok, Err}
+use Rattle.cpp_ast.specs.declared.arena.At.{At}
+use Rattle.cpp_ast.specs.Trees.{Trees, Tree, none, more}
+use Rattle.cpp_lex.specs.Tokens.{Lexeme}
+use Rattle.cpp_lex.specs.declared.TokKind.{TokKind}
+use Rattle.cpp_types.specs.declared.classes.At.{At as Place}
+use Rattle.cpp_tree.specs.declared.faults.ElabFault.{ElabFault}
+use Rattle.cpp_tree.specs.declared.faults.ElabFault.TheVariants.{Ill}
+use Rattle.cpp_tree.specs.declared.faults.IllRule.{IllRule}
+use Rattle.cpp_tree.specs.declared.faults.IllRule.TheVariants.{OutOfProfile}
+use Rattle.elab_rules.specs.Units.{ClassRules, unit_with}
+use Rattle.elab_rules.specs.Statements.{State, Lambdas}
+use Rattle.elab_rules.specs.Dump.{dumped}
+
+abbrev pub at : ℕ → At
+at n = record { source = 0; offset = n }
+
+abbrev pub token : TokKind → ℕ → ℕ → ℕ → List ℕ → Lexeme
+token kind from to value bytes = record { kind = kind; from = from; to = to; value = value; bytes = bytes }
+
+abbrev pub trees : List Tree → Trees
+trees [] = none
+trees (t ∷ ts) = more t (trees ts)
+
+-- lines of text, each with its end
+abbrev pub lines : List (List ℕ) → List ℕ
+lines [] = []
+lines (l ∷ ls) = l ++ 10 ∷ lines ls
+
+-- these units have no classes and no lambdas
+abbrev pub no_lambdas : Lambdas
+no_lambdas s st t = Ok st
+
+abbrev pub start_of_text : Place
+start_of_text = record { source = 0; offset = 0 }
+
+abbrev pub no_classes : ClassRules
+no_classes = record { class_declared = λ l s st t. Err (Ill start_of_text OutOfProfile); member_defined = λ l s st t. Err (Ill start_of_text OutOfProfile) }
+
+abbrev pub elaborated : List Lexeme → List Tree → Result State ElabFault
+elaborated tokens decls = unit_with no_classes no_lambdas tokens 0 (trees decls)
+
+-- the bodies and frames of a unit as text
+abbrev pub text_of : List Lexeme → List Tree → List ℕ
+text_of tokens decls = dumped (elaborated tokens decls)
+
+-- a unit is refused at an offset by a rule
+abbrev pub refused : ℕ → IllRule → Result State ElabFault
+refused n rule = Err (Ill (record { source = 0; offset = n }) rule)
