@@ -1,5 +1,6 @@
 -- What readers of declarators answer: by the terminal that stands there, and by whether a name begins there.
-use Rattle.std.proofs.Common.{◌≡◌, ℕ, ◌+◌, ◌≤◌, ◌⊎◌, inl, inr, Bool, true, false, ◌&&◌, ◌||◌, refl, sym as back, ◌∙◌, subst, arith, length, Option, Some, None, Result, Ok, Err, true≢false}
+use Rattle.std.proofs.Common.{◌≡◌, ℕ, ◌+◌, ◌≤◌, ◌⊎◌, inl, inr, Bool, true, false, ◌&&◌, ◌||◌, refl, sym as back, ◌∙◌, subst, arith, length, Option, Some}
+use Rattle.std.proofs.Common.{None, Result, Ok, Err, true≢false}
 use Rattle.std.proofs.lemmas.Bool.{and_from, or_left, or_right, or_cases, and_parts}
 use Rattle.std.specs.declared.alloc.AllocError.{AllocError}
 use Rattle.cpp_ast.specs.declared.kinds.NodeKind.TheVariants.{OmittedId}
@@ -9,9 +10,12 @@ use Rattle.cpp_syntax.specs.Source.{Source, terminal_at, position_at}
 use Rattle.cpp_syntax.specs.Terminals.{is_name, is_type_name, colon_colon, star, amp}
 use Rattle.cpp_syntax.specs.Shapes.{is_qualified_name_at, begins_name_at}
 use Rattle.cpp_syntax.specs.Names.{may_name, is_in_block}
-use Rattle.cpp_syntax.specs.Rules.{whole, Naming, named, unnamed, either, in_block, declarator, direct_declarator, Lookahead, Rule, ◌·◌, ◌∣◌, many, form, optional}
-use Rattle.cpp_syntax.specs.Grammar.{declarator_id, declarator_head, parenthesized_declarator, pointer_declarator, reference_declarator, omitted_id, array_suffix, suffix}
-use Rattle.cpp_syntax.specs.Derivations.{Read, no_read, reads_node, Bodies, Derives, is_nothing, is_word, is_mark, is_both, is_left, is_right, is_last, is_form, is_node, kept_apart}
+use Rattle.cpp_syntax.specs.Rules.{whole, Naming, named, unnamed, either, in_block, declarator, direct_declarator, Lookahead, Rule, ◌·◌, ◌∣◌, many, form}
+use Rattle.cpp_syntax.specs.Rules.{optional}
+use Rattle.cpp_syntax.specs.Grammar.{declarator_id, declarator_head, parenthesized_declarator, pointer_declarator, reference_declarator, omitted_id}
+use Rattle.cpp_syntax.specs.Grammar.{array_suffix, suffix}
+use Rattle.cpp_syntax.specs.Derivations.{Read, no_read, reads_node, Bodies, Derives, is_nothing, is_word, is_mark, is_both, is_left, is_right, is_last}
+use Rattle.cpp_syntax.specs.Derivations.{is_form, is_node, kept_apart}
 use Rattle.cpp_syntax.specs.Lookahead.{lookahead}
 use Rattle.cpp_syntax.specs.FirstSets.{need_not_name}
 use Rattle.cpp_syntax.specs.Longest.{IsNoLonger, LongestMatch, NoDerivation}

@@ -10,7 +10,8 @@ use Rattle.cpp_syntax.specs.Source.{Source, terminal_at}
 use Rattle.cpp_syntax.specs.Terminals.{open_bracket, open_paren}
 use Rattle.cpp_syntax.specs.Rules.{whole, Naming, named, unnamed, either, in_block, Lookahead, parameters, Rule, ◌·◌, many, wrap, optional}
 use Rattle.cpp_syntax.specs.Grammar.{declarator_id, array_bound, array_suffix, function_parameters, parameters_behind, suffix}
-use Rattle.cpp_syntax.specs.Derivations.{Read, and_then, reads_node, position_of_first, Bodies, Derives, is_nothing, is_left, is_right, is_last, is_more, is_both, kept_apart}
+use Rattle.cpp_syntax.specs.Derivations.{Read, and_then, reads_node, position_of_first, Bodies, Derives, is_nothing, is_left, is_right, is_last, is_more}
+use Rattle.cpp_syntax.specs.Derivations.{is_both, kept_apart}
 use Rattle.cpp_syntax.specs.Lookahead.{lookahead}
 use Rattle.cpp_syntax.specs.FirstSets.{need_not_name, rule_nullable}
 use Rattle.cpp_syntax.specs.Longest.{IsNoLonger, LongestMatch, NoDerivation, is_free}

@@ -6,7 +6,10 @@ use Rattle.cpp_ast.specs.declared.kinds.NodeKind.TheVariants as kind
 use Rattle.cpp_ast.specs.Trees.{Tree, node, Trees, none, more, kind_of, kid_depth}
 use Rattle.cpp_syntax.specs.Source.{Source, position_at}
 use Rattle.cpp_syntax.specs.Rules.{Lookahead, Positioning, at_first, at_token, at_name, Rule}
-use Rattle.cpp_syntax.specs.Derivations.{Read, Name, join, and_then, reads_node, with_body_apart, first_or, token_of_name, declared, declared_in, name_by, leads_to_name, is_of_declarator, positioned, position_of_first, Bodies, Derives, is_nothing, is_word, is_mark, is_mark_next, is_mark_name, is_both, is_left, is_right, is_last, is_more, is_form, is_node, is_wrap, is_kept_apart, is_in_tree, is_where, is_before, is_if, is_unless}
+use Rattle.cpp_syntax.specs.Derivations.{Read, Name, join, and_then, reads_node, with_body_apart, first_or, token_of_name, declared, declared_in, name_by}
+use Rattle.cpp_syntax.specs.Derivations.{leads_to_name, is_of_declarator, positioned, position_of_first, Bodies, Derives, is_nothing, is_word, is_mark}
+use Rattle.cpp_syntax.specs.Derivations.{is_mark_next, is_mark_name, is_both, is_left, is_right, is_last, is_more, is_form, is_node, is_wrap, is_kept_apart}
+use Rattle.cpp_syntax.specs.Derivations.{is_in_tree, is_where, is_before, is_if, is_unless}
 use Rattle.cpp_syntax.proofs.FirstTerminals.{ends_behind}
 use Rattle.cpp_parse_expr.specs.Depths.{deep_node, deep_kid, or_else}
 

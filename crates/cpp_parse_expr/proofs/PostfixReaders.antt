@@ -1,5 +1,6 @@
 -- What readers answer behind a token or a text, and what stands behind an operand.
-use Rattle.std.proofs.Common.{◌≡◌, ℕ, zero, suc, ◌+◌, ◌-◌, ◌<◌, ◌≤◌, nat_eq, Bool, true, false, ◌||◌, inl, inr, refl, sym as back, ◌∙◌, subst, ap, arith, length, Option, Some, None, Result, Ok, Err, true≢false}
+use Rattle.std.proofs.Common.{◌≡◌, ℕ, zero, suc, ◌+◌, ◌-◌, ◌<◌, ◌≤◌, nat_eq, Bool, true, false, ◌||◌, inl, inr, refl, sym as back, ◌∙◌, subst, ap, arith}
+use Rattle.std.proofs.Common.{length, Option, Some, None, Result, Ok, Err, true≢false}
 use Rattle.std.proofs.lemmas.Bool.{or_cases}
 use Rattle.std.specs.Result.{IsErr}
 use Rattle.std.specs.declared.alloc.AllocError.{AllocError}
@@ -10,10 +11,14 @@ use Rattle.cpp_syntax.specs.declared.terminal.Terminal.TheVariants as terminal
 use Rattle.cpp_syntax.specs.declared.positions.Checkpoint.{Checkpoint}
 use Rattle.cpp_parse_expr.specs.declared.expressions.Suffix.{Suffix}
 use Rattle.cpp_syntax.specs.Source.{Source, terminal_at, position_at}
-use Rattle.cpp_syntax.specs.Terminals.{level_of, is_type_name, is_integer, is_character, is_string, is_boolean, is_literal, nullptr_word, this_word, is_step, open_bracket, open_paren, dot, arrow, std, colon_colon, abort_word, tx_exception_word, ReadsAs}
-use Rattle.cpp_syntax.specs.Rules.{Lookahead, primary_expression, cast_expression, binary_expression, Rule, word, mark, ◌·◌, ◌∣◌, many, form, wrap, unless, whole}
-use Rattle.cpp_syntax.specs.Grammar.{production, literal, qualified_id, subscript, arguments, member_access, pointer_member_access, postfix, std_abort, functional_cast, tx_exception}
-use Rattle.cpp_syntax.specs.Derivations.{Read, no_read, and_then, first_or, reads_node, kept_apart, Bodies, Derives, is_word, is_mark, is_both, is_left, is_right, is_wrap}
+use Rattle.cpp_syntax.specs.Terminals.{level_of, is_type_name, is_integer, is_character, is_string, is_boolean, is_literal, nullptr_word, this_word, is_step}
+use Rattle.cpp_syntax.specs.Terminals.{open_bracket, open_paren, dot, arrow, std, colon_colon, abort_word, tx_exception_word, ReadsAs}
+use Rattle.cpp_syntax.specs.Rules.{Lookahead, primary_expression, cast_expression, binary_expression, Rule, word, mark, ◌·◌, ◌∣◌, many, form, wrap, unless}
+use Rattle.cpp_syntax.specs.Rules.{whole}
+use Rattle.cpp_syntax.specs.Grammar.{production, literal, qualified_id, subscript, arguments, member_access, pointer_member_access, postfix, std_abort}
+use Rattle.cpp_syntax.specs.Grammar.{functional_cast, tx_exception}
+use Rattle.cpp_syntax.specs.Derivations.{Read, no_read, and_then, first_or, reads_node, kept_apart, Bodies, Derives, is_word, is_mark, is_both, is_left}
+use Rattle.cpp_syntax.specs.Derivations.{is_right, is_wrap}
 use Rattle.cpp_syntax.specs.FirstSets.{rule_nullable}
 use Rattle.cpp_syntax.specs.Lookahead.{lookahead}
 use Rattle.cpp_syntax.specs.Longest.{IsNoLonger, LongestMatch, NoDerivation, is_free}
@@ -24,7 +29,8 @@ use Rattle.cpp_syntax.proofs.TerminalTables.{at_each, implies, implied}
 use Rattle.cpp_syntax.proofs.DisjointFirstSets.{apart, goes_within, goes_wider}
 use Rattle.cpp_syntax.proofs.FirstTerminals.{not_empty}
 use Rattle.cpp_syntax.proofs.IndependentDerivations.{free_none}
-use Rattle.cpp_syntax.proofs.LongestMatches.{seq, seq_ends, form_long, word_long, mark_long, left, right, neither, word_none, mark_none, seq_none, node_long, node_none, form_none, wrap_none, unless_none}
+use Rattle.cpp_syntax.proofs.LongestMatches.{seq, seq_ends, form_long, word_long, mark_long, left, right, neither, word_none, mark_none, seq_none, node_long}
+use Rattle.cpp_syntax.proofs.LongestMatches.{node_none, form_none, wrap_none, unless_none}
 use Rattle.cpp_syntax.proofs.Readers.{reads_seq, reads_left, reads_right, none_behind}
 use Rattle.cpp_syntax.proofs.LeafReaders.{always_leaf}
 use Rattle.cpp_syntax.proofs.ReaderLoops.{gained_then, reads_unless, ReadsChain, loop_wrap, loop_ends}

@@ -3,9 +3,14 @@ use Rattle.std.proofs.Common.{◌≡◌, ℕ, zero, suc, ◌+◌, nat_eq, Bool, 
 use Rattle.std.proofs.lemmas.Bool.{eqb-true}
 use Rattle.cpp_ast.specs.Trees.{Tree, node, Trees, none, more}
 use Rattle.cpp_syntax.specs.Source.{Source, position_at}
-use Rattle.cpp_syntax.specs.Rules.{named, unnamed, either, in_block, Nonterminal, primary_expression, lambda_expression, postfix_expression, unary_expression, cast_expression, binary_expression, conditional_expression, assignment_expression, expression, type_specifier_seq, type_id, declarator, direct_declarator, parameter_declaration, parameter_declaration_clause, function_qualifiers, Lookahead, Rule, nothing, word, mark, mark_next, mark_name, ◌·◌, ◌∣◌, many, form, node_at, wrap, with_body, where_, before_no, if_, unless}
+use Rattle.cpp_syntax.specs.Rules.{named, unnamed, either, in_block, Nonterminal, primary_expression, lambda_expression, postfix_expression, unary_expression}
+use Rattle.cpp_syntax.specs.Rules.{cast_expression, binary_expression, conditional_expression, assignment_expression, expression, type_specifier_seq, type_id}
+use Rattle.cpp_syntax.specs.Rules.{declarator, direct_declarator, parameter_declaration, parameter_declaration_clause, function_qualifiers, Lookahead, Rule}
+use Rattle.cpp_syntax.specs.Rules.{nothing, word, mark, mark_next, mark_name, ◌·◌, ◌∣◌, many, form, node_at, wrap, with_body, where_, before_no, if_, unless}
 use Rattle.cpp_syntax.specs.Grammar.{production}
-use Rattle.cpp_syntax.specs.Derivations.{Read, no_read, join, one_tree, positioned, Bodies, Derives, is_nothing, is_word, is_mark, is_mark_next, is_mark_name, is_both, is_left, is_right, is_last, is_more, is_form, is_node, is_wrap, is_kept_apart, is_in_tree, is_where, is_before, is_if, is_unless}
+use Rattle.cpp_syntax.specs.Derivations.{Read, no_read, join, one_tree, positioned, Bodies, Derives, is_nothing, is_word, is_mark, is_mark_next, is_mark_name}
+use Rattle.cpp_syntax.specs.Derivations.{is_both, is_left, is_right, is_last, is_more, is_form, is_node, is_wrap, is_kept_apart, is_in_tree, is_where}
+use Rattle.cpp_syntax.specs.Derivations.{is_before, is_if, is_unless}
 use Rattle.cpp_syntax.specs.View.{count_trees}
 
 -- forms that are one node, or wrap one

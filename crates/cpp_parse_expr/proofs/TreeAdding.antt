@@ -3,9 +3,13 @@ use Rattle.std.proofs.Common.{◌≡◌, ℕ, zero, suc, inl, inr, Bool, true, f
 use Rattle.std.proofs.lemmas.Bool.{and_parts, or_cases}
 use Rattle.cpp_ast.specs.Trees.{Trees, none, more}
 use Rattle.cpp_syntax.specs.Source.{Source}
-use Rattle.cpp_syntax.specs.Rules.{Nonterminal, primary_expression, lambda_expression, postfix_expression, unary_expression, cast_expression, binary_expression, conditional_expression, assignment_expression, expression, Lookahead, Rule, nothing, word, mark, mark_next, mark_name, ◌·◌, ◌∣◌, many, form, node_at, wrap, with_body, where_, before_no, if_, unless}
+use Rattle.cpp_syntax.specs.Rules.{Nonterminal, primary_expression, lambda_expression, postfix_expression, unary_expression, cast_expression}
+use Rattle.cpp_syntax.specs.Rules.{binary_expression, conditional_expression, assignment_expression, expression, Lookahead, Rule, nothing, word, mark}
+use Rattle.cpp_syntax.specs.Rules.{mark_next, mark_name, ◌·◌, ◌∣◌, many, form, node_at, wrap, with_body, where_, before_no, if_, unless}
 use Rattle.cpp_syntax.specs.Grammar.{production}
-use Rattle.cpp_syntax.specs.Derivations.{Read, join, position_of_first, Bodies, Derives, is_nothing, is_word, is_mark, is_mark_next, is_mark_name, is_both, is_left, is_right, is_last, is_more, is_form, is_node, is_wrap, is_kept_apart, is_in_tree, is_where, is_before, is_if, is_unless}
+use Rattle.cpp_syntax.specs.Derivations.{Read, join, position_of_first, Bodies, Derives, is_nothing, is_word, is_mark, is_mark_next, is_mark_name, is_both}
+use Rattle.cpp_syntax.specs.Derivations.{is_left, is_right, is_last, is_more, is_form, is_node, is_wrap, is_kept_apart, is_in_tree, is_where, is_before}
+use Rattle.cpp_syntax.specs.Derivations.{is_if, is_unless}
 use Rattle.cpp_syntax.specs.Parsed.{has_trees}
 
 -- forms of which each text adds a tree

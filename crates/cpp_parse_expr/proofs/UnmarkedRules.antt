@@ -2,8 +2,11 @@
 use Rattle.std.proofs.Common.{◌≡◌, ℕ, Bool, true, false, ◌&&◌, sym as back, ◌∙◌, ap₂, subst, Option, None, true≢false}
 use Rattle.std.proofs.lemmas.Bool.{and_parts}
 use Rattle.cpp_syntax.specs.Source.{Source}
-use Rattle.cpp_syntax.specs.Rules.{Lookahead, Rule, nothing, word, mark, mark_next, mark_name, ◌·◌, ◌∣◌, many, form, node_at, wrap, with_body, where_, before_no, if_, unless}
-use Rattle.cpp_syntax.specs.Derivations.{Read, first_or, Bodies, Derives, is_nothing, is_word, is_mark, is_mark_next, is_mark_name, is_both, is_left, is_right, is_last, is_more, is_form, is_node, is_wrap, is_kept_apart, is_in_tree, is_where, is_before, is_if, is_unless}
+use Rattle.cpp_syntax.specs.Rules.{Lookahead, Rule, nothing, word, mark, mark_next, mark_name, ◌·◌, ◌∣◌, many, form, node_at, wrap, with_body, where_}
+use Rattle.cpp_syntax.specs.Rules.{before_no, if_, unless}
+use Rattle.cpp_syntax.specs.Derivations.{Read, first_or, Bodies, Derives, is_nothing, is_word, is_mark, is_mark_next, is_mark_name, is_both, is_left}
+use Rattle.cpp_syntax.specs.Derivations.{is_right, is_last, is_more, is_form, is_node, is_wrap, is_kept_apart, is_in_tree, is_where, is_before, is_if}
+use Rattle.cpp_syntax.specs.Derivations.{is_unless}
 use Rattle.cpp_syntax.specs.View.{BuilderState}
 use Rattle.cpp_syntax.specs.Parsed.{ReadsLongest}
 

@@ -1,5 +1,6 @@
 -- How deep the nodes of a tree lie.
-use Rattle.std.specs.Prelude.{◌≡◌, ℕ, ◌+◌, ◌-◌, Bool, ◌<◌, ◌≤◌, max, nat_lt, nat_le, true, if◌then◌else◌, List, length, drop, slice_get, slice_index, Option, Some, None}
+use Rattle.std.specs.Prelude.{◌≡◌, ℕ, ◌+◌, ◌-◌, Bool, ◌<◌, ◌≤◌, max, nat_lt, nat_le, true, if◌then◌else◌, List, length, drop, slice_get, slice_index, Option}
+use Rattle.std.specs.Prelude.{Some, None}
 use Rattle.std.specs.List.{list_all}
 use Rattle.cpp_ast.specs.declared.kinds.NodeKind.{NodeKind}
 use Rattle.cpp_ast.specs.declared.arena.At.{At}

@@ -6,7 +6,8 @@ use Rattle.cpp_ast.specs.declared.arena.NodeId.{NodeId}
 use Rattle.cpp_ast.specs.Trees.{Tree, node, Trees, none, more, kind_of, Shows, Extends, kid_depth, deepest}
 use Rattle.cpp_syntax.specs.declared.positions.OpenBody.{OpenBody}
 use Rattle.cpp_syntax.specs.Source.{Source, position_at}
-use Rattle.cpp_syntax.specs.Rules.{Nonterminal, expression, assignment_expression, conditional_expression, type_specifier_seq, type_id, declarator, parameter_declaration, parameter_declaration_clause, function_qualifiers, whole, named, form}
+use Rattle.cpp_syntax.specs.Rules.{Nonterminal, expression, assignment_expression, conditional_expression, type_specifier_seq, type_id, declarator}
+use Rattle.cpp_syntax.specs.Rules.{parameter_declaration, parameter_declaration_clause, function_qualifiers, whole, named, form}
 use Rattle.cpp_syntax.specs.Derivations.{Body, Read, no_read, one_tree, kept_apart}
 use Rattle.cpp_syntax.specs.Lookahead.{lookahead}
 use Rattle.cpp_syntax.specs.Longest.{LongestMatch, NoDerivation}

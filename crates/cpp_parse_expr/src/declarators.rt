@@ -5,8 +5,11 @@ ghost use Rattle.cpp_ast.specs.declared.kinds.NodeKind.TheVariants.{CvQualifier}
 ghost use Rattle.cpp_syntax.specs.Source.{terminal_at};
 ghost use Rattle.cpp_syntax.specs.Terminals.{star, amp, open_bracket, const_word};
 ghost use Rattle.cpp_syntax.specs.Names.{naming_of};
-ghost use Rattle.cpp_syntax.specs.Rules.{◌·◌, form, many, optional, whole, type_id, declarator, direct_declarator, conditional_expression, function_qualifiers, parameter_declaration_clause, parameter_declaration};
-ghost use Rattle.cpp_syntax.specs.Grammar.{leaf, omitted_id, array_suffix, pointer_declarator, reference_declarator, declarator_head, declarator_id, parenthesized_declarator, array_bound, tx_qualifier, noexcept_specification, parameter_list, parameters_behind, suffix};
+ghost use Rattle.cpp_syntax.specs.Rules.{◌·◌, form, many, optional, whole, type_id, declarator, direct_declarator, conditional_expression};
+ghost use Rattle.cpp_syntax.specs.Rules.{function_qualifiers, parameter_declaration_clause, parameter_declaration};
+ghost use Rattle.cpp_syntax.specs.Grammar.{leaf, omitted_id, array_suffix, pointer_declarator, reference_declarator, declarator_head, declarator_id};
+ghost use Rattle.cpp_syntax.specs.Grammar.{parenthesized_declarator, array_bound, tx_qualifier, noexcept_specification, parameter_list, parameters_behind};
+ghost use Rattle.cpp_syntax.specs.Grammar.{suffix};
 ghost use Rattle.cpp_syntax.specs.Parsed.{ParsesLongest, ParsesAlways, ParsesAlwaysBehind};
 ghost use Rattle.cpp_syntax.specs.declared.limits.TheConstants.{MAX_TOKENS};
 

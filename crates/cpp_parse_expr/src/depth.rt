@@ -3,7 +3,8 @@
 ghost use Rattle.std.specs.Prelude.{◌≡◌, ◌≤◌, ◌<◌, ◌+◌, ◌-◌, ◌^◌, ℕ, length, IfOk, IfSome, MatchOption, None, Some, true, slice_get, slice_index};
 ghost use Rattle.cpp_ast.specs.Orders.{are_below};
 ghost use Rattle.cpp_ast.specs.Trees.{Tree, Trees, Shows, ShowsAll, kind_of, deepest};
-ghost use Rattle.cpp_parse_expr.specs.Depths.{step, height, height_in, deep_node, deep_kid, are_from, HoldOwn, HoldLower, HoldOnce, AreHeights, IsDeep, HasDeep, HandsDown, AreLow, AreDepths};
+ghost use Rattle.cpp_parse_expr.specs.Depths.{step, height, height_in, deep_node, deep_kid, are_from, HoldOwn, HoldLower, HoldOnce, AreHeights, IsDeep};
+ghost use Rattle.cpp_parse_expr.specs.Depths.{HasDeep, HandsDown, AreLow, AreDepths};
 
 use cpp_ast::{NodeId, NodeKind, Nodes};
 use std::alloc::{AllocError, Global};
@@ -72,7 +73,8 @@ pub fn first_deeper(
     requires own { HoldOwn first nodes.now }
     requires root { root.0 < length nodes.now }
     requires new { first ≤ root.0 }
-    ensures { (tree : Tree) → Shows nodes.now root.0 tree → MatchOption result (deepest depth tree ≤ limit) (λ id. (limit < deepest depth tree) × IsDeep nodes.now id.0 (deep_node limit depth tree)) }
+    ensures { (tree : Tree) → Shows nodes.now root.0 tree
+        → MatchOption result (deepest depth tree ≤ limit) (λ id. (limit < deepest depth tree) × IsDeep nodes.now id.0 (deep_node limit depth tree)) }
 {
     let limit = u64::from(limit);
     let mut id = root;
@@ -100,7 +102,8 @@ fn deeper_kid(
     requires own { are_from first kids.now ≡ true }
     requires below { are_below (first + length heights.now.items) kids.now ≡ true }
     requires here { here ≤ limit }
-    ensures deep { (trees : Trees) → ShowsAll nodes.now kids.now trees → MatchOption result (deep_kid limit here trees ≡ None) (λ id. HasDeep nodes.now id.0 limit here trees) }
+    ensures deep { (trees : Trees) → ShowsAll nodes.now kids.now trees
+        → MatchOption result (deep_kid limit here trees ≡ None) (λ id. HasDeep nodes.now id.0 limit here trees) }
     ensures lower { (position : ℕ) → are_below position kids.now ≡ true → IfSome result (λ id. id.0 < position) }
     ensures own { IfSome result (λ id. first ≤ id.0) }
 {
@@ -150,7 +153,8 @@ fn hand_down(nodes: &Nodes, first: u32, kids: &[NodeId], depth: u64, depths: &mu
     requires below { are_below (length nodes.now) kids.now ≡ true }
     requires fits { depth + 1 < 2 ^ 64 }
     ensures handed { HandsDown nodes.now first kids.now depth depths.old.items depths.new.items }
-    ensures low { (most position : ℕ) → are_below position kids.now ≡ true → depth + position ≤ most + first → AreLow most depths.old.items → AreLow most depths.new.items }
+    ensures low { (most position : ℕ) → are_below position kids.now ≡ true → depth + position ≤ most + first → AreLow most depths.old.items
+        → AreLow most depths.new.items }
 {
     'kids: for kid in kids {
         depths[(kid.0 - first) as usize] = depth + step(nodes.node(*kid).kind);

@@ -2,9 +2,12 @@
 
 ghost use Rattle.std.specs.Prelude.{◌≡◌, ◌≤◌, true, length, Ok, Some, None};
 ghost use Rattle.cpp_syntax.specs.Source.{terminal_at};
-ghost use Rattle.cpp_syntax.specs.Terminals.{question, throw_word, sizeof_word, open_paren, static_cast_word, is_type_name, is_literal, std, dot, arrow, open_bracket};
-ghost use Rattle.cpp_syntax.specs.Rules.{◌∣◌, form, optional, expression, assignment_expression, conditional_expression, binary_expression, cast_expression, unary_expression, postfix_expression, expression_list, primary_expression, functional_type};
-ghost use Rattle.cpp_syntax.specs.Grammar.{list, throw_expression, choice, sizeof_expression, arguments, parenthesized_expression, static_cast, qualified_id, std_abort, functional_cast, literal};
+ghost use Rattle.cpp_syntax.specs.Terminals.{question, throw_word, sizeof_word, open_paren, static_cast_word, is_type_name, is_literal, std, dot, arrow};
+ghost use Rattle.cpp_syntax.specs.Terminals.{open_bracket};
+ghost use Rattle.cpp_syntax.specs.Rules.{◌∣◌, form, optional, expression, assignment_expression, conditional_expression, binary_expression, cast_expression};
+ghost use Rattle.cpp_syntax.specs.Rules.{unary_expression, postfix_expression, expression_list, primary_expression, functional_type};
+ghost use Rattle.cpp_syntax.specs.Grammar.{list, throw_expression, choice, sizeof_expression, arguments, parenthesized_expression, static_cast, qualified_id};
+ghost use Rattle.cpp_syntax.specs.Grammar.{std_abort, functional_cast, literal};
 ghost use Rattle.cpp_syntax.specs.View.{BuilderState};
 ghost use Rattle.cpp_syntax.specs.Parsed.{ParsesLongest, ParsesAlways};
 ghost use Rattle.cpp_parse_expr.specs.Suffixes.{ParsedSuffix, literal_kind};

@@ -72,7 +72,8 @@ pub enum ParseFault {
     /// No text of the form begins there; the token up to which one could go on.
     #[error("token {token} does not go on")]
     Syntax { token: u32 },
-    /// The text nests too deep; the token where its first node beyond the limit stands.
+    /// The text nests too deep; the token where its first node beyond the limit stands. Of a unit also the first token at which
+    /// more constructs are open than a unit may nest, where no room is left for further nested calls.
     #[error("token {token} is nested too deep")]
     Nesting { token: u32 },
     /// No memory was left, or the text nests deeper than calls may be nested.

@@ -4,11 +4,14 @@ use Rattle.std.proofs.lemmas.Bool.{not_from_false}
 use Rattle.cpp_ast.specs.declared.arena.At.{At}
 use Rattle.cpp_ast.specs.declared.kinds.NodeKind.TheVariants.{OmittedId, SimpleTypeSpecifier, StdAbort}
 use Rattle.cpp_syntax.specs.Source.{terminal_at}
-use Rattle.cpp_syntax.specs.Terminals.{star, amp, comma, open_paren, close_paren, open_bracket, greater, void_word, is_type_word, is_type_name, question, throw_word, sizeof_word, close_bracket, colon, colon_colon, less, dot, arrow, static_cast_word, is_literal, is_name, is_prefix, is_step, is_assignment, std, abort_word, open_brace}
+use Rattle.cpp_syntax.specs.Terminals.{star, amp, comma, open_paren, close_paren, open_bracket, greater, void_word, is_type_word, is_type_name, question}
+use Rattle.cpp_syntax.specs.Terminals.{throw_word, sizeof_word, close_bracket, colon, colon_colon, less, dot, arrow, static_cast_word, is_literal, is_name}
+use Rattle.cpp_syntax.specs.Terminals.{is_prefix, is_step, is_assignment, std, abort_word, open_brace}
 use Rattle.cpp_syntax.specs.Types.{spells_a_type}
 use Rattle.cpp_syntax.specs.Shapes.{begins_name_at}
 use Rattle.cpp_syntax.specs.Names.{naming_of, may_name, is_in_block}
-use Rattle.cpp_syntax.specs.Rules.{whole, unnamed, either, type_id, type_specifier, parameters, word, ◌·◌, ◌∣◌, form, some, where_, cast_expression, unary_expression, functional_type, primary_expression, mark}
+use Rattle.cpp_syntax.specs.Rules.{whole, unnamed, either, type_id, type_specifier, parameters, word, ◌·◌, ◌∣◌, form, some, where_, cast_expression}
+use Rattle.cpp_syntax.specs.Rules.{unary_expression, functional_type, primary_expression, mark}
 use Rattle.cpp_syntax.specs.Grammar.{leaf, type_name, tx_exception, arguments}
 use Rattle.cpp_syntax.specs.Derivations.{no_read, first_or, reads_node}
 use Rattle.cpp_syntax.specs.Lookahead.{lookahead}
@@ -18,22 +21,38 @@ use Rattle.cpp_syntax.specs.Parsed.{ReadsLongest, NoneOf}
 use Rattle.cpp_parse_expr.specs.Suffixes.{a_subscript, a_call, a_step}
 use Rattle.cpp_syntax.proofs.SingleTerminals.{passed, refused}
 use Rattle.cpp_syntax.proofs.FirstTerminals.{not_empty}
-use Rattle.cpp_syntax.proofs.LongestMatches.{mark_none, word_none, node_none, form_none, seq_none, where_none, neither, if_none, if_unseen, unless_none, unless_seen}
-use Rattle.cpp_syntax.proofs.Readers.{leaves_none, leaves_same, leaves_both, leaves_read, reads_seq, reads_word, reads_form, reads_left, reads_right, reads_taken, reads_left_out, none_behind, reads_mark, none_seq, none_form, none_node}
+use Rattle.cpp_syntax.proofs.LongestMatches.{mark_none, word_none, node_none, form_none, seq_none, where_none, neither, if_none, if_unseen, unless_none}
+use Rattle.cpp_syntax.proofs.LongestMatches.{unless_seen}
+use Rattle.cpp_syntax.proofs.Readers.{leaves_none, leaves_same, leaves_both, leaves_read, reads_seq, reads_word, reads_form, reads_left, reads_right}
+use Rattle.cpp_syntax.proofs.Readers.{reads_taken, reads_left_out, none_behind, reads_mark, none_seq, none_form, none_node}
 use Rattle.cpp_syntax.proofs.ReaderLoops.{within, gained_then, reads_where, any_begins, loop_begins, loop_more, reads_if, reads_unless, loop_ends, seq_behind}
-use Rattle.cpp_parse_expr.proofs.ReaderAnswers.{made, made_at_name, mark_and, word_and, leaf_there, none_unlike, none_second, none_second_mark, leaves_chain, chain_done, parsed_right, parsed_form, parsed_err, always_err, reads_from, parsed_left}
+use Rattle.cpp_parse_expr.proofs.ReaderAnswers.{made, made_at_name, mark_and, word_and, leaf_there, none_unlike, none_second, none_second_mark, leaves_chain}
+use Rattle.cpp_parse_expr.proofs.ReaderAnswers.{chain_done, parsed_right, parsed_form, parsed_err, always_err, reads_from, parsed_left}
 use Rattle.cpp_parse_expr.proofs.TreeAdding.{filled}
-use Rattle.cpp_parse_expr.proofs.DeclaratorHeads.{head_named, head_in_parentheses, direct_name, direct_head, direct_omitted, direct_none, at_star, at_amp, at_neither, head_adds, omitted_there, omitted_and}
-use Rattle.cpp_parse_expr.proofs.DeclaratorSuffixes.{parameters_there, block_name_alone, block_name_and, no_parameters_here, parameters_unseen, parameters_none, parameters_read, leaves_many, behind_err, array_follows, parameters_follow, no_bound_follows, no_parameters_follow, follow_ends}
-use Rattle.cpp_parse_expr.proofs.EnclosedDeclarators.{qualifiers_apart, declarator_closed, always_there, no_pointer, nothing_held, none_closed, held_closed, thrown_read, not_thrown, thrown_none, void_clause, kept_clause}
+use Rattle.cpp_parse_expr.proofs.DeclaratorHeads.{head_named, head_in_parentheses, direct_name, direct_head, direct_omitted, direct_none, at_star, at_amp}
+use Rattle.cpp_parse_expr.proofs.DeclaratorHeads.{at_neither, head_adds, omitted_there, omitted_and}
+use Rattle.cpp_parse_expr.proofs.DeclaratorSuffixes.{parameters_there, block_name_alone, block_name_and, no_parameters_here, parameters_unseen}
+use Rattle.cpp_parse_expr.proofs.DeclaratorSuffixes.{parameters_none, parameters_read, leaves_many, behind_err, array_follows, parameters_follow}
+use Rattle.cpp_parse_expr.proofs.DeclaratorSuffixes.{no_bound_follows, no_parameters_follow, follow_ends}
+use Rattle.cpp_parse_expr.proofs.EnclosedDeclarators.{qualifiers_apart, declarator_closed, always_there, no_pointer, nothing_held, none_closed, held_closed}
+use Rattle.cpp_parse_expr.proofs.EnclosedDeclarators.{thrown_read, not_thrown, thrown_none, void_clause, kept_clause}
 use Rattle.cpp_syntax.proofs.IndependentDerivations.{free_none}
 use Rattle.cpp_syntax.proofs.OperatorLevels.{levels_apart, levels_apart_more, operated_none, level_read}
 use Rattle.cpp_parse_expr.proofs.QualifiedNames.{qualified_there, none_qualified, none_behind_colons}
 use Rattle.cpp_parse_expr.proofs.WrappedOperands.{taken_behind, left_behind, right_behind, first_alone, no_wrap, round_both, loop_round}
-use Rattle.cpp_parse_expr.proofs.PostfixReaders.{parsed_mark, parsed_word, parsed_seq, parsed_unless, ended, at_level, none_two_on, reads_two_on, suffix_err, no_operand, level_test, level_cut, loop_suffix, suffix_ahead, suffix_inside, suffix_leaves, no_suffix, no_std, no_abort, abort_there, no_call, named_primary, std_primary}
+use Rattle.cpp_parse_expr.proofs.PostfixReaders.{parsed_mark, parsed_word, parsed_seq, parsed_unless, ended, at_level, none_two_on, reads_two_on, suffix_err}
+use Rattle.cpp_parse_expr.proofs.PostfixReaders.{no_operand, level_test, level_cut, loop_suffix, suffix_ahead, suffix_inside, suffix_leaves, no_suffix}
+use Rattle.cpp_parse_expr.proofs.PostfixReaders.{no_std, no_abort, abort_there, no_call, named_primary, std_primary}
 use Rattle.cpp_parse_expr.proofs.UnmarkedRules.{reads_unmarked}
 use Rattle.cpp_parse_expr.proofs.LambdaReaders.{captured, no_introducer, no_body, no_partner, partner_inside, body_there, safety_taken}
-use Rattle.cpp_parse_expr.proofs.+expressions.Goals.{declarators::function_parameters-else-not-may_be_unnamed-via-then-not-may_be_unnamed+else-not-lookahead_parameters, declarators::function_parameters-else-not-may_be_unnamed-via-else-not-may_be_unnamed, declarators::parameter_clause-else-is_at-via-then-is_at+else-next-at, declarators::parameter_clause-else-is_at-via-else-is_at, declarators::declarator_head-else-may_be_named-via-then-may_be_named+else-begins_name, declarators::declarator_head-else-may_be_named-via-else-may_be_named, declarators::direct_declarator-else-is_in_block-via-then-is_in_block+else-begins_name, declarators::direct_declarator-else-is_in_block-via-else-is_in_block}
+use Rattle.cpp_parse_expr.proofs.+expressions.Goals.{declarators::function_parameters-else-not-may_be_unnamed-via-then-not-may_be_unnamed+else-not-lookahead_parameters}
+use Rattle.cpp_parse_expr.proofs.+expressions.Goals.{declarators::function_parameters-else-not-may_be_unnamed-via-else-not-may_be_unnamed}
+use Rattle.cpp_parse_expr.proofs.+expressions.Goals.{declarators::parameter_clause-else-is_at-via-then-is_at+else-next-at}
+use Rattle.cpp_parse_expr.proofs.+expressions.Goals.{declarators::parameter_clause-else-is_at-via-else-is_at}
+use Rattle.cpp_parse_expr.proofs.+expressions.Goals.{declarators::declarator_head-else-may_be_named-via-then-may_be_named+else-begins_name}
+use Rattle.cpp_parse_expr.proofs.+expressions.Goals.{declarators::declarator_head-else-may_be_named-via-else-may_be_named}
+use Rattle.cpp_parse_expr.proofs.+expressions.Goals.{declarators::direct_declarator-else-is_in_block-via-then-is_in_block+else-begins_name}
+use Rattle.cpp_parse_expr.proofs.+expressions.Goals.{declarators::direct_declarator-else-is_in_block-via-else-is_in_block}
 use Rattle.cpp_syntax.specs.declared.terminal.Terminal.TheVariants as terminal
 use Rattle.cpp_parse_expr.proofs.+expressions.Goals as goal
 
