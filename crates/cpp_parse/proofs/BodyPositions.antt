@@ -6,7 +6,9 @@ use Rattle.cpp_ast.specs.Trees.{Tree, node}
 use Rattle.cpp_syntax.specs.declared.positions.OpenBody.{OpenBody}
 use Rattle.cpp_syntax.specs.Source.{Source, position_at}
 use Rattle.cpp_syntax.specs.Rules.{Lookahead, Rule, form, compound_statement}
-use Rattle.cpp_syntax.specs.Derivations.{Body, Read, no_read, one_tree, and_then, reads_node, with_body_apart, positioned, Bodies, Derives, is_nothing, is_word, is_mark, is_mark_next, is_mark_name, is_both, is_left, is_right, is_last, is_more, is_form, is_node, is_wrap, is_kept_apart, is_in_tree, is_where, is_before, is_if, is_unless}
+use Rattle.cpp_syntax.specs.Derivations.{Body, Read, no_read, one_tree, and_then, reads_node, with_body_apart, positioned, Bodies, Derives, is_nothing}
+use Rattle.cpp_syntax.specs.Derivations.{is_word, is_mark, is_mark_next, is_mark_name, is_both, is_left, is_right, is_last, is_more, is_form, is_node}
+use Rattle.cpp_syntax.specs.Derivations.{is_wrap, is_kept_apart, is_in_tree, is_where, is_before, is_if, is_unless}
 use Rattle.cpp_syntax.specs.View.{body_of}
 use Rattle.cpp_syntax.proofs.FirstTerminals.{ends_behind}
 use Rattle.cpp_parse.specs.Bodies.{AreInside}

@@ -3,8 +3,10 @@ use Rattle.std.proofs.Common.{◌≡◌, ℕ, ◌+◌, ◌<◌, ◌≤◌, Bool,
 use Rattle.std.proofs.lemmas.Bool.{not-true}
 use Rattle.cpp_syntax.specs.declared.terminal.Terminal.{Terminal}
 use Rattle.cpp_syntax.specs.Source.{Source, terminal_at}
-use Rattle.cpp_syntax.specs.Terminals.{is_type_name, is_cv, is_specifier, is_string, inline_word, extern_word, colon_colon, open_brace, semicolon, is_class_key, tilde, ReadsAs}
-use Rattle.cpp_syntax.specs.Rules.{named, declaration_head, simple_declaration, constructor_declarator, destructor_declarator, init_declarator, qualified, Nonterminal, Rule, word, mark, ◌·◌, form}
+use Rattle.cpp_syntax.specs.Terminals.{is_type_name, is_cv, is_specifier, is_string, inline_word, extern_word, colon_colon, open_brace, semicolon}
+use Rattle.cpp_syntax.specs.Terminals.{is_class_key, tilde, ReadsAs}
+use Rattle.cpp_syntax.specs.Rules.{named, declaration_head, simple_declaration, constructor_declarator, destructor_declarator, init_declarator, qualified}
+use Rattle.cpp_syntax.specs.Rules.{Nonterminal, Rule, word, mark, ◌·◌, form}
 use Rattle.cpp_syntax.specs.Grammar.{production, list}
 use Rattle.cpp_syntax.specs.Lookahead.{lookahead}
 use Rattle.cpp_syntax.specs.Derivations.{Read, Derives, kept_apart, no_read, is_nothing, is_word, is_mark, is_both, is_left, is_right, is_node}
@@ -15,11 +17,14 @@ use Rattle.cpp_syntax.specs.declared.terminal.Terminal.TheVariants as terminal
 use Rattle.cpp_syntax.proofs.SingleTerminals.{passed, refused, passed_not}
 use Rattle.cpp_syntax.proofs.TerminalTables.{at_each, implies, implied}
 use Rattle.cpp_syntax.proofs.IndependentDerivations.{free_long}
-use Rattle.cpp_syntax.proofs.LongestMatches.{seq, seq_none, seq_ends, neither, left, right, left_out, taken, form_long, form_none, node_long, node_none, mark_long, mark_name_long, mark_none, word_none, many_begins, many_more, many_ends}
+use Rattle.cpp_syntax.proofs.LongestMatches.{seq, seq_none, seq_ends, neither, left, right, left_out, taken, form_long, form_none, node_long, node_none}
+use Rattle.cpp_syntax.proofs.LongestMatches.{mark_long, mark_name_long, mark_none, word_none, many_begins, many_more, many_ends}
 use Rattle.cpp_syntax.proofs.Readers.{none_seq, none_node, none_form}
 use Rattle.cpp_syntax.proofs.ReaderLoops.{within}
 use Rattle.cpp_parse_expr.proofs.ReaderAnswers.{none_unlike, none_second, none_second_mark}
-use Rattle.cpp_parse.specs.Alternatives.{specifiers, optional_attribute, optional_inline, types, named_declarator, object_declaration, function_definition, constructor_definition, destructor_definition, class_declaration, class_specifier, linkage_specification, linkage_block}
+use Rattle.cpp_parse.specs.Alternatives.{specifiers, optional_attribute, optional_inline, types, named_declarator, object_declaration, function_definition}
+use Rattle.cpp_parse.specs.Alternatives.{constructor_definition, destructor_definition, class_declaration, class_specifier, linkage_specification}
+use Rattle.cpp_parse.specs.Alternatives.{linkage_block}
 use Rattle.cpp_parse.specs.Answers.{Reaches, NamedDefinition, OneDefinition, LinkageSeen}
 use Rattle.cpp_parse.specs.declared.functions.Definition.{Definition}
 use Rattle.cpp_parse.specs.declared.functions.Definition.TheVariants as definition

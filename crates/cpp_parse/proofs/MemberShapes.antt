@@ -1,15 +1,18 @@
 -- What a member can be whose type begins at an index, by what stands behind its first declarator. Below, m is the index behind
 -- the longest declarator, and e that behind the longest initializer, if = stands at m.
-use Rattle.std.proofs.Common.{◌≡◌, ℕ, zero, suc, ◌+◌, inl, inr, nat_eq, true, false, not, ◌&&◌, refl, sym as back, ◌∙◌, ap, subst, arith, Option, None, true≢false}
+use Rattle.std.proofs.Common.{◌≡◌, ℕ, zero, suc, ◌+◌, inl, inr, nat_eq, true, false, not, ◌&&◌, refl, sym as back, ◌∙◌, ap, subst, arith, Option, None}
+use Rattle.std.proofs.Common.{true≢false}
 use Rattle.std.proofs.lemmas.Bool.{not-true, and_from, and_parts, cases_Bool}
 use Rattle.cpp_syntax.specs.declared.terminal.Terminal.{Terminal}
 use Rattle.cpp_syntax.specs.Source.{Source, terminal_at}
 use Rattle.cpp_ast.specs.declared.kinds.NodeKind.TheVariants.{EqualInitializer}
 use Rattle.cpp_syntax.specs.Terminals.{is_zero, is_integer, semicolon, comma, equal, open_paren}
 use Rattle.cpp_syntax.specs.Types.{is_not_zero}
-use Rattle.cpp_syntax.specs.Rules.{Nonterminal, cast_expression, binary_expression, assignment_expression, compound_statement, a_cast, Rule, word, ◌·◌, form, node, where_, optional}
+use Rattle.cpp_syntax.specs.Rules.{Nonterminal, cast_expression, binary_expression, assignment_expression, compound_statement, a_cast, Rule, word, ◌·◌, form}
+use Rattle.cpp_syntax.specs.Rules.{node, where_, optional}
 use Rattle.cpp_syntax.specs.Grammar.{virt_specifiers}
-use Rattle.cpp_syntax.specs.Derivations.{Read, no_read, kept_apart, Derives, is_nothing, is_word, is_mark, is_both, is_left, is_right, is_last, is_form, is_node, is_where, is_unless}
+use Rattle.cpp_syntax.specs.Derivations.{Read, no_read, kept_apart, Derives, is_nothing, is_word, is_mark, is_both, is_left, is_right, is_last, is_form}
+use Rattle.cpp_syntax.specs.Derivations.{is_node, is_where, is_unless}
 use Rattle.cpp_syntax.specs.Lookahead.{lookahead}
 use Rattle.cpp_syntax.specs.Parsed.{NoneOf}
 use Rattle.cpp_syntax.proofs.TerminalTables.{at_each, implies, implied}
@@ -18,7 +21,8 @@ use Rattle.cpp_syntax.proofs.FirstTerminals.{not_empty}
 use Rattle.cpp_syntax.proofs.DeclaratorForms.{differ}
 use Rattle.cpp_syntax.proofs.LongestMatches.{carry, seq, seq_none, seq_ends, taken, mark_long, node_long, word_none, mark_none, node_none, where_refused}
 use Rattle.cpp_parse_expr.proofs.ReaderAnswers.{none_unlike, none_second_mark}
-use Rattle.cpp_parse.specs.Alternatives.{types, named_declarator, single, initialized, listed, with_function_body, more_members, pure_specifier, value, value_but_zero}
+use Rattle.cpp_parse.specs.Alternatives.{types, named_declarator, single, initialized, listed, with_function_body, more_members, pure_specifier, value}
+use Rattle.cpp_parse.specs.Alternatives.{value_but_zero}
 use Rattle.cpp_parse.specs.Answers.{Reaches}
 use Rattle.cpp_parse.proofs.LongestAlone.{none_reached, none_skipped, many_none}
 use Rattle.cpp_parse.proofs.NamedDeclarators.{none_formed, none_member, none_grouped}

@@ -3,7 +3,8 @@ use Rattle.std.proofs.Common.{◌≡◌, ℕ, ◌+◌, inl, inr, Bool, true, fal
 use Rattle.std.proofs.lemmas.Bool.{not-true, and_from}
 use Rattle.cpp_syntax.specs.declared.terminal.Terminal.{Terminal}
 use Rattle.cpp_syntax.specs.Source.{Source, terminal_at}
-use Rattle.cpp_syntax.specs.Terminals.{is_type_name, is_cv, void_word, colon_colon, open_bracket, open_paren, close_paren, tilde, virtual_word, explicit_word, ReadsAs}
+use Rattle.cpp_syntax.specs.Terminals.{is_type_name, is_cv, void_word, colon_colon, open_bracket, open_paren, close_paren, tilde, virtual_word, explicit_word}
+use Rattle.cpp_syntax.specs.Terminals.{ReadsAs}
 use Rattle.cpp_syntax.specs.Rules.{whole, parameter_declaration_clause, function_qualifiers, constructor_declarator, plain, Rule, word, ◌·◌, ◌∣◌, form}
 use Rattle.cpp_syntax.specs.Derivations.{Read, no_read, kept_apart, Derives, is_nothing, is_word, is_both, is_left, is_right, is_form, is_node, is_where}
 use Rattle.cpp_syntax.specs.Lookahead.{lookahead}
@@ -16,10 +17,13 @@ use Rattle.cpp_syntax.proofs.DisjointFirstSets.{never_both}
 use Rattle.cpp_syntax.proofs.FirstTerminals.{ends_behind}
 use Rattle.cpp_syntax.proofs.IndependentDerivations.{free_none}
 use Rattle.cpp_syntax.proofs.DeclaratorForms.{unlike, differ, stays}
-use Rattle.cpp_syntax.proofs.LongestMatches.{seq_none, seq_ends, neither, taken, mark_long, node_long, word_none, mark_none, node_none, wrap_none, where_none, form_none}
+use Rattle.cpp_syntax.proofs.LongestMatches.{seq_none, seq_ends, neither, taken, mark_long, node_long, word_none, mark_none, node_none, wrap_none, where_none}
+use Rattle.cpp_syntax.proofs.LongestMatches.{form_none}
 use Rattle.cpp_parse_expr.proofs.ReaderAnswers.{none_unlike, none_second_mark}
 use Rattle.cpp_parse_expr.proofs.QualifiedNames.{none_qualified}
-use Rattle.cpp_parse.specs.Alternatives.{optional_attribute, types, named_declarator, single, initialized, listed, with_function_body, single_declaration, initialized_declaration, listed_declaration, member_function, constructor_declared, constructor_defined, destructor_declared, destructor_defined}
+use Rattle.cpp_parse.specs.Alternatives.{optional_attribute, types, named_declarator, single, initialized, listed, with_function_body, single_declaration}
+use Rattle.cpp_parse.specs.Alternatives.{initialized_declaration, listed_declaration, member_function, constructor_declared, constructor_defined}
+use Rattle.cpp_parse.specs.Alternatives.{destructor_declared, destructor_defined}
 use Rattle.cpp_parse.specs.Answers.{Reaches, ParametersSeen, IsConstructor, IsDestructor}
 use Rattle.cpp_parse.proofs.LongestAlone.{none_reached, none_skipped, none_marked}
 use Rattle.cpp_parse.proofs.DefinitionKinds.{type_alone, colons_no_cv}

@@ -5,7 +5,8 @@ use Rattle.cpp_ast.specs.declared.kinds.NodeKind.TheVariants.{MemberDeclarator}
 use Rattle.cpp_syntax.specs.declared.positions.Checkpoint.{Checkpoint}
 use Rattle.cpp_syntax.specs.Rules.{at_name, Nonterminal, Rule, mark_name, ◌·◌, form, node_at}
 use Rattle.cpp_syntax.specs.Grammar.{production}
-use Rattle.cpp_syntax.specs.Derivations.{Read, no_read, and_then, first_or, reads_node, positioned, token_of_name, declared_in, kept_apart, Derives, is_mark_name, is_both, is_form, is_node}
+use Rattle.cpp_syntax.specs.Derivations.{Read, no_read, and_then, first_or, reads_node, positioned, token_of_name, declared_in, kept_apart, Derives}
+use Rattle.cpp_syntax.specs.Derivations.{is_mark_name, is_both, is_form, is_node}
 use Rattle.cpp_syntax.specs.Lookahead.{lookahead}
 use Rattle.cpp_syntax.specs.FirstSets.{rule_nullable}
 use Rattle.cpp_syntax.specs.Longest.{NoDerivation, is_free}

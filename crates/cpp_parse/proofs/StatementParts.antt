@@ -7,7 +7,8 @@ use Rattle.cpp_ast.specs.declared.kinds.NodeKind.TheVariants.{Absent}
 use Rattle.cpp_syntax.specs.declared.terminal.Terminal.{Terminal}
 use Rattle.cpp_syntax.specs.Source.{Source, terminal_at, position_at}
 use Rattle.cpp_syntax.specs.Terminals.{semicolon}
-use Rattle.cpp_syntax.specs.Rules.{whole, in_block, type_specifier_seq, init_declarator, block_declaration, expression, Lookahead, Rule, nothing, word, ◌·◌, form, node, many, if_}
+use Rattle.cpp_syntax.specs.Rules.{whole, in_block, type_specifier_seq, init_declarator, block_declaration, expression, Lookahead, Rule, nothing, word, ◌·◌}
+use Rattle.cpp_syntax.specs.Rules.{form, node, many, if_}
 use Rattle.cpp_syntax.specs.Grammar.{list, optional_expression}
 use Rattle.cpp_syntax.specs.Derivations.{no_read, reads_node}
 use Rattle.cpp_syntax.specs.Lookahead.{lookahead}

@@ -9,7 +9,8 @@ use Rattle.cpp_syntax.specs.Longest.{LongestMatch, NoDerivation, is_free}
 use Rattle.cpp_syntax.specs.View.{BuilderState, appended}
 use Rattle.cpp_syntax.specs.Parsed.{Leaves, ReadsLongest, NoneOf}
 use Rattle.cpp_syntax.proofs.IndependentDerivations.{free_long, free_none}
-use Rattle.cpp_syntax.proofs.CommaLists.{comma_and, AreItems, Listed, listed_begins, listed_more, open_list, begins_goes, open_listed, are_initializers, initializers_go}
+use Rattle.cpp_syntax.proofs.CommaLists.{comma_and, AreItems, Listed, listed_begins, listed_more, open_list, begins_goes, open_listed, are_initializers}
+use Rattle.cpp_syntax.proofs.CommaLists.{initializers_go}
 use Rattle.cpp_syntax.proofs.LongestMatches.{word_long, word_none, seq_none, taken, left_out}
 use Rattle.cpp_syntax.proofs.ReaderLoops.{gained_then}
 use Rattle.cpp_parse_expr.proofs.ReaderAnswers.{none_second}

@@ -1,7 +1,9 @@
 -- Nodes show the trees with the bodies of lambdas in them, where they show those without, and each body shows its tree.
-use Rattle.std.proofs.Common.{◌≡◌, ℕ, zero, suc, ◌+◌, ◌≤◌, nat_eq, Bool, true, false, if◌then◌else◌, List, [], ◌∷◌, ◌++◌, slice_get, Some, refl, sym, ◌∙◌, ap, subst, arith, append_assoc, append-nil}
+use Rattle.std.proofs.Common.{◌≡◌, ℕ, zero, suc, ◌+◌, ◌≤◌, nat_eq, Bool, true, false, if◌then◌else◌, List, [], ◌∷◌, ◌++◌, slice_get, Some, refl, sym, ◌∙◌, ap}
+use Rattle.std.proofs.Common.{subst, arith, append_assoc, append-nil}
 use Rattle.std.proofs.lemmas.Option.{none-some}
 use Rattle.std.proofs.lemmas.List.Sums.{sum_by-cons}
+use Rattle.cpp_ast.proofs.NodeTrees.{get_grow}
 use Rattle.cpp_ast.specs.declared.arena.Node.{Node}
 use Rattle.cpp_ast.specs.declared.arena.NodeId.{NodeId}
 use Rattle.cpp_ast.specs.declared.units.LamBody.{LamBody}
@@ -17,13 +19,8 @@ use Rattle.cpp_syntax.proofs.NodeLambdas.{lambdas_of, lambdas_are, own_lambda}
 use Rattle.cpp_parse.proofs.LambdasOnce.{one_for}
 use Rattle.cpp_parse.proofs.BodyTable.{kids_without, left_out, chosen, one_same}
 
-get_front : (ns extra : List Node) (id : ℕ) (n : Node) → slice_get ns id ≡ Some n → slice_get (ns ++ extra) id ≡ Some n
-get_front [] extra id n e = absurd (none-some n e)
-get_front (m ∷ ns) extra zero n e = e
-get_front (m ∷ ns) extra (suc id) n e = get_front ns extra id n e
-
 pub get_grown : (old new : List Node) (id : ℕ) (n : Node) → Extends old new → slice_get old id ≡ Some n → slice_get new id ≡ Some n
-get_grown old new id n x e = ap (λ (ns : List Node). slice_get ns id) x.appended ∙ get_front old x.extra id n e
+get_grown old new id n x e = ap (λ (ns : List Node). slice_get ns id) x.appended ∙ get_grow old x.extra id n e
 
 -- What is noted for a lambda.
 

@@ -1,8 +1,19 @@
 -- The alternatives of declarations and members, each by a name of its own.
-use Rattle.cpp_ast.specs.declared.kinds.NodeKind.TheVariants.{ParameterDeclarationClause, VirtSpecifier, DeclSpecifier, AliasDeclaration, ClassDeclaration, ClassSpecifier, BaseSpecifier, AccessSpecifier, MemberSpecification, EnumSpecifier, LinkageSpecification, LinkageBlock, SimpleDeclaration, FunctionDefinition, ConstructorDeclaration, ConstructorDefinition, DestructorDeclaration, DestructorDefinition, EmptyDeclaration, AccessLabel, MemberDeclaration, PureSpecifier, BaseInitializer, MemberInitializer, QualifiedDeclaratorId, DestructorId, QualifiedDestructorId, IntegerLiteral}
-use Rattle.cpp_syntax.specs.Terminals.{is_name, is_type_name, is_zero, is_string, is_access, is_specifier, final_word, using_word, enum_word, extern_word, inline_word, virtual_word, explicit_word, open_paren, close_paren, open_brace, close_brace, semicolon, comma, colon, colon_colon, tilde, equal}
+use Rattle.cpp_ast.specs.declared.kinds.NodeKind.TheVariants.{ParameterDeclarationClause, VirtSpecifier, DeclSpecifier, AliasDeclaration, ClassDeclaration}
+use Rattle.cpp_ast.specs.declared.kinds.NodeKind.TheVariants.{ClassSpecifier, BaseSpecifier, AccessSpecifier, MemberSpecification, EnumSpecifier}
+use Rattle.cpp_ast.specs.declared.kinds.NodeKind.TheVariants.{LinkageSpecification, LinkageBlock, SimpleDeclaration, FunctionDefinition}
+use Rattle.cpp_ast.specs.declared.kinds.NodeKind.TheVariants.{ConstructorDeclaration, ConstructorDefinition, DestructorDeclaration, DestructorDefinition}
+use Rattle.cpp_ast.specs.declared.kinds.NodeKind.TheVariants.{EmptyDeclaration, AccessLabel, MemberDeclaration, PureSpecifier, BaseInitializer}
+use Rattle.cpp_ast.specs.declared.kinds.NodeKind.TheVariants.{MemberInitializer, QualifiedDeclaratorId, DestructorId, QualifiedDestructorId, IntegerLiteral}
+use Rattle.cpp_syntax.specs.Terminals.{is_name, is_type_name, is_zero, is_string, is_access, is_specifier, final_word, using_word, enum_word, extern_word}
+use Rattle.cpp_syntax.specs.Terminals.{inline_word, virtual_word, explicit_word, open_paren, close_paren, open_brace, close_brace, semicolon, comma, colon}
+use Rattle.cpp_syntax.specs.Terminals.{colon_colon, tilde, equal}
 use Rattle.cpp_syntax.specs.Types.{is_not_zero}
-use Rattle.cpp_syntax.specs.Rules.{whole, named, type_specifier_seq, type_id, declarator, function_qualifiers, expression_list, assignment_expression, conditional_expression, init_declarator, compound_statement, enumerator_definition, declaration_head, simple_declaration, constructor_declarator, destructor_declarator, member_declarator, initialized_member, listed_member, member_declaration, qualified, plain, at_token, at_name, Rule, nothing, word, mark, mark_next, ◌·◌, many, form, node_at, where_, optional, some, node}
+use Rattle.cpp_syntax.specs.Rules.{whole, named, type_specifier_seq, type_id, declarator, function_qualifiers, expression_list, assignment_expression}
+use Rattle.cpp_syntax.specs.Rules.{conditional_expression, init_declarator, compound_statement, enumerator_definition, declaration_head, simple_declaration}
+use Rattle.cpp_syntax.specs.Rules.{constructor_declarator, destructor_declarator, member_declarator, initialized_member, listed_member, member_declaration}
+use Rattle.cpp_syntax.specs.Rules.{qualified, plain, at_token, at_name, Rule, nothing, word, mark, mark_next, ◌·◌, many, form, node_at, where_, optional}
+use Rattle.cpp_syntax.specs.Rules.{some, node}
 use Rattle.cpp_syntax.specs.Grammar.{list, leaf, type_name, attribute, class_key, virt_specifiers, braced_list, member_initializers}
 
 -- parts of a declaration

@@ -4,14 +4,17 @@ use Rattle.std.specs.declared.alloc.AllocError.{AllocError}
 use Rattle.cpp_ast.specs.declared.kinds.NodeKind.TheVariants.{Attribute}
 use Rattle.cpp_syntax.specs.Source.{Source, position_at, terminal_at}
 use Rattle.cpp_syntax.specs.Terminals.{is_type_name, is_string, extern_word, colon_colon, close_paren}
-use Rattle.cpp_syntax.specs.Rules.{Rule, ◌·◌, ◌∣◌, word, mark, form, constructor_declarator, destructor_declarator, qualified, whole, parameter_declaration_clause, function_qualifiers}
+use Rattle.cpp_syntax.specs.Rules.{Rule, ◌·◌, ◌∣◌, word, mark, form, constructor_declarator, destructor_declarator, qualified, whole}
+use Rattle.cpp_syntax.specs.Rules.{parameter_declaration_clause, function_qualifiers}
 use Rattle.cpp_syntax.specs.Grammar.{attribute}
 use Rattle.cpp_syntax.specs.Derivations.{Read, no_read, reads_node, kept_apart}
 use Rattle.cpp_syntax.specs.Lookahead.{lookahead}
 use Rattle.cpp_syntax.specs.Longest.{LongestMatch}
 use Rattle.cpp_syntax.specs.View.{BuilderState}
 use Rattle.cpp_syntax.specs.Parsed.{Leaves, NoneOf}
-use Rattle.cpp_parse.specs.Alternatives.{object_declaration, function_definition, constructor_definition, destructor_definition, single, initialized, listed, with_function_body, named_declarator, single_declaration, initialized_declaration, listed_declaration, member_function, constructor_declared, constructor_defined, destructor_declared, destructor_defined}
+use Rattle.cpp_parse.specs.Alternatives.{object_declaration, function_definition, constructor_definition, destructor_definition, single, initialized, listed}
+use Rattle.cpp_parse.specs.Alternatives.{with_function_body, named_declarator, single_declaration, initialized_declaration, listed_declaration}
+use Rattle.cpp_parse.specs.Alternatives.{member_function, constructor_declared, constructor_defined, destructor_declared, destructor_defined}
 use Rattle.cpp_parse.specs.declared.functions.Definition.{Definition}
 use Rattle.cpp_parse.specs.declared.functions.Definition.TheVariants as definition
 use Rattle.cpp_parse.specs.declared.members.MemberShape.{MemberShape}

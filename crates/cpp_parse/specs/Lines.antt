@@ -1,10 +1,13 @@
 -- The lines of the grammar that say what a statement is, as its readers know them.
 use Rattle.std.specs.Prelude.{Bool}
 use Rattle.cpp_ast.specs.declared.kinds.NodeKind.{NodeKind}
-use Rattle.cpp_ast.specs.declared.kinds.NodeKind.TheVariants.{ExpressionStatement, IfStatement, WhileStatement, DoStatement, ForStatement, SwitchStatement, CaseStatement, DefaultStatement, ReturnStatement, TryBlock, Ellipsis}
+use Rattle.cpp_ast.specs.declared.kinds.NodeKind.TheVariants.{ExpressionStatement, IfStatement, WhileStatement, DoStatement, ForStatement, SwitchStatement}
+use Rattle.cpp_ast.specs.declared.kinds.NodeKind.TheVariants.{CaseStatement, DefaultStatement, ReturnStatement, TryBlock, Ellipsis}
 use Rattle.cpp_syntax.specs.declared.terminal.Terminal.{Terminal}
-use Rattle.cpp_syntax.specs.Terminals.{if_word, else_word, while_word, do_word, for_word, switch_word, case_word, default_word, return_word, try_word, catch_word, open_paren, close_paren, semicolon, colon, ellipsis}
-use Rattle.cpp_syntax.specs.Rules.{whole, expression, conditional_expression, parameter_declaration, block_declaration, compound_statement, statement, for_init_statement, handler, a_declaration, Rule, word, mark, ◌·◌, ◌∣◌, form, node, before_no, if_, unless, optional, some}
+use Rattle.cpp_syntax.specs.Terminals.{if_word, else_word, while_word, do_word, for_word, switch_word, case_word, default_word, return_word, try_word}
+use Rattle.cpp_syntax.specs.Terminals.{catch_word, open_paren, close_paren, semicolon, colon, ellipsis}
+use Rattle.cpp_syntax.specs.Rules.{whole, expression, conditional_expression, parameter_declaration, block_declaration, compound_statement, statement}
+use Rattle.cpp_syntax.specs.Rules.{for_init_statement, handler, a_declaration, Rule, word, mark, ◌·◌, ◌∣◌, form, node, before_no, if_, unless, optional, some}
 use Rattle.cpp_syntax.specs.Grammar.{condition, optional_expression, leaf}
 
 abbrev pub expression_statement : Rule

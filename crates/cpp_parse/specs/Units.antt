@@ -8,6 +8,7 @@ use Rattle.cpp_syntax.specs.declared.limits.TheConstants.{MAX_DEPTH}
 use Rattle.cpp_syntax.specs.Source.{position_at}
 use Rattle.cpp_syntax.specs.Classes.{source_of}
 use Rattle.cpp_syntax.specs.Lookahead.{IsUnit}
+use Rattle.cpp_nests.specs.Nests.{IsNested}
 use Rattle.cpp_parse_expr.specs.Depths.{deep_kid}
 use Rattle.cpp_parse_expr.specs.declared.parse.ParseFault.{ParseFault}
 use Rattle.cpp_parse_expr.specs.declared.parse.ParseFault.TheVariants as fault
@@ -33,6 +34,12 @@ pub record IsUnitTooDeep (number : ℕ) (tokens : List Lexeme) (token : ℕ) : T
   pub position : deep_kid deepest_allowed 1 decls ≡ Some (position_at (source_of number tokens) token)
   pub inside : token ≤ length tokens
 
+-- Why tokens nest too deep: they are a unit whose tree does; or brackets, operators and words of statements alone open more
+-- constructs at a token than a unit may nest, which is answered where a reader has no room left, whether or not they are one.
+pub data NestsTooDeep (number : ℕ) (tokens : List Lexeme) (token : ℕ) : Type 0 where
+  in_its_tree : IsUnitTooDeep number tokens token → NestsTooDeep number tokens token
+  by_its_tokens : IsNested deepest_allowed tokens token → NestsTooDeep number tokens token
+
 -- The tokens are no unit.
 pub record IsNoUnit (number : ℕ) (tokens : List Lexeme) (token : ℕ) : Type 0 where
   pub nothing : (decls : Trees) → IsUnit (source_of number tokens) decls → ⊥
@@ -42,5 +49,5 @@ pub record IsNoUnit (number : ℕ) (tokens : List Lexeme) (token : ℕ) : Type 0
 abbrev pub ParsesUnit : ℕ → List Lexeme → Result UnitRecord ParseFault → Type 0
 ParsesUnit number tokens (Ok unit) = IsUnitRead number tokens unit
 ParsesUnit number tokens (Err (fault.Syntax token)) = IsNoUnit number tokens token
-ParsesUnit number tokens (Err (fault.Nesting token)) = IsUnitTooDeep number tokens token
+ParsesUnit number tokens (Err (fault.Nesting token)) = NestsTooDeep number tokens token
 ParsesUnit number tokens (Err fault.Memory) = Unit {0}

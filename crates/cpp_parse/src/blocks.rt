@@ -30,7 +30,8 @@ pub fn marked_block(
     requires inside { at + 1 ≤ length text.now.terminals }
     requires few { length text.now.terminals ≤ MAX_TOKENS }
     requires kind { is_lambda kind ≡ false }
-    ensures { (word : Terminal → Bool) → word (terminal_at text.now at) ≡ true → ParsesLongest text.now (marked_block kind word) at None out.old out.new result }
+    ensures { (word : Terminal → Bool) → word (terminal_at text.now at) ≡ true
+        → ParsesLongest text.now (marked_block kind word) at None out.old out.new result }
 {
     let start = out.checkpoint();
     let Some(next) = compound_statement(text, at + 1, depth_left, out)? else {

@@ -4,7 +4,8 @@ ghost use Rattle.std.specs.Prelude.{◌≡◌, ◌≤◌, length, Some, None};
 ghost use Rattle.cpp_syntax.specs.Rules.{form, many, optional, enumerator_definition, member_declaration};
 ghost use Rattle.cpp_syntax.specs.Grammar.{class_key, braced_list};
 ghost use Rattle.cpp_syntax.specs.Parsed.{ParsesLongest, ParsesAlways};
-ghost use Rattle.cpp_parse.specs.Alternatives.{class_declaration, class_specifier, optional_final, optional_access, base_clause, base_specifier, member_specification, enum_specifier, enumerators, enumerator_value};
+ghost use Rattle.cpp_parse.specs.Alternatives.{class_declaration, class_specifier, optional_final, optional_access, base_clause, base_specifier};
+ghost use Rattle.cpp_parse.specs.Alternatives.{member_specification, enum_specifier, enumerators, enumerator_value};
 
 use crate::members::member_declaration;
 use crate::specifiers::node_at_token;
@@ -39,14 +40,7 @@ pub fn class_declaration(
         out.expected_at(end);
         return Ok(None);
     }
-    node_at_token(
-        text,
-        at,
-        NodeKind::ClassDeclaration,
-        name as u32,
-        start,
-        out,
-    )?;
+    node_at_token(text, NodeKind::ClassDeclaration, name as u32, start, out)?;
     Ok(Some(end + 1))
 }
 
@@ -79,7 +73,7 @@ pub fn class_specifier(
         out.expected_at(end);
         return Ok(None);
     }
-    node_at_token(text, at, NodeKind::ClassSpecifier, name as u32, start, out)?;
+    node_at_token(text, NodeKind::ClassSpecifier, name as u32, start, out)?;
     Ok(Some(end + 1))
 }
 
@@ -227,7 +221,7 @@ pub fn enum_specifier(
         out.expected_at(end);
         return Ok(None);
     }
-    node_at_token(text, at, NodeKind::EnumSpecifier, name as u32, start, out)?;
+    node_at_token(text, NodeKind::EnumSpecifier, name as u32, start, out)?;
     Ok(Some(end + 1))
 }
 
@@ -323,14 +317,7 @@ fn enumerator_definition(
     }
     let start = out.checkpoint();
     let next = optional_value(text, at + 1, depth_left, out)?;
-    node_at_token(
-        text,
-        at,
-        NodeKind::EnumeratorDefinition,
-        at as u32,
-        start,
-        out,
-    )?;
+    node_at_token(text, NodeKind::EnumeratorDefinition, at as u32, start, out)?;
     Ok(Some(next))
 }
 

@@ -5,7 +5,8 @@ ghost use Rattle.cpp_ast.specs.declared.kinds.NodeKind.TheVariants.{ParameterDec
 ghost use Rattle.cpp_syntax.specs.Rules.{form, node, nothing, qualified, plain, constructor_declarator, destructor_declarator, member_initializer};
 ghost use Rattle.cpp_syntax.specs.Grammar.{list, member_initializers};
 ghost use Rattle.cpp_syntax.specs.Parsed.{ParsesLongest, ParsesAlways};
-ghost use Rattle.cpp_parse.specs.Alternatives.{constructor_name, qualified_destructor_name, destructor_name, empty_parameters, initializer_arguments, base_initializer, named_initializer, constructor_body};
+ghost use Rattle.cpp_parse.specs.Alternatives.{constructor_name, qualified_destructor_name, destructor_name, empty_parameters, initializer_arguments};
+ghost use Rattle.cpp_parse.specs.Alternatives.{base_initializer, named_initializer, constructor_body};
 
 use crate::specifiers::wrap_parameters;
 use crate::statements::compound_statement;

@@ -100,14 +100,7 @@ fn alias_declaration(
         out.expected_at(end);
         return Ok(None);
     }
-    node_at_token(
-        text,
-        at,
-        NodeKind::AliasDeclaration,
-        name as u32,
-        start,
-        out,
-    )?;
+    node_at_token(text, NodeKind::AliasDeclaration, name as u32, start, out)?;
     Ok(Some(end + 1))
 }
 

@@ -45,7 +45,8 @@ pub fn first_deep_kid(
     requires there { HaveNodes (length nodes.now) noted.now }
     requires below { are_below (length nodes.now) kids.now ≡ true }
     requires here { depth ≤ limit }
-    ensures { IfOk result (λ position. (bodies : List LamBodyRecord) (trees : Trees) → IsNotedIn bodies noted.now → ShowsAllWith bodies nodes.now kids.now trees → position ≡ deep_kid limit depth trees) }
+    ensures { IfOk result (λ position. (bodies : List LamBodyRecord) (trees : Trees) → IsNotedIn bodies noted.now
+        → ShowsAllWith bodies nodes.now kids.now trees → position ≡ deep_kid limit depth trees) }
 {
     'kids: for kid in kids {
         if let Some(position) = first_deep(nodes, noted, *kid, depth, limit, depth_left)? {
@@ -69,7 +70,8 @@ fn first_deep(
     requires there { HaveNodes (length nodes.now) noted.now }
     requires inside { id.0 < length nodes.now }
     requires here { holder ≤ limit }
-    ensures { IfOk result (λ position. (bodies : List LamBodyRecord) (tree : Tree) → IsNotedIn bodies noted.now → ShowsWith bodies nodes.now id.0 tree → position ≡ deep_node limit (kid_depth holder (kind_of tree)) tree) }
+    ensures { IfOk result (λ position. (bodies : List LamBodyRecord) (tree : Tree) → IsNotedIn bodies noted.now
+        → ShowsWith bodies nodes.now id.0 tree → position ≡ deep_node limit (kid_depth holder (kind_of tree)) tree) }
 {
     let node = nodes.node(id);
     let Some(depth) = depth_within(node.kind, holder, limit) else {

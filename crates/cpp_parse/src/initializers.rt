@@ -4,7 +4,8 @@ ghost use Rattle.std.specs.Prelude.{◌≡◌, ◌≤◌, true, false, length, S
 ghost use Rattle.cpp_ast.specs.declared.kinds.NodeKind.TheVariants.{EqualInitializer, ParenthesizedInitializer};
 ghost use Rattle.cpp_syntax.specs.Source.{terminal_at};
 ghost use Rattle.cpp_syntax.specs.Terminals.{equal, open_paren, close_paren, comma};
-ghost use Rattle.cpp_syntax.specs.Rules.{◌·◌, form, word, mark, node, optional, unless, parameters, block_declaration, init_declarator, initializer, braced_init_list, assignment_expression};
+ghost use Rattle.cpp_syntax.specs.Rules.{◌·◌, form, word, mark, node, optional, unless, parameters, block_declaration, init_declarator, initializer};
+ghost use Rattle.cpp_syntax.specs.Rules.{braced_init_list, assignment_expression};
 ghost use Rattle.cpp_syntax.specs.Grammar.{list, initializers};
 ghost use Rattle.cpp_syntax.specs.FirstSets.{need_not_name};
 ghost use Rattle.cpp_syntax.specs.Names.{naming_of};
@@ -182,7 +183,8 @@ fn parenthesized_initializer(
     out: &mut Builder,
 ) -> Result<Option<usize>, AllocError>
     requires here { at ≤ length text.now.terminals }
-    ensures { ParsesLongest text.now (unless parameters (node ParenthesizedInitializer (mark open_paren · list (form assignment_expression) · word close_paren))) at None out.old out.new result }
+    ensures { ParsesLongest text.now (unless parameters (node ParenthesizedInitializer (mark open_paren
+        · list (form assignment_expression) · word close_paren))) at None out.old out.new result }
 {
     if !text.is_at(at, Terminal::OpenParen) {
         out.expected_at(at);

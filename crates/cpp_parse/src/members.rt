@@ -5,7 +5,8 @@ ghost use Rattle.cpp_syntax.specs.Source.{terminal_at};
 ghost use Rattle.cpp_syntax.specs.FirstSets.{first_of_types};
 ghost use Rattle.cpp_syntax.specs.Rules.{◌∣◌, form, member_declaration};
 ghost use Rattle.cpp_syntax.specs.Parsed.{ParsesLongest, NoneOf};
-ghost use Rattle.cpp_parse.specs.Alternatives.{access_label, single_declaration, initialized_declaration, listed_declaration, member_function, constructor_declared, constructor_defined, destructor_declared, destructor_defined};
+ghost use Rattle.cpp_parse.specs.Alternatives.{access_label, single_declaration, initialized_declaration, listed_declaration, member_function};
+ghost use Rattle.cpp_parse.specs.Alternatives.{constructor_declared, constructor_defined, destructor_declared, destructor_defined};
 ghost use Rattle.cpp_parse.specs.Answers.{ShapeFound, IsConstructor, IsDestructor, ParametersSeen};
 
 use crate::constructors::{constructor_body, plain_constructor, plain_destructor};

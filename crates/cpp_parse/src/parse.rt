@@ -1,6 +1,6 @@
 //! The one call of this crate.
 
-ghost use Rattle.std.specs.Prelude.{◌≡◌, ◌≤◌, IfOk, length, map};
+ghost use Rattle.std.specs.Prelude.{◌≡◌, ◌≤◌, ℕ, IfOk, Err, length, map};
 ghost use Rattle.cpp_lex.specs.Tokens.{lexeme_of, lexemes_of};
 ghost use Rattle.cpp_syntax.specs.Classes.{source_of};
 ghost use Rattle.cpp_parse.specs.Units.{ParsesUnit};
@@ -13,6 +13,7 @@ use crate::depth::{bodies_by_node, first_deep_kid};
 use crate::statements::compound_statement;
 use cpp_ast::{LamBody, NodeId, Nodes, Unit};
 use cpp_lex::{Token, Tokens};
+use cpp_nests::first_nested;
 use cpp_parse_expr::ParseFault;
 use cpp_parse_expr::parse::token_at;
 use cpp_syntax::limits::{MAX_DEPTH, MAX_NESTED_BODIES, MAX_NESTED_CALLS, MAX_NESTED_SEARCHES};
@@ -64,8 +65,10 @@ enum Answer {
 /// Its trees are those of the grammar ([`cpp_syntax`]): its declarations, with the body of each lambda as its last kid.
 ///
 /// `Syntax` comes exactly where the tokens are no unit; its token is the last up to which a reader came, and their number stands for the end
-/// of the text. `Nesting` comes exactly where they are a unit that nests deeper than 200; its token is that of the first node that does.
-/// `Memory` comes where memory ran out, or where the text nests further than calls may be nested.
+/// of the text. `Nesting` comes where they are a unit that nests deeper than 200; its token is that of the first node that does. It comes
+/// also where no room is left for further nested calls, if more than 200 constructs are open at a token by brackets, operators and words
+/// of statements alone ([`cpp_nests`]), whether or not the tokens are a unit; it names the first such token.
+/// `Memory` comes where memory ran out, and where no room is left and no token has so many.
 pub fn parse_unit(alloc: Global, source: u32, tokens: &Tokens) -> Result<Unit, ParseFault>
     requires { length tokens.now.items.items ≤ MAX_TOKENS }
     ensures { ParsesUnit source (lexemes_of tokens.now) result }
@@ -74,7 +77,20 @@ pub fn parse_unit(alloc: Global, source: u32, tokens: &Tokens) -> Result<Unit, P
         Ok(Answer::Parsed(unit)) => Ok(unit),
         Ok(Answer::Refused { token }) => Err(ParseFault::Syntax { token }),
         Ok(Answer::TooDeep { token }) => Err(ParseFault::Nesting { token }),
-        Err(_) => Err(ParseFault::Memory),
+        Err(_) => Err(fault_without_room(alloc, tokens)),
+    }
+}
+
+/// What is answered where no memory was left, or no room for further nested calls: the first token that lies too deep by
+/// brackets, operators and words of statements, if one does.
+fn fault_without_room(alloc: Global, tokens: &Tokens) -> ParseFault
+    requires { length tokens.now.items.items ≤ MAX_TOKENS }
+    ensures { (source : ℕ) → ParsesUnit source (lexemes_of tokens.now) (Err result) }
+{
+    match first_nested(alloc, tokens, MAX_DEPTH) {
+        Ok(Some(token)) => ParseFault::Nesting { token },
+        Ok(None) => ParseFault::Memory,
+        Err(_) => ParseFault::Memory,
     }
 }
 

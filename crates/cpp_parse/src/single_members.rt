@@ -7,7 +7,8 @@ ghost use Rattle.cpp_syntax.specs.Rules.{form, node, optional, word, member_decl
 ghost use Rattle.cpp_syntax.specs.Types.{is_not_zero};
 ghost use Rattle.cpp_syntax.specs.View.{BuilderState};
 ghost use Rattle.cpp_syntax.specs.Parsed.{ParsesLongest, ParsesAlways};
-ghost use Rattle.cpp_parse.specs.Alternatives.{single_declaration, initialized_declaration, listed_declaration, more_members, member_function, member_function_alone, pure_specifier, value, value_but_zero};
+ghost use Rattle.cpp_parse.specs.Alternatives.{single_declaration, initialized_declaration, listed_declaration, more_members, member_function};
+ghost use Rattle.cpp_parse.specs.Alternatives.{member_function_alone, pure_specifier, value, value_but_zero};
 
 use crate::specifiers::{
     declared_token, node_from, optional_attribute, optional_inline, optional_virtual,

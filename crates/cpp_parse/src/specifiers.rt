@@ -2,9 +2,9 @@
 
 ghost use Rattle.std.specs.Prelude.{◌≡◌, ◌≤◌, OnOk, OnErr, false, length, Some, None, option_map};
 ghost use Rattle.cpp_ast.specs.declared.kinds.NodeKind.TheVariants.{FunctionDeclarator};
-ghost use Rattle.cpp_syntax.specs.Source.{terminal_at};
+ghost use Rattle.cpp_syntax.specs.Source.{terminal_at, position_at};
 ghost use Rattle.cpp_syntax.specs.Derivations.{Read, reads_node, positioned, position_of_first, token_of_name, declared_in};
-ghost use Rattle.cpp_syntax.specs.Rules.{at_token, at_name, form, declaration_head, many, optional};
+ghost use Rattle.cpp_syntax.specs.Rules.{at_name, form, declaration_head, many, optional};
 ghost use Rattle.cpp_syntax.specs.Grammar.{virt_specifiers};
 ghost use Rattle.cpp_syntax.specs.View.{BuilderState, appended, is_lambda, IsMark};
 ghost use Rattle.cpp_syntax.specs.Parsed.{ParsesLongest, ParsesAlways};
@@ -21,14 +21,14 @@ use std::alloc::AllocError;
 /// A node of the trees that were read since the start, which has its position where its token is.
 pub fn node_at_token(
     text: &TypeNames,
-    at: usize,
     kind: NodeKind,
     token: u32,
     start: Checkpoint,
     out: &mut Builder,
 ) -> Result<(), AllocError>
     requires { is_lambda kind ≡ false }
-    ensures read { OnOk result ((before : BuilderState) (got : Read) → IsMark start before → out.old ≡ appended before got → out.new ≡ appended before (reads_node kind (positioned at_token text.now at (Some token) got.trees) (Some token) got)) }
+    ensures read { OnOk result ((before : BuilderState) (got : Read) → IsMark start before → out.old ≡ appended before got
+        → out.new ≡ appended before (reads_node kind (position_at text.now token) (Some token) got)) }
     ensures memory { OnErr result (out.new ≡ out.old) }
 {
     out.node(
@@ -50,7 +50,8 @@ pub fn node_from(
 ) -> Result<(), AllocError>
     requires here { at ≤ length text.now.terminals }
     requires kind { is_lambda kind ≡ false }
-    ensures read { OnOk result ((before : BuilderState) (got : Read) → IsMark start before → out.old ≡ appended before got → out.new ≡ appended before (reads_node kind (positioned at_name text.now at (Some at) got.trees) (Some at) got)) }
+    ensures read { OnOk result ((before : BuilderState) (got : Read) → IsMark start before → out.old ≡ appended before got
+        → out.new ≡ appended before (reads_node kind (positioned at_name text.now at (Some at) got.trees) (Some at) got)) }
     ensures memory { OnErr result (out.new ≡ out.old) }
 {
     // There are few tokens, so each has a number.
@@ -66,7 +67,8 @@ pub fn wrap_parameters(
     out: &mut Builder,
 ) -> Result<(), AllocError>
     requires here { at ≤ length text.now.terminals }
-    ensures read { OnOk result ((before : BuilderState) (got : Read) → IsMark start before → out.old ≡ appended before got → out.new ≡ appended before (reads_node FunctionDeclarator (position_of_first text.now at got.trees) (Some at) got)) }
+    ensures read { OnOk result ((before : BuilderState) (got : Read) → IsMark start before → out.old ≡ appended before got
+        → out.new ≡ appended before (reads_node FunctionDeclarator (position_of_first text.now at got.trees) (Some at) got)) }
     ensures memory { OnErr result (out.new ≡ out.old) }
 {
     // There are few tokens, so each has a number.

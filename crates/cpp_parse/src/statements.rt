@@ -8,7 +8,8 @@ ghost use Rattle.cpp_syntax.specs.Rules.{form, optional, expression, compound_st
 ghost use Rattle.cpp_syntax.specs.Grammar.{condition};
 ghost use Rattle.cpp_syntax.specs.Parsed.{Leaves, ParsesLongest, ParsesAlways};
 ghost use Rattle.cpp_syntax.specs.View.{is_lambda};
-ghost use Rattle.cpp_parse.specs.Lines.{declaration_or_expression, expression_statement, if_statement, switch_statement, labelled, case_statement, default_statement, return_statement, jump};
+ghost use Rattle.cpp_parse.specs.Lines.{declaration_or_expression, expression_statement, if_statement, switch_statement, labelled, case_statement};
+ghost use Rattle.cpp_parse.specs.Lines.{default_statement, return_statement, jump};
 ghost use Rattle.cpp_syntax.specs.declared.limits.TheConstants.{MAX_TOKENS};
 
 use crate::blocks::{marked_block, try_block};

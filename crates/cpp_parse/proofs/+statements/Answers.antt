@@ -1,12 +1,15 @@
 -- What the readers of statements answer.
 use Rattle.std.proofs.Common.{refl, sym as back, ◌∙◌, ap, arith, Some, None, Ok}
 use Rattle.cpp_syntax.specs.declared.terminal.Terminal.TheVariants as terminal
-use Rattle.cpp_syntax.specs.Terminals.{if_word, else_word, while_word, do_word, for_word, switch_word, case_word, default_word, break_word, continue_word, return_word, try_word, catch_word, synchronized_word, is_atomic, is_end, open_paren, close_paren, open_brace, close_brace, semicolon, colon}
+use Rattle.cpp_syntax.specs.Terminals.{if_word, else_word, while_word, do_word, for_word, switch_word, case_word, default_word, break_word, continue_word}
+use Rattle.cpp_syntax.specs.Terminals.{return_word, try_word, catch_word, synchronized_word, is_atomic, is_end, open_paren, close_paren, open_brace}
+use Rattle.cpp_syntax.specs.Terminals.{close_brace, semicolon, colon}
 use Rattle.cpp_syntax.proofs.SingleTerminals.{passed, refused}
 use Rattle.cpp_syntax.proofs.FirstTerminals.{not_empty}
 use Rattle.cpp_syntax.proofs.IndependentDerivations.{free_none}
 use Rattle.cpp_syntax.proofs.LongestMatches.{mark_none, word_none, node_none, form_none, seq_none, neither, before_none}
-use Rattle.cpp_syntax.proofs.Readers.{appended_none, leaves_none, leaves_same, leaves_both, leaves_read, reads_seq, reads_mark, reads_form, reads_right, none_behind, none_seq, none_form, none_node}
+use Rattle.cpp_syntax.proofs.Readers.{appended_none, leaves_none, leaves_same, leaves_both, leaves_read, reads_seq, reads_mark, reads_form, reads_right}
+use Rattle.cpp_syntax.proofs.Readers.{none_behind, none_seq, none_form, none_node}
 use Rattle.cpp_syntax.proofs.ReaderLoops.{within, reads_before, any_begins, any_more, loop_begins, loop_more}
 use Rattle.cpp_parse_expr.proofs.ReaderAnswers.{made, mark_and, word_and, leaf_there, none_unlike, none_second, none_second_mark, leaves_chain, parsed_err}
 use Rattle.cpp_parse_expr.proofs.DeclaratorSuffixes.{leaves_many}

@@ -71,62 +71,129 @@ fn depth_is_limited(rt: HostRuntime) -> Result<(), Fail> {
     Ok(())
 }
 
-// No text ends the stack of calls.
+// A text that nests further than calls may be nested is refused at the first token where more than 200 constructs are open.
 #[test]
-fn the_deepest_texts_end_in_want_of_memory(rt: HostRuntime) -> Result<(), Fail> {
+fn the_deepest_texts_nest_too_deep(rt: HostRuntime) -> Result<(), Fail> {
     let alloc = rt.alloc();
     let nests = [
-        PARENTHESES,
-        BRACES,
-        Nest {
-            first: "int ",
-            opens: "*",
-            middle: "x",
-            closes: "",
-            last: ";",
-        },
-        Nest {
-            first: "return ",
-            opens: "*",
-            middle: "x",
-            closes: "",
-            last: ";",
-        },
-        Nest {
-            first: "return ",
-            opens: "!",
-            middle: "x",
-            closes: "",
-            last: ";",
-        },
-        Nest {
-            first: "",
-            opens: "if(0)",
-            middle: ";",
-            closes: "",
-            last: "",
-        },
-        Nest {
-            first: "",
-            opens: "case 0:",
-            middle: ";",
-            closes: "",
-            last: "",
-        },
-        Nest {
-            first: "x = ",
-            opens: "[]{x=",
-            middle: "0",
-            closes: ";}",
-            last: ";",
-        },
+        (PARENTHESES, "Nesting 205"),
+        (BRACES, "Nesting 204"),
+        (
+            Nest {
+                first: "int ",
+                opens: "*",
+                middle: "x",
+                closes: "",
+                last: ";",
+            },
+            "Nesting 205",
+        ),
+        (
+            Nest {
+                first: "return ",
+                opens: "!(",
+                middle: "x",
+                closes: ")",
+                last: ";",
+            },
+            "Nesting 205",
+        ),
+        (
+            Nest {
+                first: "return ",
+                opens: "!",
+                middle: "x",
+                closes: "",
+                last: ";",
+            },
+            "Nesting 205",
+        ),
+        (
+            Nest {
+                first: "",
+                opens: "if(0)",
+                middle: ";",
+                closes: "",
+                last: "",
+            },
+            "Nesting 798",
+        ),
+        (
+            Nest {
+                first: "",
+                opens: "if(0);else ",
+                middle: ";",
+                closes: "",
+                last: "",
+            },
+            "Nesting 1194",
+        ),
+        (
+            Nest {
+                first: "",
+                opens: "case 0:",
+                middle: ";",
+                closes: "",
+                last: "",
+            },
+            "Nesting 602",
+        ),
+        (
+            Nest {
+                first: "x = ",
+                opens: "[]{x=",
+                middle: "0",
+                closes: ";}",
+                last: ";",
+            },
+            "Nesting 502",
+        ),
+        (
+            Nest {
+                first: "",
+                opens: "x=",
+                middle: "0",
+                closes: "",
+                last: ";",
+            },
+            "Nesting 404",
+        ),
+        (
+            Nest {
+                first: "",
+                opens: "x?x:",
+                middle: "0",
+                closes: "",
+                last: ";",
+            },
+            "Nesting 802",
+        ),
+        (
+            Nest {
+                first: "",
+                opens: "x?",
+                middle: "0",
+                closes: ":x",
+                last: ";",
+            },
+            "Nesting 404",
+        ),
     ];
-    for nest in nests.iter() {
-        assert_eq!(rt; nested(&rt, alloc, nest, 20_000)?.as_str(), "Memory");
+    for (nest, expected) in nests {
+        assert_eq!(rt; nested(&rt, alloc, &nest, 600)?.as_str(), expected);
     }
     assert_eq!(rt;
-        nested(&rt, alloc, &PARENTHESES, 100_000)?.as_str(),
-        "Memory"
+        nested(&rt, alloc, &PARENTHESES, 20_000)?.as_str(),
+        "Nesting 205"
     );
+    // Casts alone open nothing that these count.
+    let casts = Nest {
+        first: "return ",
+        opens: "(int)",
+        middle: "0",
+        closes: "",
+        last: ";",
+    };
+    assert_eq!(rt; nested(&rt, alloc, &casts, 600)?.as_str(), "Memory");
     Ok(())
 }

@@ -6,8 +6,10 @@ use Rattle.cpp_syntax.specs.Rules.{initializer}
 use Rattle.cpp_syntax.proofs.SingleTerminals.{passed, refused}
 use Rattle.cpp_syntax.proofs.CommaLists.{are_initializers}
 use Rattle.cpp_syntax.proofs.LongestMatches.{mark_none, word_none, seq_none}
-use Rattle.cpp_syntax.proofs.Readers.{leaves_none, leaves_same, leaves_both, leaves_read, reads_seq, reads_word, reads_form, reads_taken, reads_left_out, none_behind, none_form, none_node}
-use Rattle.cpp_parse_expr.proofs.ReaderAnswers.{made, mark_and, word_and, none_unlike, none_second_mark, parsed_left, parsed_right, parsed_form, parsed_err, always_err}
+use Rattle.cpp_syntax.proofs.Readers.{leaves_none, leaves_same, leaves_both, leaves_read, reads_seq, reads_word, reads_form, reads_taken, reads_left_out}
+use Rattle.cpp_syntax.proofs.Readers.{none_behind, none_form, none_node}
+use Rattle.cpp_parse_expr.proofs.ReaderAnswers.{made, mark_and, word_and, none_unlike, none_second_mark, parsed_left, parsed_right, parsed_form, parsed_err}
+use Rattle.cpp_parse_expr.proofs.ReaderAnswers.{always_err}
 use Rattle.cpp_parse.proofs.TrailingCommas.{list_begins, list_more, leaves_listed, initializers_and_comma, initializers_alone}
 use Rattle.cpp_parse.proofs.initializers.+initializers.Goals as goal
 

@@ -7,7 +7,8 @@ use Rattle.cpp_syntax.proofs.Readers.{leaves_both, leaves_read, none_behind, non
 use Rattle.cpp_parse_expr.proofs.ReaderAnswers.{none_unlike, none_second_mark}
 use Rattle.cpp_parse.proofs.LongestAlone.{reached, shape_err}
 use Rattle.cpp_parse.proofs.NamedDeclarators.{none_grouped}
-use Rattle.cpp_parse.proofs.MemberShapes.{no_single, no_initialized, no_listed, no_function_body, not_pure, not_closed, zero_alone, comma_behind, comma_open, no_more, no_value, no_equal_listed}
+use Rattle.cpp_parse.proofs.MemberShapes.{no_single, no_initialized, no_listed, no_function_body, not_pure, not_closed, zero_alone, comma_behind, comma_open}
+use Rattle.cpp_parse.proofs.MemberShapes.{no_more, no_value, no_equal_listed}
 use Rattle.cpp_parse.proofs.members.member_shape.Goals as goal
 
 pub returns-in_err-named : goal.returns-in_err-named
