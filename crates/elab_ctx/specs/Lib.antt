@@ -1,3 +1,5 @@
 pub mod Ctx
+pub mod Operands
 pub mod Says
+pub mod Sized
 pub mod Steps

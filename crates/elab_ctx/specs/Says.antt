@@ -1,6 +1,7 @@
 -- What answers of elaboration say of what is to be answered.
-use Rattle.std.specs.Prelude.{◌≡◌, ◌<◌, ℕ, Bool, true, nat_lt, List, [], ◌∷◌, length, Result, Ok, Err}
+use Rattle.std.specs.Prelude.{◌≡◌, ◌<◌, ℕ, Bool, true, nat_lt, Vec, List, [], ◌∷◌, length, Result, Ok, Err}
 use Rattle.std.specs.List.{list_all}
+use Rattle.std.specs.declared.alloc.Global.{Global}
 use Rattle.cpp_types.specs.declared.classes.At.{At}
 use Rattle.cpp_tree.specs.declared.faults.ElabFault.{ElabFault}
 use Rattle.cpp_tree.specs.declared.faults.ElabFault.TheVariants.{Ill, Override, JumpIntoBlock, Limit, Memory}
@@ -50,3 +51,29 @@ are_within n ids = list_all (λ (id : TNodeId). nat_lt id.0 n) ids
 abbrev pub Tells : {A : Type 0} → Result A ElabFault → Result A ElabFault → Type 0
 Tells (Ok a) x = x ≡ Ok a
 Tells (Err e) x = Faults e x
+
+-- Where nothing can be refused but for want of memory
+
+-- these trees were added or stood there before
+pub record AddsAll (old new : List Tree) (ids : List TNodeId) (trees : Trees) : Type 0 where
+  pub grows : Grows old new
+  pub within : are_within (length new) ids ≡ true
+  pub are : trees_at new ids ≡ trees
+
+-- a tree was added, or stood there before, and this was made with it
+pub record Puts (old new : List Tree) (work : Work) (r : TNodeId) (m : Made) : Type 0 where
+  pub grows : Grows old new
+  pub within : r.0 < length new
+  pub is : tree_at new r ≡ m.tree
+  pub work_is : work ≡ m.work
+
+-- Several trees that are to be answered
+
+pub record AllMade (old new : List Tree) (work : Work) (ids : List TNodeId) (x : Result MadeAll ElabFault) : Type 0 where
+  pub grows : Grows old new
+  pub within : are_within (length new) ids ≡ true
+  pub is : x ≡ Ok (record { trees = trees_at new ids; work = work })
+
+abbrev pub MakesAll : List Tree → List Tree → Work → Result (Vec TNodeId Global) ElabFault → Result MadeAll ElabFault → Type 0
+MakesAll old new work (Ok v) x = AllMade old new work v.items x
+MakesAll old new work (Err e) x = Faults e x

@@ -1,5 +1,9 @@
 // What is declared where a form stands, and what is made there.
 
+ghost use Rattle.std.specs.Prelude.{◌≡◌, true};
+ghost use Rattle.cpp_types.specs.Class.{classes_of};
+ghost use Rattle.cpp_types.specs.Order.{all_consistent};
+
 use cpp_names::Scopes;
 use cpp_tree::{Builtin, FuncKind, Linkage, SlotRec, TGlobal, TNode, TNodeId, TParam};
 use cpp_types::{At, ClassRec, FuncRec, Ty};
@@ -185,6 +189,8 @@ pub struct Env {
     pub labels: Labels,
     pub lambda: Option<Lambda>,
     pub closures: Vec<Closure>,
+    /// The classes are in order, so that their objects have sizes.
+    pub ghost in_order: { all_consistent (classes_of classes.items) ≡ true },
 }
 
 /// What is made: typed nodes, the frame of the function at hand, and the globals of the unit, strings among them.

@@ -2,9 +2,16 @@
 #![tactic(auto)]
 
 pub mod env;
+pub mod lookups;
 pub mod nodes;
+pub mod operand;
+pub mod work;
 
 pub use env::{
     Capture, Closure, DefaultInit, EnumRec, Env, FuncDecl, Label, Labels, Lambda, Returns, Special,
     This, Traits, TypeName, Variable, Work,
 };
+pub use lookups::{class_at, completion, extent, function_at, size_of, traits_of_class};
+pub use nodes::{kids_at, node_at};
+pub use operand::Operand;
+pub use work::add_item;

@@ -23,12 +23,12 @@ use Rattle.cpp_types.specs.declared.classes.Safety.TheVariants.{None as NoSafety
 use Rattle.cpp_tree.specs.declared.faults.ElabFault.{ElabFault}
 use Rattle.cpp_tree.specs.declared.faults.ElabFault.TheVariants.{Ill}
 use Rattle.cpp_tree.specs.declared.faults.IllRule.TheVariants.{NoConversion, NoViable, Ambiguous, Incomplete, AbstractObject, NoDefault, NoCopy, BadInit, OutOfProfile, BadDeclaration}
-use Rattle.cpp_tree.specs.Trees.{Tree, node, Trees, none, more, one, two, three, typ_in, cat_of, nowhere}
+use Rattle.cpp_tree.specs.Trees.{Tree, node, Trees, none, more, one, two, three, kind_of, typ_in, cat_of, kids_of, nowhere}
 use Rattle.cpp_tree.specs.Notation.{plain}
 use Rattle.cpp_tree.specs.Typing.{form_in, is_volatile_typ, unqualified, qualified, is_class_typ, kind_in, is_class_prvalue}
 use Rattle.elab_ctx.specs.Ctx.{Ctx, Work, Func, Traits, Special, absent, trivial, function, with_item, next_place}
 use Rattle.elab_ctx.specs.Steps.{and_then, expect, check, Operand, Made, MadeAll}
-use Rattle.elab_rules.specs.Values.{retyped, valued, stepped, stored, builder, temporary, converted}
+use Rattle.elab_rules.specs.Values.{place_of, retyped, valued, stepped, stored, builder, temporary, converted}
 use Rattle.elab_rules.specs.Objects.{class_in, element_of, count_in, size_of, is_array, zeros, copies, destroys, followed_by, traits_at, no_traits, parts_of, Part, pieces}
 
 -- Temporaries and references
@@ -145,11 +145,14 @@ abbrev pub copied_in_place : Ctx → Work → ℕ → Typ → At → Operand →
 copied_in_place c w n t at o = with_tree (λ (s : Tree). node CopyFrom t Prvalue at (two (as_source o.at n s) (copies c.classes at t))) (object_of c w o.at o.tree)
 
 -- the initialiser of an object of this type, which has the qualifiers of that object; what is called has its own type
+abbrev pub rebuilt : TKind → Typ → Tree → Tree
+rebuilt (Construct k) t e = node (Construct k) t (cat_of e) (place_of e) (kids_of e)
+rebuilt CopyFrom t e = node CopyFrom t (cat_of e) (place_of e) (kids_of e)
+rebuilt Pieces t e = node Pieces t (cat_of e) (place_of e) (kids_of e)
+rebuilt kind t e = e
+
 abbrev pub building : Typ → Tree → Tree
-building t (node (Construct k) u cat at kids) = node (Construct k) t cat at kids
-building t (node CopyFrom u cat at kids) = node CopyFrom t cat at kids
-building t (node Pieces u cat at kids) = node Pieces t cat at kids
-building t e = e
+building t e = rebuilt (kind_of e) t e
 
 -- a word that is passed: an object of its own for a parameter of class type, made first, else a value or what a reference is bound to
 abbrev pub argument_object : Work → Typ → At → Trees → Made → Made
@@ -220,7 +223,7 @@ class_from c w (typ (closure n) q v) at o = if is_prvalue_of_class n o.tree then
 class_from c w (typ (class n) q v) at o = and_then (makeable c at n) (λ k. if is_prvalue_of_class n o.tree then Ok (record { tree = building (typ (class n) q v) o.tree; work = w }) else
     and_then (check (o.at) NoConversion (is_same_or_base c.classes (class_number (typ_in o.tree)) (Some n))) (λ y. copied_object c w n (typ (class n) q v) at o))
 class_from c w (typ (tx_ex t) q v) at o = and_then (check (o.at) NoConversion (form_eq (form_in (typ_in o.tree)) (tx_ex t))) (λ y.
-    if is_class_prvalue (typ_in o.tree) (cat_of o.tree) then Ok (record { tree = builder o.tree; work = w }) else Ok (record { tree = node CopyFrom t Prvalue at (two o.tree (copies c.classes at t)); work = w }))
+    if is_class_prvalue (typ_in o.tree) (cat_of o.tree) then Ok (record { tree = builder o.tree; work = w }) else Ok (record { tree = node CopyFrom (typ (tx_ex t) q v) Prvalue at (two o.tree (copies c.classes at t)); work = w }))
 class_from c w t at o = Err (Ill (o.at) NoConversion)
 
 abbrev pub passed : Ctx → Work → Typ → Operand → Result Made ElabFault

@@ -20,7 +20,7 @@ use Rattle.cpp_tree.specs.declared.kinds.TKind.{TKind}
 use Rattle.cpp_tree.specs.declared.kinds.TKind.TheVariants.{Literal, Load, Convert, Retype, Binary, Materialize, Store}
 use Rattle.cpp_tree.specs.declared.faults.ElabFault.{ElabFault}
 use Rattle.cpp_tree.specs.declared.faults.IllRule.TheVariants.{NoConversion}
-use Rattle.cpp_tree.specs.Trees.{Tree, node, Trees, none, more, one, two, typ_in, cat_of}
+use Rattle.cpp_tree.specs.Trees.{Tree, node, Trees, none, more, one, two, kind_of, typ_in, cat_of, kids_of}
 use Rattle.cpp_tree.specs.Notation.{plain}
 use Rattle.cpp_tree.specs.Typing.{form_in, is_volatile_typ, unqualified, is_class_typ, kind_in, is_class_prvalue}
 use Rattle.elab_ctx.specs.Ctx.{Ctx, Work, with_item, next_place}
@@ -95,9 +95,16 @@ stepped at step t v = converted at t v
 -- Objects and temporaries
 
 -- what builds the object that a class prvalue stands for; one of a `std::tx_exception` is built as the value in it
+abbrev pub only_tree : Trees → Tree → Tree
+only_tree (more e none) t = e
+only_tree ts t = t
+
+abbrev pub built_by : TKind → Typ → Cat → Trees → Tree → Tree
+built_by Retype (typ (tx_ex u) c v) Prvalue kids t = only_tree kids t
+built_by kind u cat kids t = t
+
 abbrev pub builder : Tree → Tree
-builder (node Retype (typ (tx_ex t) c v) Prvalue at (more e none)) = e
-builder t = t
+builder t = built_by (kind_of t) (typ_in t) (cat_of t) (kids_of t) t
 
 abbrev pub temporary : Work → Typ → At → Tree → Trees → Made
 temporary w t at init destroys = record { tree = node (Materialize (next_place w) false) t Lvalue at (more init destroys); work = with_item w t }

@@ -1,0 +1,22 @@
+-- Classes whose objects have sizes.
+use Rattle.std.proofs.Common.{◌≡◌, ℕ, Bool, true, false, List, Option, Some, None, is_some, refl, sym, ◌∙◌, ap}
+use Rattle.cpp_types.specs.Typ.{Form}
+use Rattle.cpp_types.specs.Class.{Class, InOrder, completion_of, held_form}
+use Rattle.cpp_types.specs.Order.{all_consistent}
+use Rattle.cpp_types.proofs.OrderTests.{order_is}
+use Rattle.cpp_layout.specs.Measured.{IsComplete, HoldsComplete}
+use Rattle.elab_ctx.specs.Sized.{is_known, is_whole}
+
+pub in_order : (classes : List Class) → all_consistent classes ≡ true → InOrder classes
+in_order classes h = (order_is true classes (sym h)).0 refl
+
+complete_by : (classes : List Class) (n : ℕ) (o : Option ℕ) → completion_of classes n ≡ o → is_some o ≡ true → IsComplete classes n
+complete_by classes n None e h = absurd cc
+complete_by classes n (Some k) e h = record { number = k; complete = e }
+
+known_at : (classes : List Class) (o : Option ℕ) → is_known classes o ≡ true → (e : ℕ) → o ≡ Some e → IsComplete classes e
+known_at classes None h e q = absurd cc
+known_at classes (Some n) h e q = complete_by classes e (completion_of classes e) refl (let s : n ≡ e = cc in ap (λ (z : ℕ). is_some (completion_of classes z)) (sym s) ∙ h)
+
+pub holds_complete : (classes : List Class) (f : Form) → is_whole classes f ≡ true → HoldsComplete classes f
+holds_complete classes f h = record { held = λ e q. known_at classes (held_form f) h e q }
