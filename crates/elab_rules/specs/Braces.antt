@@ -2,7 +2,7 @@
 use Rattle.std.specs.Prelude.{ℕ, zero, suc, ◌+◌, ◌-◌, ◌*◌, ◌==◌, nat_le, nat_lt, Bool, true, false, not, ◌&&◌, ◌||◌, List, [], ◌∷◌, ◌++◌, length, Option, Some, None, is_some, is_none, Result, Ok, Err, if◌then◌else◌, slice_get, drop, option_map}
 use Rattle.std.specs.Ordering.{int_eq}
 use Rattle.tx_ints.specs.declared.kinds.IntKind.{IntKind}
-use Rattle.tx_ints.specs.declared.kinds.IntKind.TheVariants.{Char, Bool as BoolKind}
+use Rattle.tx_ints.specs.declared.kinds.IntKind.TheVariants.{Char, Bool as BoolKind, SChar, UChar}
 use Rattle.tx_ints.specs.Integers.{represents, convert_of}
 use Rattle.tx_ints.specs.Words.{value_of_word}
 use Rattle.cpp_types.specs.Typ.{Typ, typ, Form, void, int, enum, null, ptr, ref, array, func, class, closure, tx_ex}
@@ -14,19 +14,19 @@ use Rattle.cpp_ast.specs.declared.kinds.NodeKind.{NodeKind}
 use Rattle.cpp_ast.specs.declared.kinds.NodeKind.TheVariants as k
 use Rattle.cpp_ast.specs.Trees as syntax
 use Rattle.cpp_tree.specs.declared.kinds.TKind.{TKind}
-use Rattle.cpp_tree.specs.declared.kinds.TKind.TheVariants.{Literal, Local, Load, Materialize, Pieces, Piece, Elements, Store}
+use Rattle.cpp_tree.specs.declared.kinds.TKind.TheVariants.{Literal, Local, Load, Materialize, Pieces, Piece, Elements, Store, FullExpression}
 use Rattle.cpp_tree.specs.declared.faults.ElabFault.{ElabFault}
 use Rattle.cpp_tree.specs.declared.faults.ElabFault.TheVariants.{Ill}
 use Rattle.cpp_tree.specs.declared.faults.IllRule.TheVariants.{BadInit, Narrowing, NoConversion, OutOfProfile, Incomplete}
 use Rattle.cpp_tree.specs.Trees.{Tree, node, Trees, none, more, one, typ_in, cat_of}
 use Rattle.cpp_tree.specs.Notation.{plain}
-use Rattle.cpp_tree.specs.Typing.{form_in, qualified, unqualified, is_class_typ}
+use Rattle.cpp_tree.specs.Typing.{form_in, qualified, unqualified, is_class_typ, kind_in}
 use Rattle.elab_ctx.specs.Ctx.{Ctx, Work, Func, Default}
 use Rattle.elab_ctx.specs.Steps.{and_then, expect, check, Operand, Made, MadeAll, Typed, at_of, spelling}
 use Rattle.elab_rules.specs.Values.{stored, part_at, retyped}
 use Rattle.elab_rules.specs.Objects.{Part, size_of, destroys, zeros}
 use Rattle.elab_rules.specs.Initialising.{class_from, from_nothing, from_values, scalar_from, is_constructor, places_from, same_number, class_number, is_same_or_base}
-use Rattle.elab_rules.specs.Constants.{constant}
+use Rattle.elab_rules.specs.Constants.{constant, word_in}
 use Rattle.elab_rules.specs.Operators.{arithmetic, value}
 use Rattle.elab_rules.specs.Names.{members_in, offset_at, is_const_typ, is_volatile_object}
 use Rattle.elab_rules.specs.Strings.{string_bytes}
@@ -50,8 +50,14 @@ not_narrowed w t o m = and_then (check o.at Narrowing (is_not_narrowed w t o)) (
 
 -- Strings (8.5.2): a Store for each byte, and zeros behind them
 
+abbrev pub is_char : Form → Bool
+is_char (int Char) = true
+is_char (int SChar) = true
+is_char (int UChar) = true
+is_char f = false
+
 abbrev pub is_char_array : Typ → Bool
-is_char_array (typ (array (typ (int Char) c v) n) d w) = true
+is_char_array (typ (array t n) d w) = is_char (form_in t)
 is_char_array t = false
 
 abbrev pub string_token : syntax.Tree → Option ℕ
@@ -59,9 +65,14 @@ string_token (syntax.node k.StringLiteral p token kids) = token
 string_token (syntax.node k.ParenthesizedExpression p token (syntax.more e syntax.none)) = string_token e
 string_token t = None
 
+-- a byte as a value of the kind
+abbrev pub byte_word : Option IntKind → ℕ → ℕ
+byte_word (Some kind) b = word_in kind b
+byte_word None b = b
+
 abbrev pub byte_pieces : Typ → At → ℕ → List ℕ → Trees
 byte_pieces t at i [] = none
-byte_pieces t at i (b ∷ bs) = more (node (Piece i) t Prvalue at (one (stored at t (node (Literal b) (unqualified t) Prvalue at none)))) (byte_pieces t at (suc i) bs)
+byte_pieces t at i (b ∷ bs) = more (node (Piece i) t Prvalue at (one (stored at t (node (Literal (byte_word (kind_in (form_in t)) b)) (unqualified t) Prvalue at none)))) (byte_pieces t at (suc i) bs)
 
 abbrev pub zero_rest : Ctx → Typ → At → ℕ → ℕ → Trees
 zero_rest c t at i zero = none
@@ -80,13 +91,17 @@ string_object c t at bytes = Err (Ill at BadInit)
 abbrev pub moved_place : ℕ → ℕ → ℕ
 moved_place by place = place + by - 1
 
+-- the pointer `this` at a place
+abbrev pub ThisAt : Type 0
+ThisAt = At → Tree
+
 abbrev mutual
-  pub relocated : ℕ → Tree → Tree → Tree
-  relocated by this (node (Load kind false) t Prvalue at (more (node (Local zero) u cat p kids) none)) = this
+  pub relocated : ℕ → ThisAt → Tree → Tree
+  relocated by this (node (Load kind false) t Prvalue at (more (node (Local zero) u cat p kids) none)) = this at
   relocated by this (node (Materialize place argument) t cat at kids) = node (Materialize (moved_place by place) argument) t cat at (all_relocated by this kids)
   relocated by this (node kind t cat at kids) = node kind t cat at (all_relocated by this kids)
 
-  pub all_relocated : ℕ → Tree → Trees → Trees
+  pub all_relocated : ℕ → ThisAt → Trees → Trees
   all_relocated by this none = none
   all_relocated by this (more t ts) = more (relocated by this t) (all_relocated by this ts)
 
@@ -94,8 +109,16 @@ abbrev pub default_at : ℕ → ℕ → List Default → Option Default
 default_at n i [] = None
 default_at n i (d ∷ ds) = if d.class == n && d.member == i then Some d else default_at n i ds
 
-abbrev pub default_made : Work → Tree → Default → Made
-default_made w this d = record { tree = relocated (length w.frame) this d.init; work = record w { frame = w.frame ++ d.frame } }
+-- the initialiser as a whole, and as a part of one
+abbrev pub default_whole : Work → ThisAt → Default → Made
+default_whole w this d = record { tree = relocated (length w.frame) this d.init; work = record w { frame = w.frame ++ d.frame } }
+
+abbrev pub as_part : Tree → Tree
+as_part (node FullExpression t cat at (more e none)) = e
+as_part e = e
+
+abbrev pub default_made : Work → ThisAt → Default → Made
+default_made w this d = record { tree = as_part (default_whole w this d).tree; work = (default_whole w this d).work }
 
 -- Aggregates (8.5.1): a class without base, virtual functions and written constructors
 
@@ -117,8 +140,8 @@ abbrev pub is_aggregate_class : Ctx → ℕ → Bool
 is_aggregate_class c n = has_no_base (slice_get c.classes n) && is_empty (places_from (is_virtual_member n) 0 c.funcs) && is_empty (places_from (is_written_constructor n) 0 c.funcs)
 
 -- the object that the braces initialise: where `this` points in default member initialisers
-abbrev pub this_of : At → Typ → Tree → Tree
-this_of at t object = retyped at (plain (ptr t)) Prvalue object
+abbrev pub this_of : Typ → Tree → ThisAt
+this_of t object at = retyped at (plain (ptr t)) Prvalue object
 
 -- a piece of an object with its destructions
 abbrev pub piece : Ctx → ℕ → Typ → At → Tree → Tree
@@ -140,7 +163,7 @@ item_in c w t (array e n) o = Err (Ill o.at OutOfProfile)
 item_in c w t (class n) o = if is_aggregate_class c n && not (is_object_of c n o) then Err (Ill o.at OutOfProfile) else class_from c w t o.at o
 item_in c w t f o = if is_class_typ t then class_from c w t o.at o else and_then (scalar_from c w t o) (not_narrowed w t o)
 
-abbrev pub default_member : Ctx → Work → Tree → Typ → At → Option Default → Result Made ElabFault
+abbrev pub default_member : Ctx → Work → ThisAt → Typ → At → Option Default → Result Made ElabFault
 default_member c w this t at (Some d) = Ok (default_made w this d)
 default_member c w this t at None = and_then (from_nothing c t at) (λ (e : Tree). Ok (record { tree = e; work = w }))
 
@@ -150,7 +173,7 @@ tree_place (node kind t cat at kids) = at
 -- members behind the last item: by their default member initialisers, or from nothing
 abbrev pub rest_members : Ctx → Work → At → Tree → Typ → ℕ → ℕ → List Member → Result MadeAll ElabFault
 rest_members c w at object t n i [] = Ok (record { trees = none; work = w })
-rest_members c w at object t n i (m ∷ ms) = and_then (default_member c w (this_of at t object) (qualified (is_const_typ t) (is_volatile_object t) m.typ) at (default_at n i c.defaults)) (λ (x : Made).
+rest_members c w at object t n i (m ∷ ms) = and_then (default_member c w (this_of t object) (qualified (is_const_typ t) (is_volatile_object t) m.typ) at (default_at n i c.defaults)) (λ (x : Made).
     with_piece c (offset_at c.classes n i) (qualified (is_const_typ t) (is_volatile_object t) m.typ) (if is_some (default_at n i c.defaults) then tree_place x.tree else at) x (rest_members c x.work at object t n (suc i) ms))
 
 abbrev pub item_expression : List Lexeme → Ctx → Work → Typ → Option ℕ → At → Result Typed ElabFault → Result Made ElabFault

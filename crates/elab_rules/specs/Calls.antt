@@ -11,7 +11,7 @@ use Rattle.cpp_overload.specs.Overload.{Candidate}
 use Rattle.cpp_overload.specs.Choosing.{chosen}
 use Rattle.cpp_layout.specs.Layout.{has_class_pointer, base_items, class_extent, next_multiple, Extent, end_from}
 use Rattle.cpp_tree.specs.declared.kinds.TKind.{TKind}
-use Rattle.cpp_tree.specs.declared.kinds.TKind.TheVariants.{Call, VirtualCall, PointerCall, Builtin as BuiltinNode, Function, Default, Retype, CopyFrom}
+use Rattle.cpp_tree.specs.declared.kinds.TKind.TheVariants.{Call, VirtualCall, PointerCall, Builtin as BuiltinNode, Function, Default, Retype, CopyFrom, Load}
 use Rattle.cpp_tree.specs.declared.kinds.Builtin.{Builtin}
 use Rattle.cpp_tree.specs.declared.kinds.Builtin.TheVariants.{Abort}
 use Rattle.cpp_tree.specs.declared.faults.ElabFault.{ElabFault}
@@ -20,13 +20,14 @@ use Rattle.cpp_tree.specs.declared.faults.IllRule.TheVariants.{NotCallable, NoVi
 use Rattle.cpp_tree.specs.Trees.{Tree, node, Trees, none, more, one, two, typ_in, cat_of}
 use Rattle.cpp_tree.specs.Units.{SlotFunc}
 use Rattle.cpp_tree.specs.Notation.{plain}
-use Rattle.cpp_tree.specs.Typing.{form_in, unqualified, is_class_typ}
+use Rattle.cpp_tree.specs.Typing.{form_in, unqualified, is_class_typ, kind_in}
 use Rattle.elab_ctx.specs.Ctx.{Ctx, Work, Func}
 use Rattle.elab_ctx.specs.Steps.{and_then, expect, check, Operand, Made, MadeAll}
 use Rattle.elab_rules.specs.Values.{place_of, retyped, valued}
 use Rattle.elab_rules.specs.Objects.{copies, followed_by}
 use Rattle.elab_rules.specs.Initialising.{candidate, candidates_at, func_at, arguments, meant, words, places_from, same_number, class_number, as_base, signature_parameters, signature_result, object_of}
 use Rattle.elab_rules.specs.Names.{is_free, is_method, is_plain_kind}
+use Rattle.tx_ints.specs.declared.kinds.IntKind.{IntKind}
 
 -- What a call gives (C++14 5.2.2 p10): what a reference refers to, a class as it is, a scalar without qualifiers
 
@@ -121,8 +122,12 @@ abbrev pub call_method : Ctx → Work → At → ℕ → Tree → List Operand �
 call_method c w at k object os = and_then (expect at NotCallable (func_at c.funcs k).class) (λ n. call_method_of c w at n k object os)
 
 -- `get()` of a `std::tx_exception`: the value in it
+abbrev pub loaded_value : At → Option IntKind → Typ → Tree → Tree
+loaded_value at (Some kind) t e = node (Load kind false) t Prvalue at (one e)
+loaded_value at None t e = retyped at t Prvalue e
+
 abbrev pub exception_value : Ctx → At → Tree → Typ → Tree
-exception_value c at e (typ f d v) = if is_class_typ (typ f d v) then node CopyFrom (typ f false false) Prvalue at (two e (copies c.classes at (typ f false false))) else valued at (retyped at (typ f true false) Lvalue e)
+exception_value c at e (typ f d v) = if is_class_typ (typ f d v) then node CopyFrom (typ f false false) Prvalue at (two e (copies c.classes at (typ f false false))) else loaded_value at (kind_in f) (typ f false false) e
 
 abbrev pub value_type : Form → Option Typ
 value_type (tx_ex t) = Some t

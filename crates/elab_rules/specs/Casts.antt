@@ -9,7 +9,7 @@ use Rattle.cpp_types.specs.declared.classes.At.{At}
 use Rattle.cpp_types.specs.declared.ranks.Cat.{Cat}
 use Rattle.cpp_types.specs.declared.ranks.Cat.TheVariants.{Lvalue, Prvalue}
 use Rattle.cpp_tree.specs.declared.kinds.TKind.{TKind}
-use Rattle.cpp_tree.specs.declared.kinds.TKind.TheVariants.{Literal, Throw, Rethrow, Retype, Materialize, Global as GlobalNode}
+use Rattle.cpp_tree.specs.declared.kinds.TKind.TheVariants.{Literal, Throw, Rethrow, Retype, Materialize, Global as GlobalNode, Store}
 use Rattle.cpp_tree.specs.declared.program.Linkage.TheVariants.{Internal}
 use Rattle.cpp_tree.specs.declared.program.CellKind.TheVariants.{Number}
 use Rattle.cpp_tree.specs.declared.faults.ElabFault.{ElabFault}
@@ -40,8 +40,13 @@ is_exception_form (tx_ex t) = true
 is_exception_form f = false
 
 -- an initialiser as an expression: that of a `std::tx_exception` builds the value in it, and a `Retype` says what the expression is
+-- it stands where the expression does
+abbrev pub stored_at : At → Tree → Tree
+stored_at at (node (Store kind v) t cat p kids) = node (Store kind v) t cat at kids
+stored_at at e = e
+
 abbrev pub as_expression : At → Typ → Tree → Tree
-as_expression at t e = if is_exception_form (form_in t) && not (is_exception_form (form_in (typ_in e))) then node Retype t Prvalue at (one e) else e
+as_expression at t e = if is_exception_form (form_in t) && not (is_exception_form (form_in (typ_in e))) then node Retype t Prvalue at (one (stored_at at e)) else e
 
 -- the object that a cast to a reference refers to; another type is that of the node
 abbrev pub reference_cast : At → Typ → Tree → Tree
@@ -51,7 +56,7 @@ reference_cast at u e = retyped at u Lvalue e
 -- a cast to a scalar, a class, a reference or `void` (C++14 5.2.9, 5.4)
 abbrev pub scalar_cast : Ctx → Work → At → Typ → Operand → Result Made ElabFault
 scalar_cast c w at t o = if is_numeric (form_in (typ_in (value o))) && is_numeric (form_in t) then Ok (record { tree = converted at t (value o); work = w })
-    else initial c w (unqualified t) (record o { at = at })
+    else initial c w (unqualified t) (record { tree = value o; at = at; zero = o.zero })
 
 abbrev pub cast_in : Ctx → Work → At → Typ → Form → Operand → Result Made ElabFault
 cast_in c w at t void o = Ok (with_tree (λ (e : Tree). retyped at (plain void) Prvalue e) (dropped c w o))

@@ -7,9 +7,9 @@ use Rattle.tx_ints.specs.declared.kinds.IntKind.{IntKind}
 use Rattle.tx_ints.specs.declared.kinds.IntKind.TheVariants.{Bool as BoolKind, Char, SChar, UChar, Short, UShort, Int, UInt, Long, ULong, LLong, ULLong}
 use Rattle.tx_ints.specs.declared.kinds.BinOp.{BinOp}
 use Rattle.tx_ints.specs.declared.kinds.BinOp.TheVariants.{Add, Sub, Mul, Div, Rem, Shl, Shr, And, Xor, Or, Lt, Gt, Le, Ge, Eq, Ne}
-use Rattle.cpp_types.specs.Typ.{Typ, typ, void, null, class}
+use Rattle.cpp_types.specs.Typ.{Typ, typ, void, null, class, int, ptr, array, closure}
 use Rattle.cpp_types.specs.Equal.{typ_eq}
-use Rattle.cpp_types.specs.Spelling.{spelling as type_spelling}
+use Rattle.cpp_types.specs.Spelling.{spelling as type_spelling, before, behind}
 use Rattle.cpp_types.specs.declared.classes.At.{At}
 use Rattle.cpp_types.specs.declared.ranks.Cat.{Cat}
 use Rattle.cpp_types.specs.declared.ranks.Cat.TheVariants.{Lvalue, Prvalue}
@@ -22,8 +22,12 @@ use Rattle.cpp_tree.specs.declared.faults.ElabFault.TheVariants.{Ill}
 use Rattle.cpp_tree.specs.Trees.{Tree, node, Trees, none, more}
 use Rattle.cpp_tree.specs.Notation.{plain}
 use Rattle.elab_rules.specs.Initialising.{func_at}
-use Rattle.elab_rules.specs.Globals.{symbol_of, global_symbol}
+use Rattle.elab_rules.specs.Globals.{symbol_of, global_symbol, symbol_behind}
 use Rattle.elab_rules.specs.Statements.{State, Body}
+use Rattle.cpp_types.specs.Class.{Class, Function}
+use Rattle.cpp_tree.specs.declared.program.FuncKind.{FuncKind}
+use Rattle.cpp_tree.specs.declared.program.FuncKind.TheVariants.{ClosureCall}
+use Rattle.elab_ctx.specs.Ctx.{Func}
 
 -- a number in decimal digits, which the checker computes
 abbrev pub digits : ℕ → ℕ → List ℕ
@@ -87,8 +91,27 @@ abbrev pub flag : Bool → List ℕ → List ℕ
 flag true text = word text
 flag false text = []
 
+-- a lambda by the place of its call
+abbrev pub place_text : At → List ℕ
+place_text at = codes "lambda:" ++ (decimal at.source ++ (codes ":" ++ decimal at.offset))
+
+abbrev pub call_text : List Function → List ℕ
+call_text [] = []
+call_text (f ∷ fs) = place_text f.at
+
+abbrev pub closure_in : Option Class → List ℕ
+closure_in (Some c) = call_text c.functions
+closure_in None = []
+
+abbrev pub closure_text : State → ℕ → List ℕ
+closure_text st n = closure_in (slice_get st.ctx.classes n)
+
+abbrev pub function_text : State → FuncKind → Func → List ℕ
+function_text st ClosureCall f = place_text f.declared.at ++ symbol_behind st.ctx.classes f.declared
+function_text st kind f = symbol_of st.ctx.classes f
+
 abbrev pub function_symbol : State → ℕ → List ℕ
-function_symbol st k = word (symbol_of st.ctx.classes (func_at st.ctx.funcs k))
+function_symbol st k = word (function_text st (func_at st.ctx.funcs k).kind (func_at st.ctx.funcs k))
 
 abbrev pub class_spelling : State → ℕ → List ℕ
 class_spelling st n = word (type_spelling st.ctx.classes (plain (class n)))
@@ -155,6 +178,9 @@ category_name Prvalue = codes " p "
 
 abbrev pub type_name : State → Typ → List ℕ
 type_name st (typ null c v) = codes "nullptr"
+type_name st (typ (closure n) c v) = before c v ++ closure_text st n
+type_name st (typ (ptr (typ (closure n) c v)) d w) = before c v ++ (closure_text st n ++ (codes "*" ++ behind d w))
+type_name st (typ (array (typ (int kind) c v) n) d w) = type_spelling st.ctx.classes (typ (int kind) c v) ++ (codes "[" ++ (decimal n ++ codes "]"))
 type_name st t = type_spelling st.ctx.classes t
 
 abbrev pub is_untyped : Cat → Typ → Bool

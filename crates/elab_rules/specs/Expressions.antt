@@ -16,19 +16,19 @@ use Rattle.cpp_ast.specs.Trees as syntax
 use Rattle.cpp_names.specs.Names.{found_in}
 use Rattle.cpp_names.specs.declared.entity.Entity.{Entity}
 use Rattle.cpp_tree.specs.declared.kinds.TKind.{TKind}
-use Rattle.cpp_tree.specs.declared.kinds.TKind.TheVariants.{Literal, Builtin as BuiltinNode, Pieces, Piece}
+use Rattle.cpp_tree.specs.declared.kinds.TKind.TheVariants.{Literal, Builtin as BuiltinNode, Pieces, Piece, CopyFrom}
 use Rattle.cpp_tree.specs.declared.kinds.Builtin.TheVariants.{Abort}
 use Rattle.cpp_tree.specs.declared.faults.ElabFault.{ElabFault}
 use Rattle.cpp_tree.specs.declared.faults.ElabFault.TheVariants.{Ill}
 use Rattle.cpp_tree.specs.declared.faults.IllRule.TheVariants.{UnknownName, BadDeclaration, BadOperand, NotConstant, NotTriviallyCopyable, NoMember, OutOfProfile}
-use Rattle.cpp_tree.specs.Trees.{Tree, node, Trees, none, more, one, typ_in, cat_of}
+use Rattle.cpp_tree.specs.Trees.{Tree, node, Trees, none, more, one, typ_in, cat_of, two}
 use Rattle.cpp_tree.specs.Notation.{plain}
 use Rattle.cpp_tree.specs.Typing.{form_in}
 use Rattle.elab_ctx.specs.Ctx.{Ctx, Work, Capture, Closure}
 use Rattle.elab_ctx.specs.Steps.{and_then, expect, check, Operand, Made, MadeAll, Typed, TypedAll, at_of, spelling, value_at, token_place}
 use Rattle.elab_rules.specs.Values.{retyped, valued, stored, part_at}
 use Rattle.elab_rules.specs.Objects.{Part, parts_of, destroys}
-use Rattle.elab_rules.specs.Initialising.{class_from, same_number, class_number}
+use Rattle.elab_rules.specs.Initialising.{class_from, same_number, class_number, closure_part}
 use Rattle.elab_rules.specs.Constants.{word_in, constant}
 use Rattle.elab_rules.specs.Operators.{value, arithmetic, binary_operator, compound_operator, binary, logical, negation, minus, complement, plus, indirection, address_of, subscript, assignment, compound, step, comma, conditional, same_work}
 use Rattle.elab_rules.specs.Names.{named, this_tree, resolved, member_access, variable_in, of_entity}
@@ -144,6 +144,7 @@ abbrev pub captured_value : Ctx → Work → Capture → Typ → Operand → Res
 captured_value c w x (typ (ref u) d v) o = Ok (record { tree = stored x.at (typ (ref u) d v) o.tree; work = w })
 captured_value c w x (typ (class n) d v) o = class_from c w (typ (class n) d v) x.at o
 captured_value c w x (typ (closure n) d v) o = class_from c w (typ (closure n) d v) x.at o
+captured_value c w x (typ (array e n) d v) o = Ok (record { tree = node CopyFrom (typ (array e n) d v) Prvalue x.at (two o.tree (closure_part c x.at (record { offset = 0; typ = typ (array e n) d v }))); work = w })
 captured_value c w x (typ (tx_ex e) d v) o = class_from c w (typ (tx_ex e) d v) x.at o
 captured_value c w x t o = Ok (record { tree = stored x.at t (valued x.at o.tree); work = w })
 

@@ -7,7 +7,7 @@ use Rattle.tx_ints.specs.Integers.{is_in_range}
 use Rattle.tx_ints.specs.Words.{word_of, value_of_word}
 use Rattle.cpp_types.specs.Typ.{Typ, typ, Form, void, int, enum, null, ptr, ref, array, func, class, closure, tx_ex, Signature}
 use Rattle.cpp_types.specs.Equal.{typ_eq}
-use Rattle.cpp_types.specs.Class.{Class, held}
+use Rattle.cpp_types.specs.Class.{Class, held, Function}
 use Rattle.cpp_types.specs.Spelling.{spelling as type_spelling, listed}
 use Rattle.cpp_types.specs.declared.classes.At.{At}
 use Rattle.cpp_types.specs.declared.ranks.Cat.TheVariants.{Lvalue, Prvalue}
@@ -45,6 +45,8 @@ use Rattle.elab_rules.specs.Braces.{item_of, string_token, string_object, is_cha
 use Rattle.elab_rules.specs.Expressions.{expression_of, operands_of, chosen_operand, scope_name}
 use Rattle.elab_rules.specs.Statements.{State, default_object, copy_initialised, directly_initialised, is_bounded, bound_by_initialiser, is_trivial}
 use Rattle.elab_rules.specs.Functions.{Storage}
+use Rattle.cpp_tree.specs.declared.program.FuncKind.{FuncKind}
+use Rattle.cpp_tree.specs.declared.program.FuncKind.TheVariants.{ClosureCall}
 
 -- Symbols
 
@@ -56,9 +58,21 @@ abbrev pub class_prefix : List Class → Option ℕ → List ℕ
 class_prefix classes (Some n) = type_spelling classes (plain (class n)) ++ codes "::"
 class_prefix classes None = []
 
--- the symbol of a function: its class, its name and its parameters
+abbrev pub closure_spelling : List Class → Option ℕ → List ℕ
+closure_spelling classes (Some n) = type_spelling classes (plain (closure n))
+closure_spelling classes None = []
+
+-- a function's symbol behind its class
+abbrev pub symbol_behind : List Class → Function → List ℕ
+symbol_behind classes g = codes "(" ++ (listed classes false (signature_parameters g.signature) ++ codes ")")
+
+abbrev pub symbol_by : List Class → FuncKind → Option ℕ → Function → List ℕ
+symbol_by classes ClosureCall n g = closure_spelling classes n ++ symbol_behind classes g
+symbol_by classes kind n g = class_prefix classes n ++ (g.name ++ (symbol_behind classes g ++ const_mark g.is_const))
+
+-- the symbol of a function: its class, its name and its parameters; the call of a lambda is named by its place
 abbrev pub symbol_of : List Class → Func → List ℕ
-symbol_of classes f = class_prefix classes f.class ++ (f.declared.name ++ (codes "(" ++ (listed classes false (signature_parameters f.declared.signature) ++ (codes ")" ++ const_mark f.declared.is_const))))
+symbol_of classes f = symbol_by classes f.kind f.class f.declared
 
 -- Cells of the first bytes of a global: one for each scalar that is not zero
 

@@ -279,19 +279,21 @@ is_read_when_dropped e = false
 abbrev pub is_volatile_scalar : Typ → Bool
 is_volatile_scalar t = is_volatile_typ t && is_some (kind_in (form_in t))
 
+-- a `throw` makes no object, though it has the type of what is thrown
+abbrev pub is_throw : TKind → Bool
+is_throw Throw = true
+is_throw Rethrow = true
+is_throw kind = false
+
 abbrev pub dropped : Ctx → Work → Operand → Made
-dropped c w o = if is_volatile_scalar (typ_in o.tree) && is_read_when_dropped o.tree then record { tree = value o; work = w } else object_of c w o.at o.tree
+dropped c w o = if is_throw (kind_of o.tree) then record { tree = o.tree; work = w } else (
+    if is_volatile_scalar (typ_in o.tree) && is_read_when_dropped o.tree then record { tree = value o; work = w } else object_of c w o.at o.tree)
 
 -- `a, b` (C++14 5.18)
 abbrev pub comma : Ctx → Work → At → Operand → Operand → Made
 comma c w at a b = with_tree (λ (x : Tree). node Comma (typ_in b.tree) (cat_of b.tree) at (two x b.tree)) (dropped c w a)
 
 -- `? :` (C++14 5.16)
-
-abbrev pub is_throw : TKind → Bool
-is_throw Throw = true
-is_throw Rethrow = true
-is_throw kind = false
 
 abbrev pub conditional_node : At → Typ → Cat → Tree → Tree → Tree → Tree
 conditional_node at t cat test x y = node Conditional t cat at (three test x y)

@@ -36,12 +36,12 @@ use Rattle.cpp_tree.specs.Typing.{form_in, unqualified, is_void, is_class_typ, k
 use Rattle.elab_ctx.specs.declared.env.Label.{Label}
 use Rattle.elab_ctx.specs.declared.env.Label.TheVariants.{Outside, Direct as DirectLabel, Inside, InBlock}
 use Rattle.elab_ctx.specs.Ctx.{Ctx, Work, Variable, Returns, known, deduced, Labels, Func, Special, absent, trivial, function, opened, closed, with_variable, with_item, next_place}
-use Rattle.elab_ctx.specs.Steps.{and_then, expect, check, Operand, Made, Typed, TypedAll, at_of, spelling}
+use Rattle.elab_ctx.specs.Steps.{and_then, expect, check, Operand, Made, Typed, TypedAll, at_of, spelling, token_place}
 use Rattle.elab_rules.specs.Values.{bool_type, retyped, number, stored, converted}
 use Rattle.elab_rules.specs.Objects.{destroys, element_of, fields, traits_at, size_of, followed_by}
 use Rattle.elab_rules.specs.Initialising.{conversion, initial, class_from, from_nothing, from_values, scalar_from, func_at, class_number, is_prvalue_of_class}
 use Rattle.elab_rules.specs.Constants.{constant}
-use Rattle.elab_rules.specs.Operators.{value, truth, dropped, true_at, arithmetic, is_complete}
+use Rattle.elab_rules.specs.Operators.{value, truth, dropped, true_at, arithmetic, is_complete, is_throw}
 use Rattle.elab_rules.specs.Names.{is_const_typ}
 use Rattle.elab_rules.specs.Strings.{string_bytes}
 use Rattle.elab_rules.specs.Types.{Declared, has_auto, auto_in, may_be_thrown}
@@ -196,8 +196,17 @@ initialised st t at variable f r = and_then r (λ (m : Made). done (one (init_no
 abbrev pub string_initialised : State → List Lexeme → Typ → At → Tree → At → ℕ → Result Done ElabFault
 string_initialised st s t at variable p n = and_then (string_object st.ctx t p (string_bytes (spelling s n))) (λ (e : Tree). done (one (init_node st t at p variable e)) st)
 
+-- where the initialiser in parentheses stands as a whole: at its one value, unless a constructor takes that
+abbrev pub is_own_value : Option ℕ → Operand → Bool
+is_own_value (Some n) o = is_prvalue_of_class n o.tree
+is_own_value None o = true
+
+abbrev pub values_place : Typ → At → List Operand → At
+values_place t at (o ∷ []) = if is_own_value (class_number t) o then o.at else at
+values_place t at os = at
+
 abbrev pub values_initialised : Lambdas → List Lexeme → State → Typ → At → Tree → At → Result TypedAll ElabFault → Result Done ElabFault
-values_initialised lams s st t at variable p r = and_then r (λ (xs : TypedAll). and_then (directly_initialised st.ctx xs.work t at xs.operands) (λ (m : Made). done (one (init_node st t at at variable m.tree)) (with_work st m.work)))
+values_initialised lams s st t at variable p r = and_then r (λ (xs : TypedAll). and_then (directly_initialised st.ctx xs.work t at xs.operands) (λ (m : Made). done (one (init_node st t at (values_place t at xs.operands) variable m.tree)) (with_work st m.work)))
 
 -- the lambdas of each of some expressions
 abbrev pub all_lambdas : Lambdas → List Lexeme → State → syntax.Trees → Result State ElabFault
@@ -385,7 +394,7 @@ abbrev pub class_returned : At → Typ → Full → Made → Tree
 class_returned at t f m = statement (forms.Block false) at (two (statement forms.Init at (two (result_object t at) (full f.operand.at m.tree))) (return_node at none))
 
 abbrev pub return_value : At → Typ → Full → Result Done ElabFault
-return_value at (typ void d v) f = and_then (check at BadReturn (is_void (typ_in f.operand.tree))) (λ y. done (one (statement (forms.Block false) at (two (full f.operand.at f.operand.tree) (return_node at none)))) f.state)
+return_value at (typ void d v) f = and_then (check at BadReturn (is_void (typ_in f.operand.tree) || is_throw (kind_of f.operand.tree))) (λ y. done (one (statement (forms.Block false) at (two (full f.operand.at f.operand.tree) (return_node at none)))) f.state)
 return_value at t f = if is_class_typ t then and_then (class_from f.state.ctx f.state.work t f.operand.at f.operand) (λ (m : Made). done (one (class_returned at t f m)) (with_work f.state m.work))
     else and_then (initial f.state.ctx f.state.work t f.operand) (λ (m : Made). done (one (return_node at (one (full f.operand.at m.tree)))) (with_work f.state m.work))
 
@@ -557,9 +566,14 @@ abbrev pub in_block_if : Bool → At → Trees → Trees
 in_block_if true at ts = one (block at ts)
 in_block_if false at ts = ts
 
+-- where a statement begins: the place of a declaration is that of its name
+abbrev pub beginning : List Lexeme → syntax.Tree → At
+beginning s (syntax.node k.SimpleDeclaration p (Some t) kids) = token_place s p.source t
+beginning s t = syntax_place t
+
 -- a statement in another: a declaration stands in a block of its own
-abbrev pub a_part : syntax.Tree → Done → Result Done ElabFault
-a_part t d = done (in_block_if (is_declaration t) (syntax_place t) d.trees) d.state
+abbrev pub a_part : List Lexeme → syntax.Tree → Done → Result Done ElabFault
+a_part s t d = done (in_block_if (is_declaration t) (beginning s t) d.trees) d.state
 
 -- parts of a `for`
 abbrev pub for_first : Lambdas → List Lexeme → State → syntax.Tree → Result Done ElabFault
@@ -582,17 +596,17 @@ abbrev mutual
   statement_of lams s st (syntax.node k.NullStatement p token kids) = done (one (block (at_of p) none)) st
   statement_of lams s st (syntax.node k.ExpressionStatement p token (syntax.more e syntax.none)) = expression_statement lams s st e
   statement_of lams s st (syntax.node k.SimpleDeclaration p token kids) = block_declaration lams s st (at_of p) kids
-  statement_of lams s st (syntax.node k.IfStatement p token (syntax.more e (syntax.more a syntax.none))) = and_then (condition lams s st e) (λ (x : Done). and_then (and_then (statement_of lams s (inner x.state) a) (a_part a)) (λ (y : Done).
+  statement_of lams s st (syntax.node k.IfStatement p token (syntax.more e (syntax.more a syntax.none))) = and_then (condition lams s st e) (λ (x : Done). and_then (and_then (statement_of lams s (inner x.state) a) (a_part s a)) (λ (y : Done).
       done (one (statement forms.Conditional (at_of p) (three (the_tree (at_of p) x.trees) (the_tree (at_of p) y.trees) (block (at_of p) none)))) (outer x.state y.state)))
-  statement_of lams s st (syntax.node k.IfStatement p token (syntax.more e (syntax.more a (syntax.more b syntax.none)))) = and_then (condition lams s st e) (λ (x : Done). and_then (and_then (statement_of lams s (inner x.state) a) (a_part a)) (λ (y : Done). and_then (and_then (statement_of lams s (inner (outer x.state y.state)) b) (a_part b)) (λ (z : Done).
+  statement_of lams s st (syntax.node k.IfStatement p token (syntax.more e (syntax.more a (syntax.more b syntax.none)))) = and_then (condition lams s st e) (λ (x : Done). and_then (and_then (statement_of lams s (inner x.state) a) (a_part s a)) (λ (y : Done). and_then (and_then (statement_of lams s (inner (outer x.state y.state)) b) (a_part s b)) (λ (z : Done).
       done (one (statement forms.Conditional (at_of p) (three (the_tree (at_of p) x.trees) (the_tree (at_of p) y.trees) (the_tree (at_of p) z.trees)))) (outer x.state z.state))))
-  statement_of lams s st (syntax.node k.WhileStatement p token (syntax.more e (syntax.more a syntax.none))) = and_then (condition lams s st e) (λ (x : Done). and_then (and_then (statement_of lams s (in_loop x.state) a) (a_part a)) (λ (y : Done).
+  statement_of lams s st (syntax.node k.WhileStatement p token (syntax.more e (syntax.more a syntax.none))) = and_then (condition lams s st e) (λ (x : Done). and_then (and_then (statement_of lams s (in_loop x.state) a) (a_part s a)) (λ (y : Done).
       done (one (statement (forms.Loop true) (at_of p) (three (the_tree (at_of p) x.trees) (the_tree (at_of p) y.trees) (block (at_of p) none)))) (outer x.state y.state)))
-  statement_of lams s st (syntax.node k.DoStatement p token (syntax.more a (syntax.more e syntax.none))) = and_then (and_then (statement_of lams s (in_loop st) a) (a_part a)) (λ (y : Done). and_then (condition lams s (outer st y.state) e) (λ (x : Done).
+  statement_of lams s st (syntax.node k.DoStatement p token (syntax.more a (syntax.more e syntax.none))) = and_then (and_then (statement_of lams s (in_loop st) a) (a_part s a)) (λ (y : Done). and_then (condition lams s (outer st y.state) e) (λ (x : Done).
       done (one (statement (forms.Loop false) (at_of p) (three (the_tree (at_of p) x.trees) (the_tree (at_of p) y.trees) (block (at_of p) none)))) x.state))
   statement_of lams s st (syntax.node k.ForStatement p token (syntax.more i (syntax.more e (syntax.more n (syntax.more (syntax.node k.CompoundStatement q brace kids) syntax.none))))) = and_then (for_first lams s (in_loop st) i) (λ (f : Done). and_then (for_test lams s f.state (at_of p) e) (λ (x : Done). and_then (for_step lams s x.state (at_of p) n) (λ (z : Done). and_then (statements_of lams s z.state kids) (λ (y : Done).
       done (one (block (at_of p) (followed_by f.trees (one (statement (forms.Loop true) (at_of p) (three (the_tree (at_of p) x.trees) (block (at_of q) y.trees) (the_tree (at_of p) z.trees))))))) (outer st y.state)))))
-  statement_of lams s st (syntax.node k.ForStatement p token (syntax.more i (syntax.more e (syntax.more n (syntax.more a syntax.none))))) = and_then (for_first lams s (in_loop st) i) (λ (f : Done). and_then (for_test lams s f.state (at_of p) e) (λ (x : Done). and_then (for_step lams s x.state (at_of p) n) (λ (z : Done). and_then (and_then (statement_of lams s z.state a) (a_part a)) (λ (y : Done).
+  statement_of lams s st (syntax.node k.ForStatement p token (syntax.more i (syntax.more e (syntax.more n (syntax.more a syntax.none))))) = and_then (for_first lams s (in_loop st) i) (λ (f : Done). and_then (for_test lams s f.state (at_of p) e) (λ (x : Done). and_then (for_step lams s x.state (at_of p) n) (λ (z : Done). and_then (and_then (statement_of lams s z.state a) (a_part s a)) (λ (y : Done).
       done (one (block (at_of p) (followed_by f.trees (one (statement (forms.Loop true) (at_of p) (three (the_tree (at_of p) x.trees) (the_tree (at_of p) y.trees) (the_tree (at_of p) z.trees))))))) (outer st y.state)))))
   statement_of lams s st (syntax.node k.SwitchStatement p token (syntax.more e (syntax.more (syntax.node kind q brace kids) syntax.none))) = and_then (switched lams s st e) (λ (v : Switched). and_then (statements_of lams s (in_switch v.state v.typ) kids) (λ (d : Done).
       done (one (statement forms.Switch (at_of p) (more v.value d.trees))) (outer v.state d.state)))

@@ -1,33 +1,33 @@
 -- The declarations of a unit in the order of the text (C++14 3.5, clause 7).
-use Rattle.std.specs.Prelude.{ℕ, zero, suc, Bool, true, false, not, ◌&&◌, ◌||◌, List, [], ◌∷◌, ◌++◌, length, Option, Some, None, is_some, Result, Ok, Err, if◌then◌else◌, codes, slice_get}
+use Rattle.std.specs.Prelude.{ℕ, Bool, true, false, List, [], ◌∷◌, Option, Some, None, is_some, Result, Ok, Err, if◌then◌else◌, codes, slice_get}
 use Rattle.std.specs.Str.{bytes_eq}
 use Rattle.tx_ints.specs.declared.kinds.IntKind.TheVariants.{Int, Long}
-use Rattle.cpp_types.specs.Typ.{Typ, typ, Form, void, int, ptr, func, Signature, signature, Typs, none as no_typs, more as and_typ}
+use Rattle.cpp_types.specs.Typ.{Typ, Form, void, int, ptr, func, Signature, signature, Typs, none as no_typs, more as and_typ}
 use Rattle.cpp_types.specs.declared.classes.At.{At}
 use Rattle.cpp_lex.specs.Tokens.{Lexeme}
-use Rattle.cpp_ast.specs.declared.kinds.NodeKind.{NodeKind}
 use Rattle.cpp_ast.specs.declared.kinds.NodeKind.TheVariants as k
 use Rattle.cpp_ast.specs.Trees as syntax
 use Rattle.cpp_names.specs.declared.entity.EntityKind.TheVariants as entities
 use Rattle.cpp_tree.specs.declared.kinds.Builtin.{Builtin}
 use Rattle.cpp_tree.specs.declared.kinds.Builtin.TheVariants.{PutChar, GetChar, Spawn, Join}
-use Rattle.cpp_tree.specs.declared.program.FuncKind.TheVariants.{Plain}
-use Rattle.cpp_tree.specs.declared.program.Linkage.TheVariants.{External}
+use Rattle.cpp_tree.specs.declared.program.FuncKind.TheVariants.{Plain, Constructor, Destructor}
 use Rattle.cpp_tree.specs.declared.faults.ElabFault.{ElabFault}
 use Rattle.cpp_tree.specs.declared.faults.ElabFault.TheVariants.{Ill}
 use Rattle.cpp_tree.specs.declared.faults.IllRule.TheVariants.{BadDeclaration, OutOfProfile}
-use Rattle.cpp_tree.specs.Trees.{nowhere}
 use Rattle.cpp_tree.specs.Notation.{plain}
 use Rattle.cpp_tree.specs.Typing.{form_in}
 use Rattle.elab_ctx.specs.declared.env.Label.TheVariants.{Outside}
-use Rattle.elab_ctx.specs.Ctx.{Ctx, Work, Func, known}
-use Rattle.elab_ctx.specs.Steps.{and_then, expect, check, each_of, at_of, spelling, value_at}
+use Rattle.elab_ctx.specs.Ctx.{Func, known}
+use Rattle.elab_ctx.specs.Steps.{and_then, check, each_of, at_of, spelling}
 use Rattle.elab_rules.specs.Initialising.{no_function}
 use Rattle.elab_rules.specs.Types.{Declared}
 use Rattle.elab_rules.specs.Strings.{string_bytes}
 use Rattle.elab_rules.specs.Expressions.{type_of_specifiers, type_id_of, declared_by}
-use Rattle.elab_rules.specs.Statements.{State, Lambdas, is_own_name, name_of, no_labels, bound_by_initialiser}
+use Rattle.elab_rules.specs.Statements.{State, is_own_name, name_of, no_labels, bound_by_initialiser}
 use Rattle.elab_rules.specs.Functions.{Storage, no_storage, with_specifier, Header, Placed, function_declared, function_body, with_definition, text_between}
+use Rattle.elab_rules.specs.Members.{member_defined, declared_only, class_defined}
+use Rattle.elab_rules.specs.Lambdas.{lambdas_of}
+use Rattle.elab_rules.specs.Implicit.{with_implied}
 use Rattle.elab_rules.specs.Globals.{global_declared, alias_declared, enum_declared}
 
 -- What every unit knows (profile)
@@ -72,11 +72,6 @@ start source = record {
   bodies = [];
 }
 
--- What makes classes and members that are defined behind them
-pub record ClassRules : Type 0 where
-  pub class_declared : Lambdas → List Lexeme → State → syntax.Tree → Result State ElabFault
-  pub member_defined : Lambdas → List Lexeme → State → syntax.Tree → Result State ElabFault
-
 -- Declarations
 
 abbrev pub header_of : List Lexeme → At → Storage → Declared → Signature → Header
@@ -115,24 +110,24 @@ token_end None = 0
 abbrev pub closing_offset : List Lexeme → syntax.Tree → ℕ
 closing_offset s body = token_end (slice_get s (brace_of body))
 
-abbrev pub defined_with : Lambdas → List Lexeme → State → Storage → At → ℕ → Declared → syntax.Tree → Form → Result State ElabFault
-defined_with lams s st x at first d body (func sig) = and_then (function_declared st.ctx (header_of s at x d sig) true) (λ (p : Placed).
-    function_body lams s (record st { ctx = with_definition p.ctx p.place (header_of s at x d sig) (definition_text s x first body) (closing_offset s body) }) (header_of s at x d sig) None p.place body)
-defined_with lams s st x at first d body f = Err (Ill at BadDeclaration)
+abbrev pub defined_with : List Lexeme → State → Storage → At → ℕ → Declared → syntax.Tree → Form → Result State ElabFault
+defined_with s st x at first d body (func sig) = and_then (function_declared st.ctx (header_of s at x d sig) true) (λ (p : Placed).
+    function_body lambdas_of s (record st { ctx = with_definition p.ctx p.place (header_of s at x d sig) (definition_text s x first body) (closing_offset s body) }) (header_of s at x d sig) None p.place body)
+defined_with s st x at first d body f = Err (Ill at BadDeclaration)
 
 abbrev pub is_qualified : Declared → Bool
 is_qualified d = is_some d.owner
 
-abbrev pub defined_by : ClassRules → Lambdas → List Lexeme → State → syntax.Tree → Storage → At → ℕ → Declared → syntax.Tree → Bool → Result State ElabFault
-defined_by rules lams s st whole x at first r body true = rules.member_defined lams s st whole
-defined_by rules lams s st whole x at first r body false = defined_with lams s st x at first r body (form_in r.typ)
+abbrev pub defined_by : List Lexeme → State → syntax.Trees → Storage → At → ℕ → Declared → syntax.Tree → Bool → Result State ElabFault
+defined_by s st whole x at first r body true = member_defined lambdas_of s x st at Plain first whole
+defined_by s st whole x at first r body false = defined_with s st x at first r body (form_in r.typ)
 
-abbrev pub function_defined : ClassRules → Lambdas → List Lexeme → State → syntax.Tree → Storage → At → ℕ → syntax.Trees → Result State ElabFault
-function_defined rules lams s st whole x at first (syntax.more (syntax.node k.Attribute p token kids) ts) = function_defined rules lams s st whole x at first ts
-function_defined rules lams s st whole x at first (syntax.more (syntax.node k.DeclSpecifier p (Some t) kids) ts) = function_defined rules lams s st whole (with_specifier x (spelling s t)) at first ts
-function_defined rules lams s st whole x at first (syntax.more base (syntax.more d (syntax.more body syntax.none))) = and_then (type_of_specifiers s st.ctx st.work base) (λ (t : Typ). and_then (declared_by s st.ctx st.work at t d) (λ (r : Declared).
-    defined_by rules lams s st whole x at first r body (is_qualified r)))
-function_defined rules lams s st whole x at first ts = Err (Ill at OutOfProfile)
+abbrev pub function_defined : List Lexeme → State → syntax.Trees → Storage → At → ℕ → syntax.Trees → Result State ElabFault
+function_defined s st whole x at first (syntax.more (syntax.node k.Attribute p token kids) ts) = function_defined s st whole x at first ts
+function_defined s st whole x at first (syntax.more (syntax.node k.DeclSpecifier p (Some t) kids) ts) = function_defined s st whole (with_specifier x (spelling s t)) at first ts
+function_defined s st whole x at first (syntax.more base (syntax.more d (syntax.more body syntax.none))) = and_then (type_of_specifiers s st.ctx st.work base) (λ (t : Typ). and_then (declared_by s st.ctx st.work at t d) (λ (r : Declared).
+    defined_by s st whole x at first r body (is_qualified r)))
+function_defined s st whole x at first ts = Err (Ill at OutOfProfile)
 
 abbrev pub alias_of : List Lexeme → State → At → List ℕ → syntax.Trees → Result State ElabFault
 alias_of s st at name (syntax.more t ts) = and_then (type_id_of s st.ctx st.work t) (λ (u : Typ). alias_declared st at name u)
@@ -142,22 +137,27 @@ abbrev pub is_c : List ℕ → Bool
 is_c name = bytes_eq name (codes "C")
 
 abbrev mutual
-  pub declaration_of : ClassRules → Lambdas → List Lexeme → Storage → State → syntax.Tree → Result State ElabFault
-  declaration_of rules lams s x st (syntax.node k.EmptyDeclaration p token kids) = Ok st
-  declaration_of rules lams s x st (syntax.node k.AliasDeclaration p (Some t) kids) = alias_of s st (at_of p) (spelling s t) kids
-  declaration_of rules lams s x st (syntax.node k.EnumSpecifier p (Some t) kids) = enum_declared s st (at_of p) (spelling s t) kids
-  declaration_of rules lams s x st (syntax.node k.SimpleDeclaration p token kids) = file_declaration s st x (at_of p) kids
-  declaration_of rules lams s x st (syntax.node k.FunctionDefinition p (Some t) kids) = function_defined rules lams s st (syntax.node k.FunctionDefinition p (Some t) kids) x (at_of p) t kids
-  declaration_of rules lams s x st (syntax.node k.LinkageSpecification p (Some t) kids) = and_then (check (at_of p) OutOfProfile (is_c (string_bytes (spelling s t)))) (λ y. declarations_of rules lams s (record x { is_c = true; is_extern = true }) st kids)
-  declaration_of rules lams s x st (syntax.node k.LinkageBlock p (Some t) kids) = and_then (check (at_of p) OutOfProfile (is_c (string_bytes (spelling s t)))) (λ y. declarations_of rules lams s (record x { is_c = true }) st kids)
-  declaration_of rules lams s x st (syntax.node k.ClassDeclaration p token kids) = rules.class_declared lams s st (syntax.node k.ClassDeclaration p token kids)
-  declaration_of rules lams s x st (syntax.node k.ClassSpecifier p token kids) = rules.class_declared lams s st (syntax.node k.ClassSpecifier p token kids)
-  declaration_of rules lams s x st (syntax.node kind p token kids) = rules.member_defined lams s st (syntax.node kind p token kids)
+  pub declaration_of : List Lexeme → Storage → State → syntax.Tree → Result State ElabFault
+  declaration_of s x st (syntax.node k.EmptyDeclaration p token kids) = Ok st
+  declaration_of s x st (syntax.node k.AliasDeclaration p (Some t) kids) = alias_of s st (at_of p) (spelling s t) kids
+  declaration_of s x st (syntax.node k.EnumSpecifier p (Some t) kids) = enum_declared s st (at_of p) (spelling s t) kids
+  declaration_of s x st (syntax.node k.SimpleDeclaration p token kids) = file_declaration s st x (at_of p) kids
+  declaration_of s x st (syntax.node k.FunctionDefinition p (Some t) kids) = function_defined s st kids x (at_of p) t kids
+  declaration_of s x st (syntax.node k.LinkageSpecification p (Some t) kids) = and_then (check (at_of p) OutOfProfile (is_c (string_bytes (spelling s t)))) (λ y. declarations_of s (record x { is_c = true; is_extern = true }) st kids)
+  declaration_of s x st (syntax.node k.LinkageBlock p (Some t) kids) = and_then (check (at_of p) OutOfProfile (is_c (string_bytes (spelling s t)))) (λ y. declarations_of s (record x { is_c = true }) st kids)
+  declaration_of s x st (syntax.node k.ClassDeclaration p (Some t) kids) = declared_only st (at_of p) (spelling s t)
+  declaration_of s x st (syntax.node k.ClassSpecifier p (Some t) kids) = class_defined lambdas_of s st (at_of p) (spelling s t) kids
+  declaration_of s x st (syntax.node k.ConstructorDefinition p (Some t) kids) = member_defined lambdas_of s x st (at_of p) Constructor t kids
+  declaration_of s x st (syntax.node k.DestructorDefinition p (Some t) kids) = member_defined lambdas_of s x st (at_of p) Destructor t kids
+  declaration_of s x st (syntax.node kind p token kids) = Err (Ill (at_of p) OutOfProfile)
 
-  pub declarations_of : ClassRules → Lambdas → List Lexeme → Storage → State → syntax.Trees → Result State ElabFault
-  declarations_of rules lams s x st syntax.none = Ok st
-  declarations_of rules lams s x st (syntax.more t ts) = and_then (declaration_of rules lams s x st t) (λ (y : State). declarations_of rules lams s x y ts)
+  pub declarations_of : List Lexeme → Storage → State → syntax.Trees → Result State ElabFault
+  declarations_of s x st syntax.none = Ok st
+  declarations_of s x st (syntax.more t ts) = and_then (declaration_of s x st t) (λ (y : State). declarations_of s x y ts)
 
--- all declarations of a unit, in order
-abbrev pub unit_with : ClassRules → Lambdas → List Lexeme → ℕ → syntax.Trees → Result State ElabFault
-unit_with rules lams s source decls = declarations_of rules lams s no_storage (start source) decls
+-- the declarations of a unit in order, and the bodies of the implicit members to which they refer
+abbrev pub unit_from : List Lexeme → State → syntax.Trees → Result State ElabFault
+unit_from s st decls = and_then (declarations_of s no_storage st decls) with_implied
+
+abbrev pub unit_of : List Lexeme → ℕ → syntax.Trees → Result State ElabFault
+unit_of s source decls = unit_from s (start source) decls

@@ -4,13 +4,12 @@ use Rattle.cpp_ast.specs.declared.arena.At.{At}
 use Rattle.cpp_ast.specs.Trees.{Trees, Tree, none, more}
 use Rattle.cpp_lex.specs.Tokens.{Lexeme}
 use Rattle.cpp_lex.specs.declared.TokKind.{TokKind}
-use Rattle.cpp_types.specs.declared.classes.At.{At as Place}
 use Rattle.cpp_tree.specs.declared.faults.ElabFault.{ElabFault}
-use Rattle.cpp_tree.specs.declared.faults.ElabFault.TheVariants.{Ill}
+use Rattle.cpp_tree.specs.declared.faults.ElabFault.TheVariants.{Ill, Override}
 use Rattle.cpp_tree.specs.declared.faults.IllRule.{IllRule}
-use Rattle.cpp_tree.specs.declared.faults.IllRule.TheVariants.{OutOfProfile}
-use Rattle.elab_rules.specs.Units.{ClassRules, unit_with}
-use Rattle.elab_rules.specs.Statements.{State, Lambdas}
+use Rattle.cpp_tree.specs.declared.faults.OverrideRule.{OverrideRule}
+use Rattle.elab_rules.specs.Units.{unit_of}
+use Rattle.elab_rules.specs.Statements.{State}
 use Rattle.elab_rules.specs.Dump.{dumped}
 
 abbrev pub at : ℕ → At
@@ -28,18 +27,8 @@ abbrev pub lines : List (List ℕ) → List ℕ
 lines [] = []
 lines (l ∷ ls) = l ++ 10 ∷ lines ls
 
--- these units have no classes and no lambdas
-abbrev pub no_lambdas : Lambdas
-no_lambdas s st t = Ok st
-
-abbrev pub start_of_text : Place
-start_of_text = record { source = 0; offset = 0 }
-
-abbrev pub no_classes : ClassRules
-no_classes = record { class_declared = λ l s st t. Err (Ill start_of_text OutOfProfile); member_defined = λ l s st t. Err (Ill start_of_text OutOfProfile) }
-
 abbrev pub elaborated : List Lexeme → List Tree → Result State ElabFault
-elaborated tokens decls = unit_with no_classes no_lambdas tokens 0 (trees decls)
+elaborated tokens decls = unit_of tokens 0 (trees decls)
 
 -- the bodies and frames of a unit as text
 abbrev pub text_of : List Lexeme → List Tree → List ℕ
@@ -48,3 +37,7 @@ text_of tokens decls = dumped (elaborated tokens decls)
 -- a unit is refused at an offset by a rule
 abbrev pub refused : ℕ → IllRule → Result State ElabFault
 refused n rule = Err (Ill (record { source = 0; offset = n }) rule)
+
+-- the same of what is said of overriding
+abbrev pub misfit : ℕ → OverrideRule → Result State ElabFault
+misfit n rule = Err (Override (record { source = 0; offset = n }) rule)
