@@ -33,9 +33,10 @@ use Rattle.elab_rules.specs.Initialising.{same_number, is_constructor, makes, pl
 use Rattle.elab_rules.specs.Operators.{is_complete}
 use Rattle.elab_rules.specs.Calls.{is_of_class}
 use Rattle.elab_rules.specs.Types.{Declared, has_auto, type_named, is_abstract_type}
+use Rattle.elab_rules.specs.Sizes.{typ_sized}
 use Rattle.elab_rules.specs.Expressions.{type_of_specifiers, declared_by}
 use Rattle.elab_rules.specs.Statements.{State, is_bounded, is_own_name, name_of, is_const_element, has_written_default, is_trivial}
-use Rattle.elab_rules.specs.Functions.{Storage, no_storage, with_specifier, Header, new_function, is_same_function, first_from, text_between}
+use Rattle.elab_rules.specs.Functions.{Storage, no_storage, with_specifier, Header, new_function, is_same_function, first_from, text_between, header_sized, text_sized}
 use Rattle.elab_rules.specs.Globals.{with_type}
 
 -- The name (9.1): a new class, or one that is only declared
@@ -113,7 +114,7 @@ with_member r name t has_initialiser = record r { members = r.members ++ record 
 
 abbrev pub data_member : ℕ → Members → At → List ℕ → Typ → Bool → Result Members ElabFault
 data_member n r at name t has_initialiser = and_then (member_form at (form_in t)) (λ a. and_then (check at OutOfProfile (not (has_auto t))) (λ b. and_then (check at BadDeclaration (is_bounded t)) (λ d. and_then (check at Incomplete (is_complete r.state.ctx (held t))) (λ e.
-    and_then (check at AbstractObject (not (is_abstract_type r.state.ctx (element_of t)))) (λ f. and_then (check at Redeclared (not (has_member name r.members) && not (has_function n name r.state.ctx.funcs))) (λ g. Ok (with_member r name t has_initialiser)))))))
+    and_then (check at AbstractObject (not (is_abstract_type r.state.ctx (element_of t)))) (λ f. and_then (typ_sized r.state.ctx.classes at t) (λ h. and_then (check at Redeclared (not (has_member name r.members) && not (has_function n name r.state.ctx.funcs))) (λ g. Ok (with_member r name t has_initialiser))))))))
 
 -- Overriding (10.3): a function with the name, the parameters and `const` of one in a slot of the base; destructors override each other
 
@@ -203,6 +204,10 @@ abbrev pub as_defined : Option Definition → Func → Func
 as_defined (Some d) f = record f { linkage = Inline; is_defined = true; text = d.text; closed_at = d.closed_at }
 as_defined None f = f
 
+abbrev pub definition_sized : At → Option Definition → Result Bool ElabFault
+definition_sized at (Some d) = text_sized at d.text
+definition_sized at None = Ok true
+
 abbrev pub with_function : Members → Func → Members
 with_function r f = record r { state = record r.state { ctx = record r.state.ctx { funcs = r.state.ctx.funcs ++ f ∷ [] } } }
 
@@ -240,7 +245,7 @@ within_bounds None = Ok true
 abbrev pub member_function : Home → Members → Header → Marks → Option Definition → Result Members ElabFault
 member_function home r h m d = and_then (check h.at Redeclared (is_none (first_from (is_same_function h) 0 r.state.ctx.funcs) && not (has_member h.name r.members))) (λ y. and_then (overrides_well h (overridden r.state.ctx home.base (new_function h).declared)) (λ z.
     and_then (marks_fit h m (is_some (overridden r.state.ctx home.base (new_function h).declared)) (h.storage.is_virtual || is_some (overridden r.state.ctx home.base (new_function h).declared))) (λ x.
-    Ok (with_function r (as_defined d (member_func h m (overridden r.state.ctx home.base (new_function h).declared)))))))
+    and_then (header_sized r.state.ctx h) (λ w. and_then (definition_sized h.at d) (λ v. Ok (with_function r (as_defined d (member_func h m (overridden r.state.ctx home.base (new_function h).declared)))))))))
 
 -- Declarations of members
 
@@ -595,3 +600,17 @@ completed c home at ms initialised = copy_completed home at ms initialised (is_n
 -- complete, unless it is too large
 abbrev pub closed_class : At → ℕ → Ctx → Result Ctx ElabFault
 closed_class at n c = if nat_le (class_extent c.classes n).size 1048576 then Ok c else Err (Limit at Size)
+
+-- Its text, from the first word to the `;` behind the brace
+
+abbrev pub class_key : syntax.Trees → ℕ
+class_key (syntax.more (syntax.node kind p (Some t) kids) ts) = t
+class_key ts = 0
+
+abbrev pub class_brace : syntax.Trees → ℕ
+class_brace syntax.none = 0
+class_brace (syntax.more (syntax.node k.MemberSpecification p (Some t) kids) ts) = t
+class_brace (syntax.more t ts) = class_brace ts
+
+abbrev pub class_text : List Lexeme → syntax.Trees → List ℕ
+class_text s kids = text_between s (class_key kids) (suc (class_brace kids))

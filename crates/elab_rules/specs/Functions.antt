@@ -40,6 +40,7 @@ use Rattle.elab_rules.specs.Objects.{zeros, followed_by}
 use Rattle.elab_rules.specs.Initialising.{func_at, signature_parameters, signature_result}
 use Rattle.elab_rules.specs.Operators.{is_complete}
 use Rattle.elab_rules.specs.Names.{same_variable}
+use Rattle.elab_rules.specs.Sizes.{typ_sized, sized, symbol_length}
 use Rattle.elab_rules.specs.Types.{Parameter, Qualifiers, Declared}
 use Rattle.elab_rules.specs.Statements.{Body, State, Done, Lambdas, statements_of, statement, is_fresh, next_variable, name_of, no_labels}
 
@@ -147,10 +148,17 @@ may_be_c h = bytes_eq h.name (codes "putchar") || bytes_eq h.name (codes "getcha
 abbrev pub dynamic_fits : Header → Result Bool ElabFault
 dynamic_fits h = if h.qualifiers.is_dynamic && is_none h.class then Err (Override h.at DynamicNotVirtual) else Ok true
 
+-- its type and its symbol are not too long (profile)
+abbrev pub header_sized : Ctx → Header → Result Bool ElabFault
+header_sized c h = and_then (typ_sized c.classes h.at (plain (func h.signature))) (λ x. sized h.at (symbol_length c.classes h.class h.name h.signature h.qualifiers.is_const))
+
+abbrev pub text_sized : At → List ℕ → Result Bool ElabFault
+text_sized at text = sized at (length text)
+
 -- a declaration of a function at file scope
 abbrev pub function_declared : Ctx → Header → Bool → Result Placed ElabFault
 function_declared c h defines = and_then (main_fits h) (λ a. and_then (check h.at BadDeclaration (not h.qualifiers.is_const)) (λ b. and_then (dynamic_fits h) (λ d. and_then (check h.at OutOfProfile (not h.storage.is_c || may_be_c h)) (λ e.
-    declared_in c h defines (first_from (is_same_function h) 0 c.funcs)))))
+    and_then (header_sized c h) (λ z. declared_in c h defines (first_from (is_same_function h) 0 c.funcs))))))
 
 -- Bodies
 

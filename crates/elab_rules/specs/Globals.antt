@@ -44,6 +44,7 @@ use Rattle.elab_rules.specs.Types.{Declared, has_auto, type_named}
 use Rattle.elab_rules.specs.Braces.{item_of, string_token, string_object, is_char_array, syntax_place, tree_place}
 use Rattle.elab_rules.specs.Expressions.{expression_of, operands_of, chosen_operand, scope_name}
 use Rattle.elab_rules.specs.Statements.{State, default_object, copy_initialised, directly_initialised, is_bounded, bound_by_initialiser, is_trivial}
+use Rattle.elab_rules.specs.Sizes.{typ_sized}
 use Rattle.elab_rules.specs.Functions.{Storage}
 use Rattle.cpp_tree.specs.declared.program.FuncKind.{FuncKind}
 use Rattle.cpp_tree.specs.declared.program.FuncKind.TheVariants.{ClosureCall}
@@ -168,7 +169,7 @@ global_named st at name x t defines (Some e) = global_again st at x t defines e.
 global_named st at name x t defines None = Ok (added_global st name x t)
 
 abbrev pub global_declarable : State → At → List ℕ → Typ → Result Bool ElabFault
-global_declarable st at name t = and_then (check at BadMain (not (bytes_eq name (codes "main")))) (λ a. and_then (check at OutOfProfile (not (has_auto t))) (λ b. and_then (not_void at (form_in t)) (λ d. check at BadDeclaration (is_bounded t))))
+global_declarable st at name t = and_then (check at BadMain (not (bytes_eq name (codes "main")))) (λ a. and_then (check at OutOfProfile (not (has_auto t))) (λ b. and_then (not_void at (form_in t)) (λ d. and_then (check at BadDeclaration (is_bounded t)) (λ e. typ_sized st.ctx.classes at t))))
 
 abbrev pub global_object : ℕ → Typ → At → Tree
 global_object g t at = node (forms.Global g) t Lvalue at none
@@ -218,7 +219,7 @@ with_type c name t = record c { types = record { name = name; typ = t } ∷ c.ty
 
 -- an alias (C++14 7.1.3)
 abbrev pub alias_declared : State → At → List ℕ → Typ → Result State ElabFault
-alias_declared st at name t = and_then (check at OutOfProfile (not (has_auto t))) (λ x. and_then (type_agrees at t (type_named name st.ctx.types)) (λ y. Ok (record st { ctx = with_type st.ctx name t })))
+alias_declared st at name t = and_then (check at OutOfProfile (not (has_auto t))) (λ x. and_then (typ_sized st.ctx.classes at t) (λ z. and_then (type_agrees at t (type_named name st.ctx.types)) (λ y. Ok (record st { ctx = with_type st.ctx name t }))))
 
 -- Enums (C++14 7.2): inside the braces an enumerator has type `int`
 

@@ -28,6 +28,7 @@ use Rattle.elab_rules.specs.Initialising.{no_function}
 use Rattle.elab_rules.specs.Operators.{is_complete}
 use Rattle.elab_rules.specs.Names.{captured_from, is_local_entity, member_here}
 use Rattle.elab_rules.specs.Types.{Parameter, Qualifiers, no_qualifiers, qualifiers_from, is_declared_safe, function_of}
+use Rattle.elab_rules.specs.Sizes.{typ_sized}
 use Rattle.elab_rules.specs.Expressions.{type_id_of, parameters_in}
 use Rattle.elab_rules.specs.Statements.{State, Done, Lambdas, statements_of, statement, no_labels, is_trivial}
 use Rattle.elab_rules.specs.Functions.{safety_of, param_of, result_items, with_parameters, end_of, body_made}
@@ -266,7 +267,7 @@ abbrev pub body_statements : List Lexeme → State → Written → Result Done E
 body_statements s e x = and_then (with_parameters s e x.params) (λ (y : State). statements_of no_lambda s y x.body)
 
 abbrev pub lambda_type : Ctx → Written → Typ → Result Typ ElabFault
-lambda_type c x r = function_of c x.at r x.params (is_declared_safe x.qualifiers)
+lambda_type c x r = and_then (function_of c x.at r x.params (is_declared_safe x.qualifiers)) (λ (t : Typ). and_then (typ_sized c.classes x.at t) (λ y. Ok t))
 
 abbrev pub signature_in : Form → Signature
 signature_in (func sig) = sig

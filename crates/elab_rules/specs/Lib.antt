@@ -15,6 +15,7 @@ pub mod Names
 pub mod Objects
 pub mod Operators
 pub mod Programs
+pub mod Sizes
 pub mod Statements
 pub mod Strings
 pub mod Types

@@ -33,8 +33,8 @@ use Rattle.elab_rules.specs.Strings.{string_bytes}
 use Rattle.elab_rules.specs.Braces.{string_token, string_object, is_char_array, syntax_place, default_at, default_whole}
 use Rattle.elab_rules.specs.Expressions.{operands_of, type_of_specifiers, declared_by}
 use Rattle.elab_rules.specs.Statements.{State, Done, Full, Lambdas, statement, full, with_work, full_operand, all_lambdas, default_object, copy_initialised, directly_initialised, statements_of, name_of, values_place}
-use Rattle.elab_rules.specs.Functions.{Storage, Header, entered, with_parameters, leaving, body_made, function_body, agrees, first_from, is_same_function, with_definition, text_between}
-use Rattle.elab_rules.specs.Classes.{Home, Members, Begun, begun, based_on, members_of, completed, closed_class, Method, method_of, special_header, header_in, started_from, Started, body_in, last_token, token_end}
+use Rattle.elab_rules.specs.Functions.{Storage, Header, entered, with_parameters, leaving, body_made, function_body, agrees, first_from, is_same_function, with_definition, text_between, text_sized}
+use Rattle.elab_rules.specs.Classes.{Home, Members, Begun, begun, based_on, members_of, completed, closed_class, Method, method_of, special_header, header_in, started_from, Started, body_in, last_token, token_end, class_text}
 
 -- The object at hand
 
@@ -98,10 +98,6 @@ defaults_of lams s n st (syntax.node k.MemberDeclaration p token kids) = each_of
 defaults_of lams s n st t = Ok st
 
 -- All initialisers are made before the bodies, which use them; a fault in one is found in the order of the text, so one that has a fault stands here as nothing.
-
-abbrev pub or_before : State → Result State ElabFault → State
-or_before st (Ok x) = x
-or_before st (Err e) = st
 
 abbrev pub with_nothing : State → ℕ → Option ℕ → State
 with_nothing st n (Some i) = record st { ctx = record st.ctx { defaults = st.ctx.defaults ++ record { class = n; member = i; init = first_tree (record { source = 0; offset = 0 }) none; frame = [] } ∷ [] } }
@@ -317,8 +313,8 @@ abbrev pub outside_defined : List Lexeme → Ctx → ℕ → Header → ℕ → 
 outside_defined s c i h first last = linked_definition (with_definition c i h (outside_text s h.storage first last) (token_end (slice_get s last))) i h.storage
 
 abbrev pub outside_body : Lambdas → List Lexeme → State → ℕ → FuncKind → ℕ → Method → syntax.Tree → Result State ElabFault
-outside_body lams s st n kind first m body = and_then (outside_words m.header) (λ w. and_then (check m.header.at NoMember (list_any (is_member_named n m.header.name) st.ctx.funcs)) (λ x. and_then (expect m.header.at TypeDiffers (first_from (is_same_function m.header) 0 st.ctx.funcs)) (λ place.
-    and_then (outside_agrees m.header (func_at st.ctx.funcs place)) (λ y. method_body lams s (record st { ctx = outside_defined s st.ctx place m.header first (last_token (Some body)) }) n place kind m body))))
+outside_body lams s st n kind first m body = and_then (text_sized m.header.at (outside_text s m.header.storage first (last_token (Some body)))) (λ v. and_then (outside_words m.header) (λ w. and_then (check m.header.at NoMember (list_any (is_member_named n m.header.name) st.ctx.funcs)) (λ x. and_then (expect m.header.at TypeDiffers (first_from (is_same_function m.header) 0 st.ctx.funcs)) (λ place.
+    and_then (outside_agrees m.header (func_at st.ctx.funcs place)) (λ y. method_body lams s (record st { ctx = outside_defined s st.ctx place m.header first (last_token (Some body)) }) n place kind m body)))))
 
 -- the class that stands before `::`
 abbrev pub owner_class : Ctx → At → Typ → Result ℕ ElabFault
@@ -385,5 +381,5 @@ abbrev pub class_with : Lambdas → List Lexeme → State → At → Home → sy
 class_with lams s st at home members = and_then (members_of s home (record { state = st; members = []; initialised = [] }) members) (λ (r : Members). class_closed lams s home at r members)
 
 abbrev pub class_defined : Lambdas → List Lexeme → State → At → List ℕ → syntax.Trees → Result State ElabFault
-class_defined lams s st at name kids = and_then (begun st.ctx at name true) (λ (b : Begun). and_then (base_named s b.ctx kids) (λ (base : Option ℕ).
-    class_with lams s (record st { ctx = b.ctx }) at (record { number = b.number; name = name; base = base; is_final = has_final kids }) (members_among kids)))
+class_defined lams s st at name kids = and_then (text_sized at (class_text s kids)) (λ z. and_then (begun st.ctx at name true) (λ (b : Begun). and_then (base_named s b.ctx kids) (λ (base : Option ℕ).
+    class_with lams s (record st { ctx = b.ctx }) at (record { number = b.number; name = name; base = base; is_final = has_final kids }) (members_among kids))))

@@ -14,7 +14,7 @@ use Rattle.elab_ctx.specs.Steps.{and_then, spelling}
 use Rattle.elab_rules.specs.Initialising.{signature_result}
 use Rattle.elab_rules.specs.Types.{type_named}
 use Rattle.elab_rules.specs.Statements.{State, Body}
-use Rattle.elab_rules.specs.Functions.{text_between}
+use Rattle.elab_rules.specs.Classes.{class_text}
 use Rattle.elab_rules.specs.Globals.{symbol_of}
 use Rattle.elab_rules.specs.Units.{start, unit_from}
 
@@ -49,19 +49,10 @@ abbrev pub typed_funcs : State → ℕ → List Func → List TypedFunc
 typed_funcs st i [] = []
 typed_funcs st i (f ∷ fs) = typed_func st.ctx.classes f (body_of i st.bodies) ∷ typed_funcs st (suc i) fs
 
--- The classes that a unit defines, with the text from the first word to the brace
-
-abbrev pub class_key : syntax.Trees → ℕ
-class_key (syntax.more (syntax.node kind p (Some t) kids) ts) = t
-class_key ts = 0
-
-abbrev pub class_brace : syntax.Trees → ℕ
-class_brace syntax.none = 0
-class_brace (syntax.more (syntax.node k.MemberSpecification p (Some t) kids) ts) = t
-class_brace (syntax.more t ts) = class_brace ts
+-- The classes that a unit defines, with the text from the first word to the `;` behind the brace
 
 abbrev pub definition_if : List Lexeme → Option Typ → syntax.Trees → List Definition
-definition_if s (Some (typ (class n) c v)) kids = record { class = n; text = text_between s (class_key kids) (class_brace kids) } ∷ []
+definition_if s (Some (typ (class n) c v)) kids = record { class = n; text = class_text s kids } ∷ []
 definition_if s t kids = []
 
 abbrev pub definition_in : List Lexeme → Ctx → syntax.Tree → List Definition

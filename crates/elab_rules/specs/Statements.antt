@@ -43,6 +43,7 @@ use Rattle.elab_rules.specs.Initialising.{conversion, initial, class_from, from_
 use Rattle.elab_rules.specs.Constants.{constant}
 use Rattle.elab_rules.specs.Operators.{value, truth, dropped, true_at, arithmetic, is_complete, is_throw}
 use Rattle.elab_rules.specs.Names.{is_const_typ}
+use Rattle.elab_rules.specs.Sizes.{typ_sized}
 use Rattle.elab_rules.specs.Strings.{string_bytes}
 use Rattle.elab_rules.specs.Types.{Declared, has_auto, auto_in, may_be_thrown}
 use Rattle.elab_rules.specs.Braces.{item_of, string_token, string_object, is_char_array, syntax_place}
@@ -316,7 +317,7 @@ abbrev pub without_auto : Option Typ → Result Done ElabFault → Result Deduct
 without_auto before r = and_then r (λ (d : Done). Ok (record { done = d; auto = before }))
 
 abbrev pub plain_variable : Lambdas → List Lexeme → State → List ℕ → Typ → At → syntax.Trees → Result Done ElabFault
-plain_variable lams s st name t at init = and_then (declarable st.ctx at t) (λ x. and_then (check at BadDeclaration (is_bounded t)) (λ z. with_initialiser lams s st (placed_variable st name t) t at init))
+plain_variable lams s st name t at init = and_then (declarable st.ctx at t) (λ x. and_then (check at BadDeclaration (is_bounded t)) (λ z. and_then (typ_sized st.ctx.classes at t) (λ y. with_initialiser lams s st (placed_variable st name t) t at init)))
 
 abbrev pub variable_by : Lambdas → List Lexeme → State → List ℕ → Typ → At → Option Typ → syntax.Trees → Bool → Result Deduction ElabFault
 variable_by lams s st name t at before init true = and_then (expect at BadInit (only_expression init)) (λ (e : syntax.Tree). auto_variable lams s (declared_variable st name None) (length st.ctx.variables) t at before e)
