@@ -11,7 +11,7 @@ use Rattle.std.specs.Prelude.{ℕ, List, [], ◌∷◌, Some, None, codes}
 use Rattle.cpp_lex.specs.Tokens.{Lexeme}
 use Rattle.cpp_lex.specs.declared.TokKind.TheVariants as t
 use Rattle.cpp_ast.specs.declared.kinds.NodeKind.TheVariants as k
-use Rattle.cpp_ast.specs.Trees.{Trees, Tree, node, none, more}
+use Rattle.cpp_ast.specs.Trees.{Tree, node, none, more}
 use Rattle.elab_worked.specs.Notation.{at, token, lines}
 
 abbrev pub tokens : List Lexeme

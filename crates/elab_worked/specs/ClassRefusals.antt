@@ -1,9 +1,9 @@
 -- Units with classes or lambdas that are refused.
-use Rattle.std.specs.Prelude.{ℕ, List, [], ◌∷◌, Some, None, codes}
+use Rattle.std.specs.Prelude.{List, [], ◌∷◌, Some, None, codes}
 use Rattle.cpp_lex.specs.Tokens.{Lexeme}
 use Rattle.cpp_lex.specs.declared.TokKind.TheVariants as t
 use Rattle.cpp_ast.specs.declared.kinds.NodeKind.TheVariants as k
-use Rattle.cpp_ast.specs.Trees.{Trees, Tree, node, none, more}
+use Rattle.cpp_ast.specs.Trees.{Tree, node, none, more}
 use Rattle.elab_worked.specs.Notation.{at, token}
 
 --     struct A { void f() final {} }; int main() { return 0; }

@@ -1,5 +1,5 @@
 -- Short forms for tokens, trees and texts that are written out.
-use Rattle.std.specs.Prelude.{ℕ, List, [], ◌∷◌, ◌++◌, Result, Ok, Err}
+use Rattle.std.specs.Prelude.{ℕ, List, [], ◌∷◌, ◌++◌, Result, Err}
 use Rattle.cpp_ast.specs.declared.arena.At.{At}
 use Rattle.cpp_ast.specs.Trees.{Trees, Tree, none, more}
 use Rattle.cpp_lex.specs.Tokens.{Lexeme}
