@@ -1,0 +1,2 @@
+pub mod FromKids
+pub mod Shown
