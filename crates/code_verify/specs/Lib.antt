@@ -1,3 +1,4 @@
 pub mod Walk
 pub mod Bodies
 pub mod Clean
+pub mod Refused

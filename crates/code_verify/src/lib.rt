@@ -6,3 +6,6 @@
 
 pub mod clauses;
 pub mod laws;
+pub mod verified;
+
+pub use verified::{BadCode, GoodImage, verify};

@@ -1,0 +1,56 @@
+//! Verified images.
+ghost use Rattle.std.specs.Prelude.{◌≡◌, IfOk, IfErr};
+ghost use Rattle.tx_code.specs.Views.{image_view};
+ghost use Rattle.tx_code.specs.Sound.{Sound};
+ghost use Rattle.code_verify.specs.Refused.{Refuses};
+
+use std::alloc::Global;
+use std::marker::Model;
+use tx_code::Image;
+
+/// An image that is sound.
+#[derive(Drop)]
+pub struct GoodImage {
+    image: Image,
+}
+
+impl Model for GoodImage {
+    ghost use Rattle.tx_code.specs.declared.image.Image.{Image};
+    ghost use Rattle.tx_code.specs.Views.{image_view};
+    ghost use Rattle.tx_code.specs.Sound.{Sound};
+
+    ghost Value = { Image };
+
+    ghost view = { λ good. good.image };
+
+    ghost invariant = { λ good. Sound (image_view good.image) };
+}
+
+/// Why an image is refused.
+#[derive(PartialEq, Eq, Debug, Drop)]
+pub enum BadCode {
+    /// The numbered clause of sound code is broken first at this index of this function; the instructions of a safe
+    /// body are counted behind those of the plain body.
+    Rule { func: u32, index: u64, rule: u32 },
+    /// Memory ran out.
+    Memory,
+}
+
+/// The image, where it is sound; it is given up where it is not.
+pub fn verify(alloc: Global, image: Image) -> Result<GoodImage, BadCode>
+    ensures same { IfOk result (λ good. good ≡ image) }
+    ensures sound { IfOk result (λ good. Sound (image_view image)) }
+    ensures refused { IfErr result (λ bad. Refuses (image_view image) bad) }
+{
+    Err(BadCode::Memory)
+}
+
+impl GoodImage {
+    /// The image.
+    pub fn image(&self) -> &Image
+        ensures same { result.now ≡ self.now }
+        ensures sound { Sound (image_view result.now) }
+    {
+        &self.image
+    }
+}
