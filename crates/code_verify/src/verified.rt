@@ -1,10 +1,12 @@
 //! Verified images.
-ghost use Rattle.std.specs.Prelude.{◌≡◌, IfOk, IfErr};
+ghost use Rattle.std.specs.Prelude.{◌≡◌, IfOk, IfErr, IfNone, IfSome};
 ghost use Rattle.tx_code.specs.Views.{image_view};
 ghost use Rattle.tx_code.specs.Sound.{Sound};
 ghost use Rattle.code_verify.specs.Refused.{Refuses};
+ghost use Rattle.code_verify.specs.Places.{FirstBroken};
 
-use std::alloc::Global;
+use crate::faults::{Broken, image_fault};
+use std::alloc::{AllocError, Global};
 use std::marker::Model;
 use tx_code::Image;
 
@@ -36,13 +38,30 @@ pub enum BadCode {
     Memory,
 }
 
+// The first broken clause.
+fn judge(alloc: Global, image: &Image) -> Result<Option<Broken>, AllocError>
+    ensures sound { IfOk result (λ o. IfNone o (Sound (image_view image.now))) }
+    ensures broken { IfOk result (λ o. IfSome o (λ _. Sound (image_view image.now) → ⊥)) }
+    ensures first { IfOk result (λ o. IfSome o (λ p. FirstBroken (image_view image.now) p.func p.index p.rule)) }
+{
+    image_fault(alloc, image)
+}
+
 /// The image, where it is sound; it is given up where it is not.
 pub fn verify(alloc: Global, image: Image) -> Result<GoodImage, BadCode>
     ensures same { IfOk result (λ good. good ≡ image) }
     ensures sound { IfOk result (λ good. Sound (image_view image)) }
     ensures refused { IfErr result (λ bad. Refuses (image_view image) bad) }
 {
-    Err(BadCode::Memory)
+    match judge(alloc, &image) {
+        Err(_) => Err(BadCode::Memory),
+        Ok(Some(broken)) => Err(BadCode::Rule {
+            func: broken.func,
+            index: broken.index as u64,
+            rule: broken.rule,
+        }),
+        Ok(None) => Ok(GoodImage { image }),
+    }
 }
 
 impl GoodImage {
