@@ -3,3 +3,12 @@ pub mod Ends
 pub mod Kept
 pub mod Reached
 pub mod Exact
+pub mod NestTables
+pub mod Depths
+pub mod Suffixes
+pub mod Tails
+pub mod SlotNotes
+pub mod RuleLaws
+pub mod FaultLaws
+pub mod Ranges
+pub mod PlaceLaws

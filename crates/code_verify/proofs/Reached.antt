@@ -52,7 +52,7 @@ opens_yes (o ∷ os) (p ∷ ps) h = ap (λ z. z ∷ os) (open_yes o p (and_left 
 both : (b c : Bool) → b ≡ true → c ≡ true → (b && c) ≡ true
 both b c h k = ap (λ z. z && c) h ∙ k
 
-opens_itself : (os : List Open) → same_opens os os ≡ true
+pub opens_itself : (os : List Open) → same_opens os os ≡ true
 opens_itself [] = refl
 opens_itself (o ∷ os) = both (same_open o o) (same_opens os os) (open_itself o) (opens_itself os)
 
