@@ -7,8 +7,6 @@
 pub mod named;
 pub mod picker;
 pub mod policy;
-#[cfg(test)]
-mod tests;
 
 use tx_events::TurnKind;
 

@@ -18,6 +18,3 @@ mod words;
 pub use assembling::assemble;
 pub use fault::AsmFault;
 pub use printing::print;
-
-#[cfg(test)]
-mod tests;

@@ -5,8 +5,6 @@
 #![tactic(auto)]
 
 mod files;
-#[cfg(test)]
-mod tests;
 mod writes;
 
 pub use files::{FileKind, Unread, read_each, read_file, read_given};

@@ -57,6 +57,3 @@ fn value_of(digits: &[u8], most: u64) -> Option<u64>
     }
     Some(value as u64)
 }
-
-#[cfg(test)]
-mod tests;

@@ -18,8 +18,6 @@ mod missing;
 mod names;
 mod size;
 mod tables;
-#[cfg(test)]
-mod tests;
 mod twice;
 mod unlisted;
 

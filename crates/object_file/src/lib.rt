@@ -15,6 +15,3 @@ mod reading;
 pub use fault::ObjectFault;
 pub use object_bytes::{Op, laws, op_of, write};
 pub use reading::read;
-
-#[cfg(test)]
-mod tests;

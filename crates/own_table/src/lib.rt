@@ -10,8 +10,6 @@ pub mod hold;
 mod stripe;
 mod stripes;
 mod table;
-#[cfg(test)]
-mod tests;
 mod words;
 
 /// The number of stripes of a table.

@@ -8,9 +8,6 @@ ghost use Rattle.std.specs.Prelude.{◌≡◌, ◌≤◌, ◌<◌, ◌++◌, ℕ
 ghost use Rattle.std.specs.String.{string_bytes};
 ghost use Rattle.prog_gen.specs.Program.{lines, counters, function_line, block_line, worker, printer, main_lines, program as program_text};
 
-#[cfg(test)]
-mod tests;
-
 use std::alloc::{AllocError, Global};
 
 /// The program made from `n`, in the bytes of its text.

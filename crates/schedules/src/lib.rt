@@ -7,8 +7,6 @@
 pub mod laws;
 mod number;
 mod reader;
-#[cfg(test)]
-mod tests;
 mod writer;
 
 pub use reader::read;

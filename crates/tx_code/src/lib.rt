@@ -18,8 +18,6 @@ pub mod object;
 pub mod runs;
 pub mod standing;
 pub mod tables;
-#[cfg(test)]
-mod tests;
 
 pub use body::{Body, LineRow, Row};
 pub use image::Image;

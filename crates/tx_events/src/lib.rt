@@ -10,8 +10,6 @@ pub mod actor;
 pub mod examples;
 pub mod laws;
 pub mod script;
-#[cfg(test)]
-mod tests;
 
 pub use actor::Actor;
 

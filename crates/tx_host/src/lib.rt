@@ -8,8 +8,6 @@ mod kept;
 mod mem;
 mod real;
 mod steady;
-#[cfg(test)]
-mod tests;
 
 pub use faults::{ReadFault, WriteFault};
 pub use host::Host;

@@ -8,8 +8,6 @@ mod counts;
 mod course;
 mod observer;
 mod run;
-#[cfg(test)]
-mod tests;
 
 pub use counts::Counts;
 pub use observer::{Observer, Unwatched};

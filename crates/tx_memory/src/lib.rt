@@ -5,7 +5,5 @@
 
 mod memory;
 mod parts;
-#[cfg(test)]
-mod tests;
 
 pub use memory::{GLOBALS_LIMIT, Memory};

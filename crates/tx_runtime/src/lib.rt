@@ -14,8 +14,6 @@ mod inside;
 mod lock;
 mod outside;
 mod runtime;
-#[cfg(test)]
-mod tests;
 mod thread;
 mod turn;
 

@@ -9,8 +9,6 @@ pub mod laws;
 mod line;
 mod names;
 mod reader;
-#[cfg(test)]
-mod tests;
 
 pub use command::{
     Asm, Build, Command, Exec, PickerName, PolicyName, Races, Replay, Run, RunOptions,

@@ -9,8 +9,6 @@ mod index;
 pub mod laws;
 mod list;
 pub mod notes;
-#[cfg(test)]
-mod tests;
 mod undo;
 
 pub use notes::Note;

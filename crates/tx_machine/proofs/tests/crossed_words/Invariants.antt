@@ -1,4 +1,0 @@
-use Rattle.tx_machine.proofs.tests.crossed_words.Given as goal
-
-abbrev pub ghost-run_actor : goal.ghost-run_actor
-ghost-run_actor a = λ _. tt
