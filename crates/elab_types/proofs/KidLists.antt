@@ -1,5 +1,5 @@
 -- Kids by their number.
-use Rattle.std.proofs.Common.{◌≡◌, ℕ, ◌<◌, ◌≤◌, Bool, true, nat_lt, lt-ltb, List, [], ◌∷◌, length, refl, arith}
+use Rattle.std.proofs.Common.{◌≡◌, ℕ, ◌<◌, ◌≤◌, true, nat_lt, lt-ltb, List, [], ◌∷◌, length, refl, arith}
 use Rattle.std.proofs.lemmas.Bool.{and_parts, ltb-true}
 use Rattle.cpp_ast.specs.Orders.{are_below}
 use Rattle.cpp_ast.specs.declared.arena.NodeId.{NodeId}

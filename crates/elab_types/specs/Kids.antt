@@ -1,6 +1,5 @@
 -- The kids of a node by their number.
 use Rattle.std.specs.Prelude.{◌≡◌, ◌<◌, ℕ, List}
-use Rattle.cpp_ast.specs.declared.arena.NodeId.{NodeId}
 use Rattle.cpp_ast.specs.Trees.{Tree, Trees, none, more}
 use Rattle.elab_types.specs.Syntax.{tree_at}
 use Rattle.elab_types.specs.declared.kids.Kids.{Kids}

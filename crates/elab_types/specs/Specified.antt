@@ -1,5 +1,5 @@
 -- One more specifier, one more qualifier of a pointer, and a parameter: the steps of which type-ids and declarators are made.
-use Rattle.std.specs.Prelude.{◌≡◌, ℕ, List, [], ◌∷◌, ◌++◌, true, false, Some, Result, Ok, if◌then◌else◌, codes}
+use Rattle.std.specs.Prelude.{ℕ, List, [], ◌∷◌, ◌++◌, true, false, Some, Result, Ok, if◌then◌else◌, codes}
 use Rattle.std.specs.Str.{bytes_eq}
 use Rattle.cpp_types.specs.Typ.{Typ, tx_ex}
 use Rattle.cpp_types.specs.declared.classes.At.{At}

@@ -1,5 +1,5 @@
 -- The syntax trees that the nodes of a unit show.
-use Rattle.std.specs.Prelude.{ℕ, List, [], ◌∷◌, ◌++◌, None, get_or, fold}
+use Rattle.std.specs.Prelude.{List, [], ◌∷◌, ◌++◌, None, get_or, fold}
 use Rattle.cpp_ast.specs.declared.kinds.NodeKind.TheVariants.{Absent}
 use Rattle.cpp_ast.specs.declared.arena.NodeId.{NodeId}
 use Rattle.cpp_ast.specs.declared.arena.Node.{Node}
