@@ -1,0 +1,8 @@
+use Rattle.std.proofs.Common.{sym, ◌∙◌}
+use Rattle.cpp_lex.specs.Tokens.{lexemes_of}
+use Rattle.elab_ctx.specs.Steps.{spelling}
+use Rattle.elab_types.proofs.Counting.{times_map}
+use Rattle.elab_types.proofs.specifiers.times.Goals as goal
+
+pub returns : goal.returns
+returns c = c.in-Ok.ensures.1 ∙ c.occurrences.ensures ∙ sym (times_map (spelling (lexemes_of c.args.tokens.now)) c.args.word.now c.args.words.now)

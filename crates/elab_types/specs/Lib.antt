@@ -1,0 +1,4 @@
+pub mod Kids
+pub mod Shown
+pub mod Specified
+pub mod Syntax
