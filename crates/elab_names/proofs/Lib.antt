@@ -1,0 +1,4 @@
+pub mod Callees
+pub mod Chains
+pub mod Fields
+pub mod Places

@@ -1,0 +1,8 @@
+use Rattle.std.proofs.Common.{◌≡◌, map, drop}
+use Rattle.elab_ctx.specs.Ctx.{func_of}
+use Rattle.elab_rules.specs.Initialising.{places_from}
+use Rattle.elab_rules.specs.Names.{is_method, first_place}
+use Rattle.elab_names.proofs.functions.first_method.Given as goal
+
+abbrev pub invariant-loop-i : goal.invariant-loop-i
+invariant-loop-i l = first_place (places_from (is_method l.class l.name) l.i (map func_of (drop l.i l.funcs))) ≡ first_place (places_from (is_method l.class l.name) 0 (map func_of l.funcs))

@@ -1,0 +1,8 @@
+use Rattle.std.proofs.Common.{◌≡◌, ◌++◌, map, drop}
+use Rattle.elab_ctx.specs.Ctx.{func_of}
+use Rattle.elab_rules.specs.Initialising.{places_from}
+use Rattle.elab_rules.specs.Names.{is_free}
+use Rattle.elab_names.proofs.functions.free_places.Given as goal
+
+abbrev pub invariant-loop-i : goal.invariant-loop-i
+invariant-loop-i l = l.places.items ++ places_from (is_free l.name) l.i (map func_of (drop l.i l.funcs)) ≡ places_from (is_free l.name) 0 (map func_of l.funcs)

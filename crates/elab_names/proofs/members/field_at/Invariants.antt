@@ -1,0 +1,7 @@
+use Rattle.std.proofs.Common.{◌≡◌, map, drop}
+use Rattle.cpp_types.specs.Class.{member_of}
+use Rattle.elab_rules.specs.Names.{field_from}
+use Rattle.elab_names.proofs.members.field_at.Given as goal
+
+abbrev pub invariant-loop-i : goal.invariant-loop-i
+invariant-loop-i l = field_from l.class 0 l.name (map member_of l.members) ≡ field_from l.class l.i l.name (map member_of (drop l.i l.members))

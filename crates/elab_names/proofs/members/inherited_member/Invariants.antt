@@ -1,0 +1,10 @@
+use Rattle.std.proofs.Common.{◌≡◌, ℕ, ◌+◌}
+use Rattle.cpp_types.specs.Class.{classes_of}
+use Rattle.cpp_types.specs.Conversion.{chain}
+use Rattle.elab_ctx.specs.Ctx.{ctx_of}
+use Rattle.elab_rules.specs.Names.{found_along}
+use Rattle.elab_names.proofs.members.inherited_member.Given as goal
+
+-- `k` more bases may be looked at
+abbrev pub invariant-loop-passed : goal.invariant-loop-passed
+invariant-loop-passed l = (k : ℕ) → l._passed + k ≡ l.most → found_along (ctx_of l.env) l.name (chain l.most (classes_of l.env.classes.items) l.fn.class) ≡ found_along (ctx_of l.env) l.name (chain k (classes_of l.env.classes.items) l.below)

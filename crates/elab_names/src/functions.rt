@@ -1,0 +1,113 @@
+// The functions of a name, by their places in the list of functions.
+
+ghost use Rattle.std.specs.Prelude.{◌≡◌, ◌++◌, ◌∷◌, [], map, option_map, IfOk, OnOk, if◌then◌else◌};
+ghost use Rattle.elab_ctx.specs.Ctx.{func_of};
+ghost use Rattle.elab_rules.specs.Initialising.{same_number, places_from};
+ghost use Rattle.elab_rules.specs.Names.{is_plain_kind, is_method as is_method_of, is_free as is_free_of, first_place, methods};
+ghost use Rattle.elab_rules.specs.Calls.{is_closure_call};
+
+use cpp_tree::FuncKind;
+use elab_ctx::FuncDecl;
+use std::alloc::{AllocError, Global};
+
+/// Whether a class is the one with a number.
+pub fn is_number(number: u32, class: Option<u32>) -> bool
+    ensures { result ≡ same_number number class }
+{
+    match class {
+        Some(found) => found == number,
+        None => false,
+    }
+}
+
+fn is_plain(kind: FuncKind) -> bool
+    ensures { result ≡ is_plain_kind kind }
+{
+    match kind {
+        FuncKind::Plain => true,
+        FuncKind::Constructor | FuncKind::Destructor | FuncKind::ClosureCall => false,
+    }
+}
+
+/// Whether a function is a member function of a class and has a name; a special member is none.
+pub fn is_method(found: &FuncDecl, class: u32, name: &[u8]) -> bool
+    ensures { result ≡ is_method_of class name.now (func_of found.now) }
+{
+    found.rec.name.as_slice() == name && is_number(class, found.class) && is_plain(found.kind)
+}
+
+/// Whether a function at file scope has a name.
+pub fn is_free(found: &FuncDecl, name: &[u8]) -> bool
+    ensures { result ≡ is_free_of name.now (func_of found.now) }
+{
+    found.rec.name.as_slice() == name && found.class.is_none()
+}
+
+// Adds a place where a test holds.
+fn keep_if(places: &mut Vec<u32>, holds: bool, i: usize) -> Result<(), AllocError>
+    ensures { OnOk result (places.new.items ≡ (if holds then places.old.items ++ i ∷ [] else places.old.items)) }
+{
+    if holds {
+        let Ok(place) = u32::try_from(i) else {
+            return Err(AllocError);
+        };
+        places.push(place)?;
+    }
+    Ok(())
+}
+
+/// The functions at file scope that have a name.
+pub fn free_places(alloc: Global, funcs: &[FuncDecl], name: &[u8]) -> Result<Vec<u32>, AllocError>
+    ensures { IfOk result (λ v. v.items ≡ places_from (is_free_of name.now) 0 (map func_of funcs.now)) }
+{
+    let mut places = Vec::new(alloc);
+    for (i, found) in funcs.iter().enumerate() {
+        let holds = is_free(found, name);
+        keep_if(&mut places, holds, i)?;
+    }
+    Ok(places)
+}
+
+/// The member functions of a class that have a name.
+pub fn method_places(
+    alloc: Global,
+    funcs: &[FuncDecl],
+    class: u32,
+    name: &[u8],
+) -> Result<Vec<u32>, AllocError>
+    ensures { IfOk result (λ v. v.items ≡ places_from (is_method_of class name.now) 0 (map func_of funcs.now)) }
+{
+    let mut places = Vec::new(alloc);
+    for (i, found) in funcs.iter().enumerate() {
+        let holds = is_method(found, class, name);
+        keep_if(&mut places, holds, i)?;
+    }
+    Ok(places)
+}
+
+/// The functions of a lambda's class.
+pub fn closure_places(alloc: Global, funcs: &[FuncDecl], class: u32) -> Result<Vec<u32>, AllocError>
+    ensures { IfOk result (λ v. v.items ≡ places_from (is_closure_call class) 0 (map func_of funcs.now)) }
+{
+    let mut places = Vec::new(alloc);
+    for (i, found) in funcs.iter().enumerate() {
+        let holds = is_number(class, found.class);
+        keep_if(&mut places, holds, i)?;
+    }
+    Ok(places)
+}
+
+/// The first of the member functions of a class that have a name.
+pub fn first_method(funcs: &[FuncDecl], class: u32, name: &[u8]) -> Result<Option<u32>, AllocError>
+    ensures { IfOk result (λ o. option_map methods o ≡ first_place (places_from (is_method_of class name.now) 0 (map func_of funcs.now))) }
+{
+    for (i, found) in funcs.iter().enumerate() {
+        if is_method(found, class, name) {
+            let Ok(place) = u32::try_from(i) else {
+                return Err(AllocError);
+            };
+            return Ok(Some(place));
+        }
+    }
+    Ok(None)
+}

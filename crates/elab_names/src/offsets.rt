@@ -1,0 +1,32 @@
+// Where members lie.
+
+ghost use Rattle.std.specs.Prelude.{◌≡◌, IfOk};
+ghost use Rattle.cpp_types.specs.Class.{classes_of};
+ghost use Rattle.elab_rules.specs.Names.{offset_at as offset_of};
+
+use crate::parts::plain_type;
+use cpp_layout::{offset, size_align};
+use cpp_types::Shape;
+use elab_ctx::{Env, class_at};
+use std::alloc::AllocError;
+
+/// The offset of a member in the objects of a class, by its index. A class that is not complete, or too large, has no
+/// offsets: that counts as want of memory, since the declaration of such a class is refused.
+pub fn offset_at(env: &Env, class: u32, index: u32) -> Result<u32, AllocError>
+    ensures { IfOk result (λ o. o ≡ offset_of (classes_of env.now.classes.items) class index) }
+{
+    let Some(found) = class_at(env, class) else {
+        return Ok(0);
+    };
+    if index as usize >= found.members.len() {
+        return Ok(0);
+    }
+    let Some(_number) = found.complete else {
+        return Err(AllocError);
+    };
+    let whole = plain_type(Shape::Class(class));
+    match size_align(&whole, &env.classes) {
+        Ok(_) => Ok(offset(&env.classes, class, index)),
+        Err(_) => Err(AllocError),
+    }
+}
