@@ -15,12 +15,12 @@ use Rattle.tx_code.specs.Signatures.{takes_of, gives_of}
 use Rattle.tx_code.specs.Sound.{Signature, signature, table_of, frame_right, SoundBody, SoundFunc, Sound}
 use Rattle.code_verify.specs.declared.faults.Fault.{Fault}
 use Rattle.code_verify.specs.declared.faults.Broken.{Broken}
-use Rattle.code_verify.specs.Walk.{Slot, slot_at, walked}
-use Rattle.code_verify.specs.Bodies.{space}
-use Rattle.code_verify.specs.Clean.{Clean}
+use Rattle.code_walk.specs.Walk.{Slot, slot_at, walked}
+use Rattle.code_walk.specs.Bodies.{space}
+use Rattle.code_walk.specs.Clean.{Clean}
 use Rattle.code_verify.specs.Rules.{index_rule, row_rule}
 use Rattle.code_verify.specs.Faults.{fault, earlier, is_before, or_next, at_place, row_fault, first_of_rows, first_of_indexes, first_by, body_fault, frame_fault, behind, safe_fault, func_fault, or_below, first_of_funcs, image_fault}
-use Rattle.code_verify.proofs.Exact.{clean_is_sound, sound_is_clean}
+use Rattle.code_walk.proofs.Exact.{clean_is_sound, sound_is_clean}
 use Rattle.code_verify.proofs.RuleLaws.{none_clean, clean_index, clean_row, NoIndex, NoRow}
 
 some_none : {A P : Type 0} (a : A) → Some a ≡ None → P
@@ -76,9 +76,9 @@ module _ (x : Table) (g : Signature) (safe : Bool) (b : BodyView) where
       let p = rows_none ss (earlier first (row_fault x b ss q)) rs h in
       let e = earlier_none first (row_fault x b ss q) p.0 in
       (e.0, λ r m. row_in r m (place_none (min q.from (length b.code - 1)) (row_rule x b ss q) e.1) p.1) where
-    row_in : (r : Row) → Among r (q ∷ rs) → row_rule x b ss q ≡ None → ((t : Row) → Among t rs → row_rule x b ss t ≡ None) → row_rule x b ss r ≡ None
-    row_in r here e f = e
-    row_in r (there m) e f = f r m
+        row_in : (r : Row) → Among r (q ∷ rs) → row_rule x b ss q ≡ None → ((t : Row) → Among t rs → row_rule x b ss t ≡ None) → row_rule x b ss r ≡ None
+        row_in r here e f = e
+        row_in r (there m) e f = f r m
 
   none_rows : (ss : List (Slot Shape)) (first : Option Fault) (rs : List Row) → first ≡ None → ((r : Row) → Among r rs → row_rule x b ss r ≡ None) → first_of_rows x b ss first rs ≡ None
   none_rows ss first [] h f = h
@@ -98,8 +98,8 @@ module _ (x : Table) (g : Signature) (safe : Bool) (b : BodyView) where
       let p = if_fault (nat_eq (length b.code) 0) (first_by x g safe b (walked (space x g b))) h in
       let some : 0 < length b.code = filled (length b.code) p.0 in
       clean_is_sound x g safe b (by_none p.1 some) where
-    filled : (n : ℕ) → nat_eq n 0 ≡ false → 0 < n
-    filled n e = let d : n ≡ 0 → ⊥ = eqb-false n 0 e in omega (arith, d)
+        filled : (n : ℕ) → nat_eq n 0 ≡ false → 0 < n
+        filled n e = let d : n ≡ 0 → ⊥ = eqb-false n 0 e in omega (arith, d)
 
   pub none_body : SoundBody x g safe b → body_fault x g safe b ≡ None
   none_body s =

@@ -1,14 +1,4 @@
-pub mod Notes
-pub mod Ends
-pub mod Kept
-pub mod Reached
-pub mod Exact
-pub mod NestTables
-pub mod Depths
-pub mod Suffixes
-pub mod Tails
-pub mod SlotNotes
+pub mod Ranges
 pub mod RuleLaws
 pub mod FaultLaws
-pub mod Ranges
 pub mod PlaceLaws

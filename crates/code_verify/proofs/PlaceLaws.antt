@@ -13,8 +13,8 @@ use Rattle.tx_code.specs.Sound.{Signature, signature, table_of, frame_right}
 use Rattle.tx_code.proofs.ReachedIndexes.{and_left, and_right}
 use Rattle.code_verify.specs.declared.faults.Fault.{Fault}
 use Rattle.code_verify.specs.declared.faults.Broken.{Broken}
-use Rattle.code_verify.specs.Walk.{Slot, slot_at, walked}
-use Rattle.code_verify.specs.Bodies.{space}
+use Rattle.code_walk.specs.Walk.{Slot, slot_at, walked}
+use Rattle.code_walk.specs.Bodies.{space}
 use Rattle.code_verify.specs.Rules.{first_broken, or_then, alone_right, shaped_right, row_alone, row_over, index_rule, row_rule}
 use Rattle.code_verify.specs.Faults.{fault, earlier, is_before, or_next, at_place, row_fault, first_of_rows, first_of_indexes, first_by, body_fault, frame_fault, behind, safe_fault, func_fault, or_below, first_of_funcs, image_fault}
 use Rattle.code_verify.specs.Places.{fails, index_breaks, row_breaks, BodyBreaks, is_empty, at_index, by_row, FuncBreaks, by_frame, in_plain, in_safe, Breaks, Precedes, PrecedesIn, FirstBroken}
@@ -87,11 +87,11 @@ module _ (x : Table) (g : Signature) (safe : Bool) (b : BodyView) where
       (λ r t h k. let l : r < 4 = fails_before 1 0 (alone_right x (length b.code) i a) r h in let m : 4 ≤ t = past_three t k in omega (arith, l, m))
       (least_first 1 (alone_right x (length b.code) i a))
       (least_clash s.clash (λ r. fails 5 r (shaped_right x g.gives safe b.rows i a s.shape)) _ (λ t k. let m : 5 ≤ t = shaped_from i a s.shape t k in omega (arith, m)) (least_first 5 (shaped_right x g.gives safe b.rows i a s.shape))) where
-    past_three : (t : ℕ) → ((nat_eq 4 t && s.clash) || fails 5 t (shaped_right x g.gives safe b.rows i a s.shape)) ≡ true → 4 ≤ t
-    past_three t h = elim (or_true (nat_eq 4 t && s.clash) (fails 5 t (shaped_right x g.gives safe b.rows i a s.shape)) h) [
-      | inl e ↦ let q : 4 ≡ t = eqb-true 4 t (and_left (nat_eq 4 t) s.clash e) in omega (arith, q)
-      | inr e ↦ let m : 5 ≤ t = shaped_from i a s.shape t e in omega (arith, m)
-    ]
+        past_three : (t : ℕ) → ((nat_eq 4 t && s.clash) || fails 5 t (shaped_right x g.gives safe b.rows i a s.shape)) ≡ true → 4 ≤ t
+        past_three t h = elim (or_true (nat_eq 4 t && s.clash) (fails 5 t (shaped_right x g.gives safe b.rows i a s.shape)) h) [
+          | inl e ↦ let q : 4 ≡ t = eqb-true 4 t (and_left (nat_eq 4 t) s.clash e) in omega (arith, q)
+          | inr e ↦ let m : 5 ≤ t = shaped_from i a s.shape t e in omega (arith, m)
+        ]
 
   least_row : (slots : List (Slot Shape)) (r : Row) → LeastRule (row_breaks x b slots r) (row_rule x b slots r)
   least_row slots r = least_then (λ t. fails 1 t (row_alone x (length b.code) r)) (λ t. fails 10 t (row_over b.code slots r)) _ _
@@ -182,19 +182,19 @@ module _ (x : Table) (g : Signature) (safe : Bool) (b : BodyView) where
   least_indexes n [] = λ j s q. none-some q.instr q.is
   least_indexes n (c ∷ cs) = least_as (λ j s. Here n c j s ⊎ IndexIn x g safe b (n + 1) cs j s) (IndexIn x g safe b n (c ∷ cs)) to from _
       (least_next (Here n c) (IndexIn x g safe b (n + 1) cs) _ _ ordered (least_at (index_breaks x g.gives safe b n c (slot_at W n)) n _ (least_index x g safe b n c (slot_at W n))) (least_indexes (n + 1) cs)) where
-    to : (j s : ℕ) → Here n c j s ⊎ IndexIn x g safe b (n + 1) cs j s → IndexIn x g safe b n (c ∷ cs) j s
-    to j s (inl h) = record { place = 0; at = (let e : j ≡ n = h.0 in omega (arith, e)); instr = c; is = refl; breaks = subst (λ z. index_breaks x g.gives safe b z c (slot_at W z) s ≡ true) (sym h.0) h.1 }
-    to j s (inr q) = record { place = suc q.place; at = (let e : n + 1 + q.place ≡ j = q.at in omega (arith, e)); instr = q.instr; is = q.is; breaks = q.breaks }
+        to : (j s : ℕ) → Here n c j s ⊎ IndexIn x g safe b (n + 1) cs j s → IndexIn x g safe b n (c ∷ cs) j s
+        to j s (inl h) = record { place = 0; at = (let e : j ≡ n = h.0 in omega (arith, e)); instr = c; is = refl; breaks = subst (λ z. index_breaks x g.gives safe b z c (slot_at W z) s ≡ true) (sym h.0) h.1 }
+        to j s (inr q) = record { place = suc q.place; at = (let e : n + 1 + q.place ≡ j = q.at in omega (arith, e)); instr = q.instr; is = q.is; breaks = q.breaks }
 
-    split : (j s k : ℕ) (a : Instr) → n + k ≡ j → slice_get (c ∷ cs) k ≡ Some a → index_breaks x g.gives safe b j a (slot_at W j) s ≡ true → Here n c j s ⊎ IndexIn x g safe b (n + 1) cs j s
-    split j s zero a e i h = let q : j ≡ n = omega (arith, e) in inl (q, subst (λ z. index_breaks x g.gives safe b z c (slot_at W z) s ≡ true) q (subst (λ z. index_breaks x g.gives safe b j z (slot_at W j) s ≡ true) (sym (same_Some c a i)) h))
-    split j s (suc k) a e i h = inr (record { place = k; at = omega (arith, e); instr = a; is = i; breaks = h })
+        split : (j s k : ℕ) (a : Instr) → n + k ≡ j → slice_get (c ∷ cs) k ≡ Some a → index_breaks x g.gives safe b j a (slot_at W j) s ≡ true → Here n c j s ⊎ IndexIn x g safe b (n + 1) cs j s
+        split j s zero a e i h = let q : j ≡ n = omega (arith, e) in inl (q, subst (λ z. index_breaks x g.gives safe b z c (slot_at W z) s ≡ true) q (subst (λ z. index_breaks x g.gives safe b j z (slot_at W j) s ≡ true) (sym (same_Some c a i)) h))
+        split j s (suc k) a e i h = inr (record { place = k; at = omega (arith, e); instr = a; is = i; breaks = h })
 
-    from : (j s : ℕ) → IndexIn x g safe b n (c ∷ cs) j s → Here n c j s ⊎ IndexIn x g safe b (n + 1) cs j s
-    from j s q = split j s q.place q.instr q.at q.is q.breaks
+        from : (j s : ℕ) → IndexIn x g safe b n (c ∷ cs) j s → Here n c j s ⊎ IndexIn x g safe b (n + 1) cs j s
+        from j s q = split j s q.place q.instr q.at q.is q.breaks
 
-    ordered : (i r j s : ℕ) → Here n c i r → IndexIn x g safe b (n + 1) cs j s → ((k t : ℕ) → Here n c k t → Precedes i r k t) → Precedes i r j s
-    ordered i r j s h q f = let e : i ≡ n = h.0 in let d : n + 1 + q.place ≡ j = q.at in inl (omega (arith, e, d))
+        ordered : (i r j s : ℕ) → Here n c i r → IndexIn x g safe b (n + 1) cs j s → ((k t : ℕ) → Here n c k t → Precedes i r k t) → Precedes i r j s
+        ordered i r j s h q f = let e : i ≡ n = h.0 in let d : n + 1 + q.place ≡ j = q.at in inl (omega (arith, e, d))
 
   abbrev AtRow : Row → ℕ → ℕ → Type 0
   AtRow r j s = (j ≡ min r.from (length b.code - 1)) × (row_breaks x b W r s ≡ true)
@@ -203,18 +203,18 @@ module _ (x : Table) (g : Signature) (safe : Bool) (b : BodyView) where
   least_rows P first [] h = least_as P (λ j s. P j s ⊎ RowIn x g b [] j s) (λ j s p. inl p) (λ j s e. elim e [ inl p ↦ p | inr q ↦ elim (q.among) [ ] ]) first h
   least_rows P first (r ∷ rs) h = least_as (λ j s. (P j s ⊎ AtRow r j s) ⊎ RowIn x g b rs j s) (λ j s. P j s ⊎ RowIn x g b (r ∷ rs) j s) to from _
       (least_rows (λ j s. P j s ⊎ AtRow r j s) (earlier first (row_fault x b W r)) rs (least_earlier P (AtRow r) first (row_fault x b W r) h (least_at (row_breaks x b W r) (min r.from (length b.code - 1)) _ (least_row x g safe b W r)))) where
-    to : (j s : ℕ) → (P j s ⊎ AtRow r j s) ⊎ RowIn x g b rs j s → P j s ⊎ RowIn x g b (r ∷ rs) j s
-    to j s (inl (inl p)) = inl p
-    to j s (inl (inr q)) = inr (record { row = r; among = here; at = q.0; breaks = q.1 })
-    to j s (inr q) = inr (record { row = q.row; among = there q.among; at = q.at; breaks = q.breaks })
+        to : (j s : ℕ) → (P j s ⊎ AtRow r j s) ⊎ RowIn x g b rs j s → P j s ⊎ RowIn x g b (r ∷ rs) j s
+        to j s (inl (inl p)) = inl p
+        to j s (inl (inr q)) = inr (record { row = r; among = here; at = q.0; breaks = q.1 })
+        to j s (inr q) = inr (record { row = q.row; among = there q.among; at = q.at; breaks = q.breaks })
 
-    split : (j s : ℕ) (t : Row) → Among t (r ∷ rs) → j ≡ min t.from (length b.code - 1) → row_breaks x b W t s ≡ true → (P j s ⊎ AtRow r j s) ⊎ RowIn x g b rs j s
-    split j s t here e k = inl (inr (e, k))
-    split j s t (there m) e k = inr (record { row = t; among = m; at = e; breaks = k })
+        split : (j s : ℕ) (t : Row) → Among t (r ∷ rs) → j ≡ min t.from (length b.code - 1) → row_breaks x b W t s ≡ true → (P j s ⊎ AtRow r j s) ⊎ RowIn x g b rs j s
+        split j s t here e k = inl (inr (e, k))
+        split j s t (there m) e k = inr (record { row = t; among = m; at = e; breaks = k })
 
-    from : (j s : ℕ) → P j s ⊎ RowIn x g b (r ∷ rs) j s → (P j s ⊎ AtRow r j s) ⊎ RowIn x g b rs j s
-    from j s (inl p) = inl (inl p)
-    from j s (inr q) = split j s q.row q.among q.at q.breaks
+        from : (j s : ℕ) → P j s ⊎ RowIn x g b (r ∷ rs) j s → (P j s ⊎ AtRow r j s) ⊎ RowIn x g b rs j s
+        from j s (inl p) = inl (inl p)
+        from j s (inr q) = split j s q.row q.among q.at q.breaks
 
   index_from : (i : ℕ) (a : Instr) (t : Slot Shape) (s : ℕ) → index_breaks x g.gives safe b i a t s ≡ true → 1 ≤ s
   index_from i a t s h = elim (or_true (fails 1 s (alone_right x (length b.code) i a)) ((nat_eq 4 s && t.clash) || fails 5 s (shaped_right x g.gives safe b.rows i a t.shape)) h) [
@@ -294,8 +294,11 @@ module _ (x : Table) (f : ImageFuncView) where
 
   least_behind : (b : BodyView) (o : Option Fault) → Least (BodyBreaks x (signature f.ty) true b) o → Least (SafeIn (Some b)) (behind (length f.plain.code) o)
   least_behind b None h = λ j s q. h q.index s (subst (λ z. BodyBreaks x (signature f.ty) true z q.index s) (sym (same_Some b q.body q.is)) q.breaks)
-  least_behind b (Some p) h = (record { body = b; is = refl; index = p.index; at = refl; breaks = h.0 }, λ j s q.
-      subst (λ z. Precedes (length f.plain.code + p.index) p.rule z s) (sym q.at) (shifted (length f.plain.code) p.index p.rule q.index s (h.1 q.index s (subst (λ z. BodyBreaks x (signature f.ty) true z q.index s) (sym (same_Some b q.body q.is)) q.breaks))))
+  least_behind b (Some p) h = (
+    record { body = b; is = refl; index = p.index; at = refl; breaks = h.0 },
+    λ j s q.
+        subst (λ z. Precedes (length f.plain.code + p.index) p.rule z s) (sym q.at) (shifted (length f.plain.code) p.index p.rule q.index s (h.1 q.index s (subst (λ z. BodyBreaks x (signature f.ty) true z q.index s) (sym (same_Some b q.body q.is)) q.breaks))),
+  )
 
   least_safe : (o : Option BodyView) → Least (SafeIn o) (safe_fault x f o)
   least_safe None = λ j s q. none-some q.body q.is
@@ -360,10 +363,13 @@ module _ (x : Table) where
   first_below : (n : ℕ) (f : ImageFuncView) (fs : List ImageFuncView) (o : Option Fault) (m : Option Broken) → Least (FuncBreaks x f) o → First x (n + 1) fs m → First x n (f ∷ fs) (or_below n o m)
   first_below n f fs None None h g = λ k j s q. elim (at_front n k j s f fs q) [ inl p ↦ h j s p.1 | inr p ↦ g k j s p ]
   first_below n f fs None (Some p) h g = (behind_one n p.func p.index p.rule f fs g.0, λ k j s q. elim (at_front n k j s f fs q) [ inl w ↦ absurd (h j s w.1) | inr w ↦ g.1 k j s w ])
-  first_below n f fs (Some p) m h g = (record { place = 0; at = omega arith; func = f; is = refl; breaks = h.0 }, λ k j s q. elim (at_front n k j s f fs q) [
-    | inl w ↦ inr (w.0, h.1 j s w.1)
-    | inr w ↦ inl (let e : n + 1 + w.place ≡ k = w.at in omega (arith, e))
-  ])
+  first_below n f fs (Some p) m h g = (
+    record { place = 0; at = omega arith; func = f; is = refl; breaks = h.0 },
+    λ k j s q. elim (at_front n k j s f fs q) [
+      | inl w ↦ inr (w.0, h.1 j s w.1)
+      | inr w ↦ inl (let e : n + 1 + w.place ≡ k = w.at in omega (arith, e))
+    ],
+  )
 
   first_funcs : (n : ℕ) (fs : List ImageFuncView) → First x n fs (first_of_funcs x n fs)
   first_funcs n [] = λ k j s q. none-some q.func q.is

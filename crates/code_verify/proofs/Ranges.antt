@@ -3,12 +3,12 @@ use Rattle.std.proofs.Common.{Bool, true, false, ◌≡◌, ◌<◌, ℕ, zero, 
 use Rattle.std.specs.Prelude.{◌&&◌}
 use Rattle.tx_events.specs.Thread.{Open}
 use Rattle.tx_code.specs.Shapes as shapes
-use Rattle.code_verify.specs.declared.walk.Slot.{Slot}
-use Rattle.code_verify.specs.Walk as walk
-use Rattle.code_verify.specs.Walk.{bare, slot_at}
-use Rattle.code_verify.specs.Slots.{slot_of}
+use Rattle.code_walk.specs.declared.walk.Slot.{Slot}
+use Rattle.code_walk.specs.Walk as walk
+use Rattle.code_walk.specs.Walk.{bare, slot_at}
+use Rattle.code_walk.specs.Slots.{slot_of}
 use Rattle.code_verify.specs.Rules.{of_shape, holds_over}
-use Rattle.code_verify.proofs.SlotNotes.{get_map}
+use Rattle.code_walk.proofs.SlotNotes.{get_map}
 
 first_of : (test : ℕ → shapes.Shape → Bool) (ss : List (walk.Slot shapes.Shape)) (i to : ℕ) → i < to → holds_over test ss i (to - i) ≡ (of_shape (test i) (slot_at ss i).shape && holds_over test ss (i + 1) (to - (i + 1)))
 first_of test ss i to h = let e : to - i ≡ suc (to - (i + 1)) = omega (arith, h) in ap (holds_over test ss i) e

@@ -13,12 +13,12 @@ use Rattle.tx_code.specs.Meaning.{covers}
 use Rattle.tx_code.specs.Shapes.{Shape, Table, outgoing, Among, here, there}
 use Rattle.tx_code.specs.Sound.{Signature, target_lies, row_lies, is_last, is_known, row_is_known, names_right, row_names_right, passes, exception_right, is_inside, inside_right, outside_right, closes_right, edge_right, has_edge, left_at}
 use Rattle.tx_code.proofs.ReachedIndexes.{and_left, and_right, or_false, get_at, all_at, all_among}
-use Rattle.code_verify.specs.Walk.{Slot, slot_at, walked}
-use Rattle.code_verify.specs.Bodies.{space}
-use Rattle.code_verify.specs.Clean.{Found, Clean}
+use Rattle.code_walk.specs.Walk.{Slot, slot_at, walked}
+use Rattle.code_walk.specs.Bodies.{space}
+use Rattle.code_walk.specs.Clean.{Found, Clean}
 use Rattle.code_verify.specs.Rules.{first_broken, of_shape, alone_right, place_right, outer_right, blocks_right, shape_right, shaped_right, or_then, index_rule, row_alone, holds_over, edge_test, depth_test, row_over, row_rule}
-use Rattle.code_verify.proofs.Kept.{kept_walked}
-use Rattle.code_verify.proofs.Reached.{tests}
+use Rattle.code_walk.proofs.Kept.{kept_walked}
+use Rattle.code_walk.proofs.Reached.{tests}
 
 -- ---- lists of tests
 
@@ -177,10 +177,25 @@ module _ (x : Table) (g : Signature) (safe : Bool) (b : BodyView) where
         sym (ap (λ o. option_map_or is_last o false) (ap (slice_get b.code) j ∙ e)) ∙ k.last
 
     shape_true : (i : ℕ) (s : Shape) (a : Instr) → Found x g b i s → slice_get b.code i ≡ Some a → AllTrue (shape_right x g.gives safe b.rows i a s)
-    shape_true i s a f e = (k.operands i s a f e, (k.words i s a f e, (k.exceptions i s a f e, (
-        unless_back (is_inside safe s.opens) (inside_right x a) (λ h. k.inside i s a f e h), (
-        either_back (is_inside safe s.opens) (outside_right a) (λ h. k.outside i s a f e h), (
-        both (closes_right a s) (is_empty s.opens || has_edge b.rows i) (k.closes i s a f e) (k.covered i s f), tt))))))
+    shape_true i s a f e = (
+      k.operands i s a f e,
+      (
+        k.words i s a f e,
+        (
+          k.exceptions i s a f e,
+          (
+            unless_back (is_inside safe s.opens) (inside_right x a) (λ h. k.inside i s a f e h),
+            (
+              either_back (is_inside safe s.opens) (outside_right a) (λ h. k.outside i s a f e h),
+              (
+                both (closes_right a s) (is_empty s.opens || has_edge b.rows i) (k.closes i s a f e) (k.covered i s f),
+                tt,
+              ),
+            ),
+          ),
+        ),
+      ),
+    )
 
     shaped_none : (i : ℕ) (a : Instr) → slice_get b.code i ≡ Some a → (o : Option Shape) → (slot_at W i).shape ≡ o → first_broken 5 (shaped_right x g.gives safe b.rows i a o) ≡ None
     shaped_none i a e None f = refl
@@ -198,5 +213,9 @@ module _ (x : Table) (g : Signature) (safe : Bool) (b : BodyView) where
     clean_row r m = none_then (first_broken 1 (row_alone x (length b.code) r)) _
         (true_none 1 (row_alone x (length b.code) r) (all_among (row_lies (length b.code)) m k.rows, (all_among row_is_known m k.rows_known, (all_among (row_names_right x) m k.rows_names, tt))))
         (true_none 10 (row_over b.code W r) (
-            over_back (edge_test r) W r.from (r.to - r.from) (λ i l h. some_of (edge_test r i) (slot_at W i).shape (slot_at W i).shape refl (λ s f. k.edges i s r f m (covers_from r i l h))), (
-            over_back (depth_test b.code r) W r.from (r.to - r.from) (λ i l h. some_of (depth_test b.code r i) (slot_at W i).shape (slot_at W i).shape refl (λ s f. of_instr (λ z. nat_le r.depth (left_at z s.depth)) (slice_get b.code i) (slice_get b.code i) refl (λ a e. k.depths i s a r f e m (covers_from r i l h)))), tt)))
+          over_back (edge_test r) W r.from (r.to - r.from) (λ i l h. some_of (edge_test r i) (slot_at W i).shape (slot_at W i).shape refl (λ s f. k.edges i s r f m (covers_from r i l h))),
+          (
+            over_back (depth_test b.code r) W r.from (r.to - r.from) (λ i l h. some_of (depth_test b.code r i) (slot_at W i).shape (slot_at W i).shape refl (λ s f. of_instr (λ z. nat_le r.depth (left_at z s.depth)) (slice_get b.code i) (slice_get b.code i) refl (λ a e. k.depths i s a r f e m (covers_from r i l h)))),
+            tt,
+          ),
+        ))

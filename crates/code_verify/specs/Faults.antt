@@ -8,8 +8,8 @@ use Rattle.tx_code.specs.Shapes.{Shape, Table}
 use Rattle.tx_code.specs.Sound.{Signature, signature, table_of, frame_right}
 use Rattle.code_verify.specs.declared.faults.Fault.{Fault}
 use Rattle.code_verify.specs.declared.faults.Broken.{Broken}
-use Rattle.code_verify.specs.Walk.{Slot, slot_at, walked}
-use Rattle.code_verify.specs.Bodies.{space}
+use Rattle.code_walk.specs.Walk.{Slot, slot_at, walked}
+use Rattle.code_walk.specs.Bodies.{space}
 use Rattle.code_verify.specs.Rules.{index_rule, row_rule}
 
 abbrev pub fault : (index rule : ℕ) → Fault

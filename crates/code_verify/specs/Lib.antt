@@ -1,11 +1,4 @@
-pub mod Walk
-pub mod Bodies
-pub mod Clean
-pub mod Refused
-pub mod Nests
-pub mod ShapeViews
-pub mod Spellings
-pub mod Slots
 pub mod Rules
 pub mod Faults
 pub mod Places
+pub mod Refused

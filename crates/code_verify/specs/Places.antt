@@ -6,8 +6,8 @@ use Rattle.tx_code.specs.Objects.{BodyView}
 use Rattle.tx_code.specs.Images.{ImageFuncView, ImageView}
 use Rattle.tx_code.specs.Shapes.{Shape, Table, Among}
 use Rattle.tx_code.specs.Sound.{Signature, signature, table_of, frame_right}
-use Rattle.code_verify.specs.Walk.{Slot, slot_at, walked}
-use Rattle.code_verify.specs.Bodies.{space}
+use Rattle.code_walk.specs.Walk.{Slot, slot_at, walked}
+use Rattle.code_walk.specs.Bodies.{space}
 use Rattle.code_verify.specs.Rules.{alone_right, shaped_right, row_alone, row_over}
 
 -- the test of this clause fails, where the first test is that of clause n

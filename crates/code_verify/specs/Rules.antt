@@ -7,7 +7,7 @@ use Rattle.tx_code.specs.declared.body.Row.{Row}
 use Rattle.tx_code.specs.Objects.{BodyView}
 use Rattle.tx_code.specs.Shapes.{Shape, Table, outgoing}
 use Rattle.tx_code.specs.Sound.{Signature, target_lies, row_lies, is_last, is_known, row_is_known, names_right, row_names_right, passes, exception_right, is_inside, inside_right, outside_right, closes_right, edge_right, has_edge, left_at}
-use Rattle.code_verify.specs.Walk.{Slot, slot_at}
+use Rattle.code_walk.specs.Walk.{Slot, slot_at}
 
 -- the number of the first test that fails
 abbrev pub first_broken : ℕ → List Bool → Option ℕ

@@ -1,7 +1,6 @@
 //! Clauses of sound code that speak of an instruction or a row alone, with the clause's number.
 ghost use Rattle.std.specs.Prelude.{◌≡◌};
 ghost use Rattle.tx_code.specs.Sound.{target_lies, row_lies, is_last, is_known, row_is_known, is_promoted, outside_right, is_edge, frame_right, lies_in_exception};
-ghost use Rattle.tx_code.specs.Meaning.{covers};
 
 use tx_code::{Instr, Row, int_kind, size};
 
@@ -108,11 +107,4 @@ pub fn frame_right(size: u32) -> bool
     ensures { result ≡ frame_right size }
 {
     size % 16 == 0 && 16 <= size && size <= 65536
-}
-
-/// A row covers an index.
-pub fn covers(row: Row, index: usize) -> bool
-    ensures { result ≡ covers row index }
-{
-    row.from as usize <= index && index < row.to as usize
 }

@@ -5,14 +5,14 @@ ghost use Rattle.tx_code.specs.Images.{image_func_view};
 ghost use Rattle.tx_code.specs.Sound.{table_of};
 ghost use Rattle.tx_code.specs.Views.{image_view};
 ghost use Rattle.tx_code.specs.Signatures.{takes_of, gives_of};
-ghost use Rattle.code_verify.specs.Slots.{slot_of, slot_fits, table_in, signature_in, view_in};
+ghost use Rattle.code_walk.specs.Slots.{slot_of, slot_fits, table_in, signature_in, view_in};
 ghost use Rattle.code_verify.specs.Faults as spec;
 
 use crate::clauses::frame_right;
-use crate::nests::Nests;
 use crate::rules::{index_rule, row_rule};
-use crate::walk::{Judged, Slot, walk};
-use crate::words::{gives_of, takes_of};
+use code_walk::nests::Nests;
+use code_walk::walk::{Judged, Slot, walk};
+use code_walk::words::{gives_of, takes_of};
 use std::alloc::{AllocError, Global};
 use tx_code::{Image, ImageFunc, Row};
 
@@ -45,13 +45,7 @@ fn earlier(f: Option<Fault>, g: Option<Fault>) -> Option<Fault>
         (None, None) => None,
         (None, Some(g)) => Some(g),
         (Some(f), None) => Some(f),
-        (Some(f), Some(g)) => {
-            if is_before(g, f) {
-                Some(g)
-            } else {
-                Some(f)
-            }
-        }
+        (Some(f), Some(g)) => { if is_before(g, f) { Some(g) } else { Some(f) } }
     }
 }
 
@@ -64,7 +58,10 @@ fn row_fault(judged: Judged, nests: &Nests, slots: &[Slot], row: Row) -> Option<
     let last = judged.body.code.len().saturating_sub(1);
     match row_rule(judged, nests, slots, row) {
         None => None,
-        Some(rule) => Some(Fault { index: (row.from as usize).min(last), rule }),
+        Some(rule) => Some(Fault {
+            index: (row.from as usize).min(last),
+            rule,
+        }),
     }
 }
 
@@ -127,13 +124,22 @@ fn behind(instrs: usize, fault: Option<Fault>) -> Result<Option<Fault>, AllocErr
         None => Ok(None),
         Some(fault) => match instrs.checked_add(fault.index) {
             None => Err(AllocError),
-            Some(index) => Ok(Some(Fault { index, rule: fault.rule })),
+            Some(index) => Ok(Some(Fault {
+                index,
+                rule: fault.rule,
+            })),
         },
     }
 }
 
 // The fault of the safe body.
-fn safe_fault(alloc: Global, image: &Image, func: &ImageFunc, takes: usize, gives: usize) -> Result<Option<Fault>, AllocError>
+fn safe_fault(
+    alloc: Global,
+    image: &Image,
+    func: &ImageFunc,
+    takes: usize,
+    gives: usize,
+) -> Result<Option<Fault>, AllocError>
     requires takes { takes ≡ takes_of func.now.ty.items }
     requires gives { gives ≡ gives_of func.now.ty.items }
     ensures { IfOk result (λ o. o ≡ spec.safe_fault (table_of (image_view image.now)) (image_func_view func.now) (image_func_view func.now).safe) }
@@ -141,7 +147,16 @@ fn safe_fault(alloc: Global, image: &Image, func: &ImageFunc, takes: usize, give
     match func.safe.as_ref() {
         None => Ok(None),
         Some(body) => {
-            let fault = body_fault(alloc, Judged { image, body, takes, gives, safe: true })?;
+            let fault = body_fault(
+                alloc,
+                Judged {
+                    image,
+                    body,
+                    takes,
+                    gives,
+                    safe: true,
+                },
+            )?;
             behind(func.plain.code.len(), fault)
         }
     }
@@ -153,7 +168,16 @@ fn func_fault(alloc: Global, image: &Image, func: &ImageFunc) -> Result<Option<F
 {
     let takes = takes_of(&func.ty);
     let gives = gives_of(&func.ty);
-    let plain = body_fault(alloc, Judged { image, body: &func.plain, takes, gives, safe: false })?;
+    let plain = body_fault(
+        alloc,
+        Judged {
+            image,
+            body: &func.plain,
+            takes,
+            gives,
+            safe: false,
+        },
+    )?;
     match earlier(frame_fault(func.frame), plain) {
         Some(fault) => Ok(Some(fault)),
         None => safe_fault(alloc, image, func, takes, gives),
@@ -168,7 +192,11 @@ pub fn image_fault(alloc: Global, image: &Image) -> Result<Option<Broken>, Alloc
         match func_fault(alloc, image, func)? {
             None => {}
             Some(fault) => {
-                return Ok(Some(Broken { func: number as u32, index: fault.index, rule: fault.rule }));
+                return Ok(Some(Broken {
+                    func: number as u32,
+                    index: fault.index,
+                    rule: fault.rule,
+                }));
             }
         }
     }

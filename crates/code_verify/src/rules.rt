@@ -5,16 +5,22 @@ ghost use Rattle.std.specs.List.{list_all};
 ghost use Rattle.tx_code.specs.Sound as sound;
 ghost use Rattle.tx_code.specs.Sound.{table_of};
 ghost use Rattle.tx_code.specs.Views.{image_view};
-ghost use Rattle.code_verify.specs.Nests.{nest};
-ghost use Rattle.code_verify.specs.ShapeViews.{shape_of, fits};
-ghost use Rattle.code_verify.specs.Slots.{slot_of, slot_fits, table_in, view_in};
+ghost use Rattle.code_walk.specs.Nests.{nest};
+ghost use Rattle.code_walk.specs.ShapeViews.{shape_of, fits};
+ghost use Rattle.code_walk.specs.Slots.{slot_of, slot_fits, table_in, view_in};
 ghost use Rattle.code_verify.specs.Rules.{first_broken, alone_right, shape_right, index_rule, row_alone, of_shape, holds_over, edge_test, depth_test, row_rule};
 
-use crate::clauses::{covers, is_edge, is_known, is_last, lies_in_exception, outside_right, row_is_known, row_lies, target_lies};
-use crate::names::{has_safe, is_class, is_func, is_global, is_slot, is_type, takes, type_takes};
-use crate::nests::Nests;
-use crate::shapes::{Shape, finds};
-use crate::walk::{Judged, Slot};
+use crate::clauses::{
+    is_edge, is_known, is_last, lies_in_exception, outside_right, row_is_known, row_lies,
+    target_lies,
+};
+use code_walk::names::{
+    has_safe, is_class, is_func, is_global, is_slot, is_type, takes, type_takes,
+};
+use code_walk::nests::Nests;
+use code_walk::rows::covers;
+use code_walk::shapes::{Shape, finds};
+use code_walk::walk::{Judged, Slot};
 use tx_code::{Image, Instr, Row};
 use tx_events::BlockKind;
 
@@ -27,7 +33,9 @@ fn names_right(image: &Image, instr: Instr) -> bool
         Instr::FuncAddr(func) => is_func(image, func),
         Instr::ClassAddr(class) => is_class(image, class),
         Instr::Call { func, words: _ } | Instr::TCall { func, words: _ } => is_func(image, func),
-        Instr::CallIndirect { ty, words: _ } | Instr::TCallIndirect { ty, words: _ } => is_type(image, ty),
+        Instr::CallIndirect { ty, words: _ } | Instr::TCallIndirect { ty, words: _ } => is_type(
+            image, ty,
+        ),
         Instr::Slot { class, slot } => is_slot(image, class, slot),
         Instr::NewException(ty) => is_type(image, ty),
         _ => true,
@@ -46,8 +54,10 @@ fn passes(image: &Image, instr: Instr) -> bool
     ensures { result ≡ sound.passes (table_of (image_view image.now)) instr }
 {
     match instr {
-        Instr::Call { func, words } | Instr::TCall { func, words } => words as usize == takes(image, func),
-        Instr::CallIndirect { ty, words } | Instr::TCallIndirect { ty, words } => words as usize == type_takes(image, ty),
+        Instr::Call { func, words } | Instr::TCall { func, words } => words as usize
+            == takes(image, func),
+        Instr::CallIndirect { ty, words } | Instr::TCallIndirect { ty, words } => words as usize
+            == type_takes(image, ty),
         _ => true,
     }
 }
@@ -57,9 +67,11 @@ fn exception_right(nests: &Nests, instr: Instr, shape: Shape) -> bool
     ensures { result ≡ sound.exception_right instr (shape_of nests.now shape) }
 {
     match instr {
-        Instr::PutException { offset, kind } => shape.hand.is_building() && lies_in_exception(offset, kind),
+        Instr::PutException { offset, kind } => shape.hand.is_building()
+            && lies_in_exception(offset, kind),
         Instr::Throw => shape.hand.is_building(),
-        Instr::GetException { offset, kind } => 0 < shape.handlers && lies_in_exception(offset, kind),
+        Instr::GetException { offset, kind } => 0 < shape.handlers
+            && lies_in_exception(offset, kind),
         Instr::EndHandler => 0 < shape.handlers,
         Instr::Resume => shape.hand.is_flying(),
         _ => true,
@@ -126,7 +138,7 @@ fn has_edge(rows: &[Row], index: usize) -> bool
 }
 
 // What is left where a call has taken its words.
-#[tactic(auto, using(crate::proofs::Depths::less_some, crate::proofs::Depths::less_none))]
+#[tactic(auto, using(code_walk::proofs::Depths::less_some, code_walk::proofs::Depths::less_none))]
 fn kept(words: usize, depth: usize) -> usize
     ensures { result ≡ sound.kept words depth }
 {
@@ -140,8 +152,14 @@ fn left_at(instr: Instr, depth: usize) -> usize
     ensures { result ≡ sound.left_at instr depth }
 {
     match instr {
-        Instr::Call { func: _, words } | Instr::TCall { func: _, words } => kept(words as usize, depth),
-        Instr::CallIndirect { ty: _, words } | Instr::TCallIndirect { ty: _, words } => kept(words as usize + 1, depth),
+        Instr::Call { func: _, words } | Instr::TCall { func: _, words } => kept(
+            words as usize,
+            depth,
+        ),
+        Instr::CallIndirect { ty: _, words } | Instr::TCallIndirect { ty: _, words } => kept(
+            words as usize + 1,
+            depth,
+        ),
         _ => depth,
     }
 }
@@ -164,7 +182,13 @@ fn alone_rule(image: &Image, instrs: usize, index: usize, instr: Instr) -> Optio
 }
 
 // The lowest of the clauses 5 to 10 that an instruction of this shape breaks.
-fn shape_rule(judged: Judged, nests: &Nests, index: usize, instr: Instr, shape: Shape) -> Option<u32>
+fn shape_rule(
+    judged: Judged,
+    nests: &Nests,
+    index: usize,
+    instr: Instr,
+    shape: Shape,
+) -> Option<u32>
     requires { fits nests.now shape ≡ true }
     ensures { result ≡ first_broken 5 (shape_right (table_in judged.entry) judged.entry.gives judged.entry.safe judged.entry.body.now.rows.items index instr (shape_of nests.now shape)) }
 {
@@ -184,14 +208,22 @@ fn shape_rule(judged: Judged, nests: &Nests, index: usize, instr: Instr, shape: 
     if !inside && !outside_right(instr) {
         return Some(9);
     }
-    if !(closes_right(nests, instr, shape) && (nests.is_empty(shape.nest) || has_edge(&judged.body.rows, index))) {
+    if !(closes_right(nests, instr, shape)
+        && (nests.is_empty(shape.nest) || has_edge(&judged.body.rows, index)))
+    {
         return Some(10);
     }
     None
 }
 
 // The lowest clause that an index breaks itself.
-pub fn index_rule(judged: Judged, nests: &Nests, index: usize, instr: Instr, slot: Slot) -> Option<u32>
+pub fn index_rule(
+    judged: Judged,
+    nests: &Nests,
+    index: usize,
+    instr: Instr,
+    slot: Slot,
+) -> Option<u32>
     requires fit { slot_fits nests.now slot ≡ true }
     requires index { index + 1 < 2 ^ 64 }
     ensures { result ≡ index_rule (table_in judged.entry) judged.entry.gives judged.entry.safe (view_in judged.entry) index instr (slot_of nests.now slot) }

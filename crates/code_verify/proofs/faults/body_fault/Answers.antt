@@ -1,7 +1,7 @@
 use Rattle.std.proofs.Common.{◌≡◌, length, None, map, sym, ap, ◌∙◌, arith}
 use Rattle.std.specs.Vec.{vec_len}
 use Rattle.std.proofs.lemmas.Bool.{eqb-false}
-use Rattle.code_verify.specs.Slots.{slot_of, table_in, signature_in, view_in}
+use Rattle.code_walk.specs.Slots.{slot_of, table_in, signature_in, view_in}
 use Rattle.code_verify.specs.Faults.{first_of_indexes, first_of_rows}
 use Rattle.code_verify.proofs.FaultLaws.{found_is}
 use Rattle.code_verify.proofs.faults.body_fault.Goals as goal

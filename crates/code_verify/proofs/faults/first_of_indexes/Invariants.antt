@@ -1,5 +1,5 @@
 use Rattle.std.proofs.Common.{◌≡◌, map, drop}
-use Rattle.code_verify.specs.Slots.{slot_of, table_in, view_in}
+use Rattle.code_walk.specs.Slots.{slot_of, table_in, view_in}
 use Rattle.code_verify.specs.Faults.{first_of_indexes}
 use Rattle.code_verify.proofs.faults.first_of_indexes.Given as goal
 

@@ -1,5 +1,5 @@
 use Rattle.std.proofs.Common.{◌≡◌, ◌-◌, map}
-use Rattle.code_verify.specs.Slots.{slot_of}
+use Rattle.code_walk.specs.Slots.{slot_of}
 use Rattle.code_verify.specs.Rules.{holds_over, edge_test}
 use Rattle.code_verify.proofs.rules.edges_hold.Given as goal
 

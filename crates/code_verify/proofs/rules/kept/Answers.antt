@@ -1,6 +1,6 @@
 use Rattle.std.proofs.Common.{◌≡◌, ◌+◌, sym, ap, arith}
 use Rattle.std.specs.Option.{option_map_or}
-use Rattle.code_verify.proofs.Depths.{less_some}
+use Rattle.code_walk.proofs.Depths.{less_some}
 use Rattle.code_verify.proofs.rules.kept.Goals as goal
 
 pub returns-in-Some : goal.returns-in-Some

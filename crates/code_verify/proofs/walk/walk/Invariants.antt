@@ -1,8 +1,0 @@
-use Rattle.std.proofs.Common.{◌≡◌, true, length, map}
-use Rattle.std.specs.List.{list_all}
-use Rattle.code_verify.specs.Walk.{steps, start}
-use Rattle.code_verify.specs.Slots.{slot_of, slot_fits, space_in}
-use Rattle.code_verify.proofs.walk.walk.Given as goal
-
-abbrev pub invariant-steps : goal.invariant-steps
-invariant-steps l = record { slots : map (slot_of l.nests) l.slots.items ≡ steps (space_in l.judged) l.counter (start (space_in l.judged)); fit : list_all (slot_fits l.nests) l.slots.items ≡ true; count : length l.slots.items ≡ length l.judged.body.now.code.items }

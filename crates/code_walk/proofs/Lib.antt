@@ -1,0 +1,10 @@
+pub mod Notes
+pub mod Ends
+pub mod Kept
+pub mod Reached
+pub mod Exact
+pub mod NestTables
+pub mod Depths
+pub mod Suffixes
+pub mod Tails
+pub mod SlotNotes
