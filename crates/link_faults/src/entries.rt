@@ -29,7 +29,7 @@ pub(crate) struct RankedEntry {
     pub main: bool,
 }
 
-pub(crate) fn name_rank(all: &[Vec<u8>], object: &Object, name: u32) -> u32
+pub fn name_rank(all: &[Vec<u8>], object: &Object, name: u32) -> u32
     requires known { Known (map bytes_of all.now) (object_view object.now) }
     requires named { name < length object.now.names.items }
     ensures { result ≡ rank_of (map bytes_of all.now) (name_in (object_view object.now) name) }

@@ -22,4 +22,7 @@ mod twice;
 mod unlisted;
 
 pub use check::{MAX_GLOBALS, check_objects};
+pub use entries::name_rank;
 pub use fault::LinkFault;
+pub use names::{all_names, rank};
+pub use size::globals_size;

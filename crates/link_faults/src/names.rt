@@ -36,7 +36,7 @@ fn copies(alloc: Global, objects: &[Object]) -> Result<Vec<Vec<u8>>, AllocError>
 }
 
 /// The names of all objects in ascending order, each once.
-pub(crate) fn all_names(alloc: Global, objects: &[Object]) -> Result<Vec<Vec<u8>>, AllocError>
+pub fn all_names(alloc: Global, objects: &[Object]) -> Result<Vec<Vec<u8>>, AllocError>
     ensures { IfOk result (λ v. AreNames (map object_view objects.now) (map bytes_of v.items)) }
 {
     let mut names = copies(alloc, objects)?;
@@ -46,7 +46,7 @@ pub(crate) fn all_names(alloc: Global, objects: &[Object]) -> Result<Vec<Vec<u8>
 }
 
 /// The position of a name among all names.
-pub(crate) fn rank(all: &[Vec<u8>], name: &Vec<u8>) -> u32
+pub fn rank(all: &[Vec<u8>], name: &Vec<u8>) -> u32
     requires ascend { ascends bytes_lt (map bytes_of all.now) ≡ true }
     requires few { length all.now < 2 ^ 32 }
     requires listed { is_listed (map bytes_of all.now) name.now.items ≡ true }

@@ -54,7 +54,7 @@ fn size_in_all(objects: &[Object]) -> u64
 }
 
 /// What the globals of all objects take.
-pub(crate) fn globals_size(objects: &[Object]) -> u64
+pub fn globals_size(objects: &[Object]) -> u64
     requires objects { All (λ o. IsObject (object_view o)) objects.now }
     requires names { sum_by name_count objects.now < 4294967295 }
     ensures { result ≡ size_of_globals (map object_view objects.now) }

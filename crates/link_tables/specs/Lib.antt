@@ -1,0 +1,4 @@
+pub mod Symbols
+pub mod Homes
+pub mod Found
+pub mod Renamed
