@@ -1,3 +1,4 @@
 pub mod Turns
 pub mod Playing
 pub mod Outcomes
+pub mod ImageRuns

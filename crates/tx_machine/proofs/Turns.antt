@@ -1,5 +1,5 @@
 -- One turn of a course is one turn of a run.
-use Rattle.std.proofs.Common.{ℕ, ◌≡◌, ◌+◌, true, refl, ap, sym, ◌∙◌, subst, length, List, [], ◌∷◌, ◌++◌, Option, Some, None, arith, Bool}
+use Rattle.std.proofs.Common.{ℕ, ◌≡◌, ◌<◌, ◌≤◌, ◌+◌, true, refl, ap, sym, ◌∙◌, subst, length, List, [], ◌∷◌, ◌++◌, Option, Some, None, arith, Bool}
 use Rattle.std.specs.Option.{option_map}
 use Rattle.choosers.specs.declared.Clash.{Clash}
 use Rattle.choosers.specs.declared.Choice.{Choice}
@@ -14,7 +14,8 @@ use Rattle.tx_serial.specs.Run.{Progress, count_in, inside, seen, state_in}
 use Rattle.tx_runtime.specs.Here.{Chosen}
 use Rattle.tx_runtime.specs.Runtime.{machine_of, ShowsActor}
 use Rattle.tx_machine.specs.declared.course.Course.{Course}
-use Rattle.tx_machine.specs.Course.{Shows, OneTurn, counts_of}
+use Rattle.tx_events.specs.declared.TheConstants.{THREAD_LIMIT}
+use Rattle.tx_machine.specs.Course.{Shows, OneTurn, IsOneToLimit, counts_of}
 use Rattle.tx_machine.specs.Watch.{Sight}
 
 -- what an observer is shown of an actor is what it sees of its state
@@ -27,6 +28,9 @@ shown_place state place read same (Some l) (Some a) h = ap Some (same a ∙ ap r
 
 pub seen_is : {S : Type 0} (r : Progress S) (s : Seen) → s.turn ≡ r.turn → s.started ≡ r.machine.started → s.last ≡ r.last → s.inside ≡ r.inside → s ≡ seen r
 seen_is r s turn started last inside = λ i. record { turn = turn i; started = started i; last = last i; inside = inside i }
+
+pub one_to_limit : {n limit shown : ℕ} → n ≡ shown → 0 < n → n ≤ limit → limit ≡ THREAD_LIMIT → IsOneToLimit shown
+one_to_limit {n} e some within limit = record { some = subst (λ k. 0 < k) e some; within = subst (λ k. k ≤ THREAD_LIMIT) e (subst (λ k. n ≤ k) limit within) }
 
 one_longer : {X : Type 0} (xs : List X) (x : X) → length (xs ++ x ∷ []) ≡ length xs + 1
 one_longer [] x = refl

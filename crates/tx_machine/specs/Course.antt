@@ -1,5 +1,5 @@
 -- A run of the runtime so far.
-use Rattle.std.specs.Prelude.{ℕ, ◌≡◌, ◌≤◌, ◌⊎◌, length, List, [], ◌∷◌, ◌++◌, None}
+use Rattle.std.specs.Prelude.{ℕ, ◌≡◌, ◌<◌, ◌≤◌, ◌⊎◌, length, List, [], ◌∷◌, ◌++◌, None}
 use Rattle.choosers.specs.declared.Clash.{Clash}
 use Rattle.choosers.specs.declared.Choice.{Choice}
 use Rattle.choosers.specs.declared.Seen.{Seen}
@@ -19,6 +19,11 @@ use Rattle.tx_machine.specs.Watch.{Sight, watched_turn, watched}
 
 abbrev pub counts_of : Counts → runs.Counts
 counts_of c = record { ran = c.ran; waited = c.waited; rolled = c.rolled; idle = c.idle }
+
+-- At each turn at least one thread is started, and no more than the limit of threads.
+pub record IsOneToLimit (started : ℕ) : Type 0 where
+  pub some : 0 < started
+  pub within : started ≤ THREAD_LIMIT
 
 -- The course stands where the turns so far have led.
 pub record Shows {A K : Type 0} {g : Ghosts A K} (course : Course A K g) (r : Progress g.State) : Type 0 where

@@ -34,7 +34,7 @@ impl<A: Actor> Course<A> {
     ghost use Rattle.tx_events.specs.declared.TheConstants.{THREAD_LIMIT};
     ghost use Rattle.tx_runtime.specs.Runtime.{machine_of, layout_at};
     ghost use Rattle.tx_serial.specs.Run.{Progress, not_begun, no_counts, seen};
-    ghost use Rattle.tx_machine.specs.Course.{Shows, IsBounded, OneTurn, Played, Asks, counts_of};
+    ghost use Rattle.tx_machine.specs.Course.{Shows, IsBounded, OneTurn, Played, Asks, IsOneToLimit, counts_of};
     ghost use Rattle.tx_machine.specs.Finished.{end_or_out};
     ghost use Rattle.std.specs.Borrow.{Bor};
     ghost use Rattle.choosers.specs.declared.Seen.{Seen};
@@ -89,12 +89,12 @@ impl<A: Actor> Course<A> {
         requires limit { picker.old.limit ≡ THREAD_LIMIT }
         ensures turned { OnOk result ((r : Progress A.State) → Shows self.old r → OneTurn (layout_at self.old.runtime)
             (λ c choice. FnReturnsAt F.Fn policy.now.answer c choice × (R.allows c choice ≡ true))
-            (λ g s t h. (shown : Bor Seen) × (shown.now ≡ s) × G.step g shown t h)
+            (λ g s t h. (shown : Bor Seen) × (shown.now ≡ s) × IsOneToLimit s.started × G.step g shown t h)
             (record { place = read; shown = W.after_shown; told = W.after_told }) self.old self.new picker.old.choose picker.new.choose (W.state observer.old)
             (W.state observer.new) r) }
         ensures bounded { OnOk result (IsBounded self.new) }
         ensures asked { OnErr result ((r : Progress A.State) → Shows self.old r → (t : ℕ) × (shown : Bor Seen) × (shown.now ≡ seen r)
-            × G.step picker.old.choose shown t picker.new.choose) }
+            × IsOneToLimit (seen r).started × G.step picker.old.choose shown t picker.new.choose) }
         ensures layout { layout_at self.new.runtime ≡ layout_at self.old.runtime }
         ensures picker { picker.new.limit ≡ picker.old.limit }
     {
@@ -133,12 +133,12 @@ impl<A: Actor> Course<A> {
         requires limit { picker.old.limit ≡ THREAD_LIMIT }
         ensures played { OnOk result (Played (layout_at self.old.runtime)
             (λ c choice. FnReturnsAt F.Fn policy.now.answer c choice × (R.allows c choice ≡ true))
-            (λ g s t h. (shown : Bor Seen) × (shown.now ≡ s) × G.step g shown t h)
+            (λ g s t h. (shown : Bor Seen) × (shown.now ≡ s) × IsOneToLimit s.started × G.step g shown t h)
             (record { place = read; shown = W.after_shown; told = W.after_told }) bound
             (machine_of self.old.runtime) self.new picker.old.choose picker.new.choose (W.state observer.old) (W.state observer.new)) }
         ensures asked { OnErr result ((slots : List Slot) × Asks A.thread (layout_at self.old.runtime)
             (λ c choice. FnReturnsAt F.Fn policy.now.answer c choice × (R.allows c choice ≡ true))
-            (λ g s t h. (shown : Bor Seen) × (shown.now ≡ s) × G.step g shown t h)
+            (λ g s t h. (shown : Bor Seen) × (shown.now ≡ s) × IsOneToLimit s.started × G.step g shown t h)
             (machine_of self.old.runtime) slots picker.old.choose picker.new.choose) }
         ensures layout { layout_at self.new.runtime ≡ layout_at self.old.runtime }
         ensures picker { picker.new.limit ≡ picker.old.limit }

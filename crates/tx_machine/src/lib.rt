@@ -6,6 +6,7 @@
 
 mod counts;
 mod course;
+pub mod image;
 mod observer;
 mod run;
 

@@ -9,7 +9,7 @@ ghost use Rattle.tx_events.specs.declared.TheConstants.{THREAD_LIMIT};
 ghost use Rattle.tx_memory.specs.View.{layout_of, words_of};
 ghost use Rattle.tx_serial.specs.Turn.{Slot, first_machine};
 ghost use Rattle.tx_machine.specs.declared.TheConstants.{TURN_LIMIT};
-ghost use Rattle.tx_machine.specs.Course.{Asks};
+ghost use Rattle.tx_machine.specs.Course.{Asks, IsOneToLimit};
 ghost use Rattle.tx_machine.specs.Finished.{RunsTo, outcome_of};
 
 use crate::TURN_LIMIT;
@@ -152,12 +152,12 @@ pub fn run_actor<A: Actor, R: Rule, F: Fn(&Clash) -> Choice, G: FnMut(&Seen) -> 
     requires limit { picker.old.limit ≡ THREAD_LIMIT }
     ensures run { IfOk result (λ finished. RunsTo A.thread (layout_of memory)
         (λ c choice. FnReturnsAt F.Fn policy.now.answer c choice × (R.allows c choice ≡ true))
-        (λ g s t h. (shown : Bor Seen) × (shown.now ≡ s) × G.step g shown t h)
+        (λ g s t h. (shown : Bor Seen) × (shown.now ≡ s) × IsOneToLimit s.started × G.step g shown t h)
         (record { place = read; shown = W.after_shown; told = W.after_told }) bound (words_of memory) input.items (A.state main)
         picker.old.choose picker.new.choose (W.state observer.old) (W.state observer.new) (outcome_of finished)) }
     ensures asked { OnErr result ((slots : List Slot) × Asks A.thread (layout_of memory)
         (λ c choice. FnReturnsAt F.Fn policy.now.answer c choice × (R.allows c choice ≡ true))
-        (λ g s t h. (shown : Bor Seen) × (shown.now ≡ s) × G.step g shown t h)
+        (λ g s t h. (shown : Bor Seen) × (shown.now ≡ s) × IsOneToLimit s.started × G.step g shown t h)
         (first_machine (words_of memory) input.items (A.state main)) slots picker.old.choose picker.new.choose) }
     ensures picker { picker.new.limit ≡ picker.old.limit }
 {

@@ -6,9 +6,9 @@ use Rattle.std.proofs.lemmas.List.{length-replicate, replicate-append-replicate}
 use Rattle.tx_ints.specs.declared.kinds.ArithTrap.{ArithTrap}
 use Rattle.tx_ints.specs.declared.kinds.IntKind.TheVariants.{Int as AnInt}
 use Rattle.tx_ints.specs.Integers.{apply_of}
-use Rattle.txcc_core.specs.declared.answer.Trap.TheVariants.{Overflow}
-use Rattle.txcc_core.specs.declared.answer.End.{End}
-use Rattle.txcc_core.specs.declared.answer.End.TheVariants.{Exit as Exits, Trapped, StepsOut}
+use Rattle.tx_events.specs.declared.Trap.TheVariants.{Overflow}
+use Rattle.tx_events.specs.declared.End.{End}
+use Rattle.tx_events.specs.declared.End.TheVariants.{Exit as Exits, Trapped, StepsOut}
 use Rattle.txcc_core.specs.declared.tree.Sign.{Sign}
 use Rattle.txcc_core.specs.declared.tree.Signed.{Signed}
 use Rattle.txcc_core.specs.declared.tree.Term.{Term}

@@ -4,4 +4,3 @@ pub mod Follow
 pub mod Steps
 pub mod Says
 pub mod Unique
-pub mod Endings

@@ -4,10 +4,10 @@ use Rattle.std.specs.Prelude.{IfOk, IfNone}
 use Rattle.cpp_lex.specs.Tokens.{Lexeme, IsTokens}
 use Rattle.txcc_core.specs.Syntax.{Source}
 use Rattle.txcc_core.specs.Grammar.{Derives, Accepts}
-use Rattle.txcc_core.specs.declared.answer.Ran.{Ran}
-use Rattle.txcc_core.specs.declared.ends.Decision.{Decision}
+use Rattle.tx_answers.specs.declared.answer.Ran.{Ran}
+use Rattle.tx_answers.specs.declared.ends.Decision.{Decision}
 use Rattle.txcc_core.specs.SourceRun.{IsRunOf}
-use Rattle.txcc_core.specs.Report.{end_lines, status_of}
+use Rattle.tx_answers.specs.Report.{end_lines, status_of}
 use Rattle.txcc_core.specs.FirstPath.{Decides, executes}
 use Rattle.command_io.specs.Writes.{written_of, to_out, to_err}
 

@@ -6,14 +6,14 @@ use Rattle.command_io.specs.declared.files.FileKind.TheVariants.{Source as Sourc
 use Rattle.tx_words.specs.declared.command.Run.{Run}
 use Rattle.tx_words.specs.declared.command.PickerName.TheVariants.{Round}
 use Rattle.tx_words.specs.declared.command.PolicyName.TheVariants.{Older}
-use Rattle.txcc_core.specs.declared.answer.Ran.{Ran}
-use Rattle.txcc_core.specs.declared.answer.Answer.{Answer}
-use Rattle.txcc_core.specs.declared.answer.Status.TheVariants.{Refused}
+use Rattle.tx_answers.specs.declared.answer.Ran.{Ran}
+use Rattle.tx_answers.specs.declared.answer.Answer.{Answer}
+use Rattle.tx_answers.specs.declared.answer.Status.TheVariants.{Refused}
 use Rattle.txcc_core.specs.Syntax.{Source}
 use Rattle.txcc_core.specs.Grammar.{Accepts}
 use Rattle.txcc_core.specs.SourceRun.{IsRunOf}
-use Rattle.txcc_core.specs.Report.{end_lines, status_of}
-use Rattle.txcc_core.specs.Ends.{Refuses}
+use Rattle.tx_answers.specs.Report.{end_lines, status_of}
+use Rattle.tx_answers.specs.Ends.{Refuses}
 
 -- the command has no option but `--steps`, and one file
 pub record IsFirstPath (r : Run) (steps : ℕ) (file : List ℕ) : Type 0 where

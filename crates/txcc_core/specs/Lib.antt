@@ -5,7 +5,5 @@ pub mod SourceRun
 pub mod Below
 pub mod Code
 pub mod Machine
-pub mod Report
 pub mod TopCall
 pub mod FirstPath
-pub mod Ends

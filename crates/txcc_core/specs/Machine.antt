@@ -3,9 +3,9 @@ use Rattle.std.specs.Prelude.{ℕ, ◌+◌, ◌<◌, ◌≤◌, ℤ, pos, List, 
 use Rattle.tx_ints.specs.declared.kinds.ArithTrap.{ArithTrap}
 use Rattle.tx_ints.specs.declared.kinds.IntKind.TheVariants.{Int as AnInt}
 use Rattle.tx_ints.specs.Integers.{apply_of}
-use Rattle.txcc_core.specs.declared.answer.Trap.TheVariants.{Overflow}
-use Rattle.txcc_core.specs.declared.answer.End.{End}
-use Rattle.txcc_core.specs.declared.answer.End.TheVariants.{Exit as Exits, Trapped}
+use Rattle.tx_events.specs.declared.Trap.TheVariants.{Overflow}
+use Rattle.tx_events.specs.declared.End.{End}
+use Rattle.tx_events.specs.declared.End.TheVariants.{Exit as Exits, Trapped}
 use Rattle.txcc_core.specs.declared.code.Instr.{Instr}
 use Rattle.txcc_core.specs.declared.code.Instr.TheVariants.{Push, Load, Store, Apply, Out, Begin, End as EndBlock, Exit}
 use Rattle.txcc_core.specs.declared.machine.Machine.{Machine}

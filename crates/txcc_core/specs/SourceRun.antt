@@ -6,10 +6,10 @@ use Rattle.tx_ints.specs.declared.kinds.BinOp.TheVariants.{Add, Sub}
 use Rattle.tx_ints.specs.declared.kinds.ArithTrap.{ArithTrap}
 use Rattle.tx_ints.specs.declared.kinds.IntKind.TheVariants.{Int as AnInt}
 use Rattle.tx_ints.specs.Integers.{apply_of}
-use Rattle.txcc_core.specs.declared.answer.Trap.TheVariants.{Overflow}
-use Rattle.txcc_core.specs.declared.answer.End.{End}
-use Rattle.txcc_core.specs.declared.answer.End.TheVariants.{Exit, Abort, Terminate, Trapped, StepsOut}
-use Rattle.txcc_core.specs.declared.answer.Ran.{Ran}
+use Rattle.tx_events.specs.declared.Trap.TheVariants.{Overflow}
+use Rattle.tx_events.specs.declared.End.{End}
+use Rattle.tx_events.specs.declared.End.TheVariants.{Exit, Abort, Terminate, Trapped, StepsOut}
+use Rattle.tx_answers.specs.declared.answer.Ran.{Ran}
 use Rattle.txcc_core.specs.declared.tree.Sign.{Sign}
 use Rattle.txcc_core.specs.declared.tree.Sign.TheVariants.{Plus, Minus}
 use Rattle.txcc_core.specs.declared.tree.Signed.{Signed}

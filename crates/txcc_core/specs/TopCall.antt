@@ -1,16 +1,18 @@
 -- What an answer of the program says.
-use Rattle.std.specs.Prelude.{◌≡◌, ℕ, List, [], ◌∷◌, codes}
+use Rattle.std.specs.Prelude.{◌≡◌, ℕ, List, [], ◌∷◌, codes, string_bytes}
 use Rattle.tx_host.specs.Told.{HostState}
-use Rattle.command_io.specs.Reads.{Wanted}
+use Rattle.command_io.specs.Reads.{Wanted, wanted}
+use Rattle.command_io.specs.declared.files.FileKind.TheVariants as kind
 use Rattle.command_io.specs.Writes.{Written, to_err}
 use Rattle.tx_words.specs.Reads.{Says}
 use Rattle.tx_words.specs.declared.command.Run.{Run}
 use Rattle.tx_words.specs.declared.command.Command.{Command}
 use Rattle.tx_words.specs.declared.command.Command.TheVariants as command
-use Rattle.txcc_core.specs.declared.answer.Answer.{Answer}
-use Rattle.txcc_core.specs.declared.answer.Status.TheVariants.{Usage, Memory}
+use Rattle.tx_answers.specs.declared.answer.Answer.{Answer}
+use Rattle.tx_answers.specs.declared.answer.Status.TheVariants.{Usage, Memory}
 use Rattle.txcc_core.specs.FirstPath.{IsFirstPath, DecidesOn, wants_of}
-use Rattle.txcc_core.specs.Ends.{Ends, bare}
+use Rattle.tx_answers.specs.Ends.{Ends, bare, on_one}
+use Rattle.text_commands.specs.TextCommands.{Disassembles, Assembles}
 
 -- the words say no command
 abbrev pub SaysNothing : List (List ℕ) → Type 0
@@ -37,8 +39,8 @@ Does (command.Selftest n) old new a = Ends no_files DecidesUsage old new a
 Does (command.Build b) old new a = Ends no_files DecidesUsage old new a
 Does (command.Exec e) old new a = Ends no_files DecidesUsage old new a
 Does (command.Replay r) old new a = Ends no_files DecidesUsage old new a
-Does (command.Dis object) old new a = Ends no_files DecidesUsage old new a
-Does (command.Asm m) old new a = Ends no_files DecidesUsage old new a
+Does (command.Dis object) old new a = Ends (wanted kind.Object (string_bytes object) ∷ []) (on_one (Disassembles (string_bytes object))) old new a
+Does (command.Asm m) old new a = Ends (wanted kind.Text (string_bytes m.text) ∷ []) (on_one (Assembles (string_bytes m.text) (string_bytes m.object_file))) old new a
 Does (command.Races r) old new a = Ends no_files DecidesUsage old new a
 
 pub data Answers (words : List (List ℕ)) (old new : HostState) (a : Answer) : Type 0 where

@@ -1,15 +1,12 @@
 //! The compiler, the machine and the top call of txcc, for programs of assignments, output and atomic blocks.
 #![tactic(auto)]
 
-mod answer;
 mod code;
 mod emit;
-mod ends;
 mod laws;
 mod machine;
 mod names;
 mod parser;
-mod report;
 mod run;
 mod terms;
 #[cfg(test)]
@@ -17,6 +14,7 @@ mod tests;
 mod top;
 mod tree;
 
-pub use answer::{Answer, End, Ran, Refusal, Status, Trap};
 pub use laws::{one_replay, one_tree};
 pub use top::txcc;
+pub use tx_answers::{Answer, Ran, Refusal, Status};
+pub use tx_events::{End, Trap};

@@ -8,10 +8,11 @@ ghost use Rattle.txcc_core.specs.Below.{IsWell};
 ghost use Rattle.txcc_core.specs.Code.{source_code};
 ghost use Rattle.txcc_core.specs.Machine.{State, state_of, noted, ticked, pushed, popped, stored, written, moved, top, act, CanAct};
 
-use crate::answer::{End, Ran, Trap};
 use crate::code::Instr;
 use crate::tree::Program;
 use std::alloc::{AllocError, Global};
+use tx_answers::Ran;
+use tx_events::{End, Trap};
 use tx_ints::{ArithTrap, BinOp, IntKind, apply};
 
 // The operator's value on two ints, or the trap.

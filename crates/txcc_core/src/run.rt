@@ -7,20 +7,18 @@ ghost use Rattle.txcc_core.specs.Syntax.{Source, source_of};
 ghost use Rattle.txcc_core.specs.SourceRun.{IsRunOf};
 ghost use Rattle.txcc_core.specs.Below.{IsWell};
 ghost use Rattle.txcc_core.specs.Grammar.{Accepts};
-ghost use Rattle.txcc_core.specs.Report.{end_lines, status_of};
+ghost use Rattle.tx_answers.specs.Report.{end_lines, status_of};
 ghost use Rattle.txcc_core.specs.FirstPath.{IsFirstPath, Executes, Rejects, Decides, DecidesOn, wants_of};
-ghost use Rattle.txcc_core.specs.Ends.{Ends, Refuses};
+ghost use Rattle.tx_answers.specs.Ends.{Ends, Refuses};
 
-use crate::answer::{Answer, Ran, Status};
 use crate::emit::compile;
-use crate::ends::{Decision, bare, finish, over_limit, refusal};
 use crate::machine::run;
 use crate::parser::parse;
-use crate::report::{end_lines, status_of};
 use crate::tree::Program;
-use command_io::{FileKind, Unread, Write, read_file};
+use command_io::{FileKind, Write, read_file};
 use cpp_lex::{LexFault, lex, one_reading};
 use std::alloc::{AllocError, Global};
+use tx_answers::{Answer, Decision, Ran, Status, end_lines, halt, refusal, settle, status_of};
 use tx_host::Host;
 use tx_words::{PickerName, PolicyName, Run};
 
@@ -142,19 +140,8 @@ fn decided(alloc: Global, file: &str, steps: u32, text: &[u8]) -> Result<Decisio
 pub fn run_file<H: Host>(alloc: Global, file: &str, steps: u32, host: &mut H) -> Answer
     ensures { Ends (wants_of file.now) (DecidesOn steps file.now) (H.state host.old) (H.state host.new) result }
 {
-    let text = match read_file(alloc, host, file, FileKind::Source) {
-        Ok(text) => text,
-        Err(Unread::TooLong { .. }) => {
-            return match over_limit(alloc, file, FileKind::Source) {
-                Ok(decision) => finish(host, decision),
-                Err(_) => bare(Status::Memory),
-            };
-        }
-        Err(Unread::Failed) => return bare(Status::HostFault),
-        Err(Unread::Memory) => return bare(Status::Memory),
-    };
-    match decided(alloc, file, steps, text.as_slice()) {
-        Ok(decision) => finish(host, decision),
-        Err(_) => bare(Status::Memory),
+    match read_file(alloc, host, file, FileKind::Source) {
+        Ok(text) => settle(host, decided(alloc, file, steps, text.as_slice())),
+        Err(unread) => halt(alloc, host, file, FileKind::Source, unread),
     }
 }

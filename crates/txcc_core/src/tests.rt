@@ -1,10 +1,11 @@
 //! The worked runs, over hosts in memory.
 
-use crate::answer::{Answer, End, Status};
 use crate::laws::{one_replay, one_tree};
 use crate::top::txcc;
 use std::alloc::Global;
 use std::test::Fail;
+use tx_answers::{Answer, Status};
+use tx_events::End;
 use tx_host::{MemHost, SteadyHost};
 
 /// The first program: one block, and one byte of output.

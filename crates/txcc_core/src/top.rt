@@ -2,14 +2,14 @@
 
 ghost use Rattle.std.specs.Prelude.{◌≡◌, ◌≤◌, [], map, length, IfOk, codes, string_bytes, ℕ, List};
 ghost use Rattle.command_io.specs.Writes.{written_of};
-ghost use Rattle.txcc_core.specs.Ends.{Ends, bare};
+ghost use Rattle.tx_answers.specs.Ends.{Ends, bare};
 ghost use Rattle.txcc_core.specs.TopCall.{Answers, Does, Runs, DecidesUsage, no_files};
 
-use crate::answer::{Answer, Status};
-use crate::ends::{Decision, bare, finish};
 use crate::run::{form_of, run_file};
 use command_io::Write;
 use std::alloc::{AllocError, Global};
+use text_commands::{asm, dis};
+use tx_answers::{Answer, Decision, Status, bare, settle};
 use tx_host::Host;
 use tx_words::{Command, Run, read};
 
@@ -29,10 +29,7 @@ fn usage_lines(alloc: Global) -> Result<Decision, AllocError>
 fn usage<H: Host>(alloc: Global, host: &mut H) -> Answer
     ensures { Ends no_files DecidesUsage (H.state host.old) (H.state host.new) result }
 {
-    match usage_lines(alloc) {
-        Ok(decision) => finish(host, decision),
-        Err(_) => bare(Status::Memory),
-    }
+    settle(host, usage_lines(alloc))
 }
 
 // Runs the file of the command on its first path.
@@ -51,13 +48,18 @@ fn execute<H: Host>(alloc: Global, command: &Command, host: &mut H) -> Answer
 {
     match command {
         Command::Run(options) => run(alloc, options, host),
+        Command::Dis(object) => dis(alloc, object.as_str(), host),
+        Command::Asm(options) => asm(
+            alloc,
+            options.text.as_str(),
+            options.object_file.as_str(),
+            host,
+        ),
         Command::Check(_)
         | Command::Selftest(_)
         | Command::Build(_)
         | Command::Exec(_)
         | Command::Replay(_)
-        | Command::Dis(_)
-        | Command::Asm(_)
         | Command::Races(_) => usage(alloc, host),
     }
 }

@@ -1,6 +1,6 @@
 use Rattle.std.proofs.Common.{rules, arith, ◌≡◌, ◌∙◌, sym, ap, subst, replicate, length, pos, [], false, Vec, ℕ, Global, ◌+◌}
 use Rattle.std.proofs.lemmas.List.{length-map}
-use Rattle.txcc_core.specs.declared.answer.Ran.{Ran}
+use Rattle.tx_answers.specs.declared.answer.Ran.{Ran}
 use Rattle.txcc_core.specs.Syntax.{source_of}
 use Rattle.txcc_core.specs.SourceRun.{IsRunOf}
 use Rattle.txcc_core.specs.Machine.{state_of}

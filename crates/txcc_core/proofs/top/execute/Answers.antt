@@ -1,10 +1,29 @@
-use Rattle.std.proofs.Common.{subst, sym, inl, inr}
+use Rattle.std.proofs.Common.{subst, sym, ap, inl, inr, [], ◌∷◌, List, ℕ, string_bytes}
+use Rattle.command_io.specs.Reads.{wanted}
+use Rattle.command_io.specs.declared.files.FileKind.TheVariants.{Object, Text}
 use Rattle.tx_words.specs.declared.command.Command.{Command}
+use Rattle.tx_answers.specs.Ends.{Ends, on_one}
+use Rattle.text_commands.specs.TextCommands.{Disassembles, Assembles}
 use Rattle.txcc_core.specs.TopCall.{Does}
 use Rattle.txcc_core.proofs.top.execute.Goals as goal
 
 pub returns-in-Run : goal.returns-in-Run
 returns-in-Run g c = subst (λ k. Does k (g.H.Host.state c.args.host.now) (g.H.Host.state c.run.new.host) c.run.result) (sym c.in-Run.is) c.run.ensures
+
+pub returns-in-Dis : goal.returns-in-Dis
+returns-in-Dis g c =
+    let before = g.H.Host.state c.args.host.now in
+    let after = g.H.Host.state c.dis.new.host in
+    subst (λ k. Does k before after c.dis.result) (sym c.in-Dis.is)
+    (subst (λ (n : List ℕ). Ends (wanted Object n ∷ []) (on_one (Disassembles n)) before after c.dis.result) c.as_str.ensures.value c.dis.ensures)
+
+pub returns-in-Asm : goal.returns-in-Asm
+returns-in-Asm g c =
+    let before = g.H.Host.state c.args.host.now in
+    let after = g.H.Host.state c.asm.new.host in
+    subst (λ k. Does k before after c.asm.result) (sym c.in-Asm.is)
+    (subst (λ (n : List ℕ). Ends (wanted Text n ∷ []) (on_one (Assembles n (string_bytes c.in-Asm.options.object_file))) before after c.asm.result) c.as_str-in-Asm.ensures.value
+    (subst (λ (t : List ℕ). Ends (wanted Text c.as_str-in-Asm.result.now ∷ []) (on_one (Assembles c.as_str-in-Asm.result.now t)) before after c.asm.result) c.as_str-in-Asm-2.ensures.value c.asm.ensures))
 
 -- none of the other commands is there yet
 pub returns-in-Check : goal.returns-in-Check
@@ -20,13 +39,7 @@ returns-in-Check g c =
             | inl exec ↦ subst Ending (sym exec.1) c.usage.ensures
             | inr others ↦ elim others [
               | inl replay ↦ subst Ending (sym replay.1) c.usage.ensures
-              | inr others ↦ elim others [
-                | inl dis ↦ subst Ending (sym dis.1) c.usage.ensures
-                | inr others ↦ elim others [
-                  | inl asm ↦ subst Ending (sym asm.1) c.usage.ensures
-                  | inr races ↦ subst Ending (sym races.1) c.usage.ensures
-                ]
-              ]
+              | inr races ↦ subst Ending (sym races.1) c.usage.ensures
             ]
           ]
         ]

@@ -37,7 +37,7 @@ returns-then-is_some-clause-played g c =
 
 pub returns-in_err-take_turn-clause-asked : goal.returns-in_err-take_turn-clause-asked
 returns-in_err-take_turn-clause-asked g c = on_err c.from_residual.result (failed _ _ _ _ _ _ c.loop-turn.self _ _ _ _ c.loop-turn.invariant.going _
-    (λ r shows. let one = c.in_err-take_turn.ensures.asked r shows in (one.0, (one.1, one.2, one.3))))
+    (λ r shows. let one = c.in_err-take_turn.ensures.asked r shows in (one.0, (one.1, one.2, one.3, one.4))))
 
 pub returns-clause-played : goal.returns-clause-played
 returns-clause-played g c = bounded _ _ _ _ _ _ c.loop-turn.self _ _ _ _ c.loop-turn.invariant.going c.args.bound

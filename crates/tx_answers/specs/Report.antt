@@ -1,13 +1,13 @@
 -- What is written of a run.
 use Rattle.std.specs.Prelude.{ℕ, List, ◌++◌, codes}
 use Rattle.std.specs.Fmt.{decimal, signed_decimal}
-use Rattle.txcc_core.specs.declared.answer.Trap.{Trap}
-use Rattle.txcc_core.specs.declared.answer.Trap.TheVariants.{Overflow, DivideByZero, ShiftRange, BadAddress, StackOverflow, UnsafeCall, BadCall, BadVirtual, TooManyThreads, BadJoin}
-use Rattle.txcc_core.specs.declared.answer.End.{End}
-use Rattle.txcc_core.specs.declared.answer.End.TheVariants.{Exit, Abort, Terminate, Trapped, StepsOut}
-use Rattle.txcc_core.specs.declared.answer.Ran.{Ran}
-use Rattle.txcc_core.specs.declared.answer.Status.{Status}
-use Rattle.txcc_core.specs.declared.answer.Status.TheVariants.{Done, Refused, Usage, Abort as Aborted, Terminate as Terminated, Trapped as TrapStatus, StepsOut as CutShort, HostFault, Memory, Limit, BadSchedule, CostOut}
+use Rattle.tx_events.specs.declared.Trap.{Trap}
+use Rattle.tx_events.specs.declared.Trap.TheVariants.{Overflow, DivideByZero, ShiftRange, BadAddress, StackOverflow, UnsafeCall, BadCall, BadVirtual, TooManyThreads, BadJoin}
+use Rattle.tx_events.specs.declared.End.{End}
+use Rattle.tx_events.specs.declared.End.TheVariants.{Exit, Abort, Terminate, Trapped, StepsOut}
+use Rattle.tx_answers.specs.declared.answer.Ran.{Ran}
+use Rattle.tx_answers.specs.declared.answer.Status.{Status}
+use Rattle.tx_answers.specs.declared.answer.Status.TheVariants.{Done, Refused, Usage, Abort as Aborted, Terminate as Terminated, Trapped as TrapStatus, StepsOut as CutShort, HostFault, Memory, Limit, BadSchedule, CostOut}
 
 abbrev pub trap_name : Trap → List ℕ
 trap_name Overflow = codes "Overflow"
@@ -30,12 +30,12 @@ end_line (Trapped t) = codes "trap " ++ (trap_name t ++ codes "\n")
 end_line StepsOut = codes "steps out\n"
 
 -- the turn line
-abbrev pub turn_line : Ran → List ℕ
-turn_line r =
-    codes "turns ran " ++ (decimal r.ran ++ (codes " waited " ++ (decimal r.waited ++ (codes " rolled " ++ (decimal r.rolled ++ (codes " idle " ++ (decimal r.idle ++ codes "\n")))))))
+abbrev pub turn_line : (ran waited rolled idle : ℕ) → List ℕ
+turn_line ran waited rolled idle =
+    codes "turns ran " ++ (decimal ran ++ (codes " waited " ++ (decimal waited ++ (codes " rolled " ++ (decimal rolled ++ (codes " idle " ++ (decimal idle ++ codes "\n")))))))
 
 abbrev pub end_lines : Ran → List ℕ
-end_lines r = end_line r.end ++ turn_line r
+end_lines r = end_line r.end ++ turn_line r.ran r.waited r.rolled r.idle
 
 abbrev pub status_of : End → Status
 status_of (Exit n) = Done

@@ -3,10 +3,10 @@
 ghost use Rattle.std.specs.Prelude.{◌≡◌, ◌++◌, map, Err, IfOk, Ok, None, codes, string_bytes};
 ghost use Rattle.command_io.specs.Reads.{wanted};
 ghost use Rattle.command_io.specs.Writes.{written_of};
-ghost use Rattle.txcc_core.specs.Ends.{bare, Refuses, limit_line, IsLimited, Finishes};
+ghost use Rattle.tx_answers.specs.Ends.{bare, Refuses, limit_line, IsLimited, Finishes, Settles, Halts};
 
 use crate::answer::{Answer, Refusal, Status};
-use command_io::{FileKind, Write, write_all};
+use command_io::{FileKind, Unread, Write, write_all};
 use std::alloc::{AllocError, Global};
 use tx_host::{Host, WriteFault};
 
@@ -86,4 +86,31 @@ pub fn over_limit(alloc: Global, name: &str, kind: FileKind) -> Result<Decision,
 {
     let line = limit_text(alloc, name, kind)?;
     refusal(alloc, LIMIT, line.into_bytes(), Status::Limit)
+}
+
+/// Writes what was decided, and answers it; where memory ran out before anything was decided, answers that.
+pub fn settle<H: Host>(host: &mut H, decision: Result<Decision, AllocError>) -> Answer
+    ensures { Settles (H.state host.old) (H.state host.new) decision result }
+{
+    match decision {
+        Ok(decision) => finish(host, decision),
+        Err(_) => bare(Status::Memory),
+    }
+}
+
+/// Answers where the files of a command were not read to the last. A file that passed its limit is this one.
+pub fn halt<H: Host>(
+    alloc: Global,
+    host: &mut H,
+    name: &str,
+    kind: FileKind,
+    unread: Unread,
+) -> Answer
+    ensures { Halts (wanted kind name.now) unread (H.state host.old) (H.state host.new) result }
+{
+    match unread {
+        Unread::TooLong { .. } => settle(host, over_limit(alloc, name, kind)),
+        Unread::Failed => bare(Status::HostFault),
+        Unread::Memory => bare(Status::Memory),
+    }
 }

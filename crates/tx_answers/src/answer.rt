@@ -1,34 +1,9 @@
 //! What a call of the program answers.
 
 ghost use Rattle.std.specs.Prelude.{◌≡◌};
-ghost use Rattle.txcc_core.specs.Report.{number_of};
+ghost use Rattle.tx_answers.specs.Report.{number_of};
 
-/// Why the machine stopped the program.
-#[derive(Clone, Copy, Debug, PartialEq, Eq)]
-pub enum Trap {
-    Overflow,
-    DivideByZero,
-    ShiftRange,
-    BadAddress,
-    StackOverflow,
-    UnsafeCall,
-    BadCall,
-    BadVirtual,
-    TooManyThreads,
-    BadJoin,
-}
-
-/// How a run ended.
-#[derive(Clone, Copy, Debug, PartialEq, Eq)]
-pub enum End {
-    /// `main` returned this number.
-    Exit(i32),
-    Abort,
-    Terminate,
-    Trapped(Trap),
-    /// The turns were used up before the program ended.
-    StepsOut,
-}
+use tx_events::End;
 
 /// A run of a program.
 #[derive(Debug, Drop)]
@@ -52,13 +27,13 @@ pub struct Ran {
 pub enum Status {
     /// The program returned from `main`.
     Done,
-    /// The text is not a program that is built.
+    /// What was given is refused: a text, an object, or what they are put together to.
     Refused,
-    /// The words have no form.
+    /// The words say no command.
     Usage,
     Abort,
     Terminate,
-    /// The program did what has no value, as a sum that is no `int`.
+    /// A step of the program trapped.
     Trapped,
     /// The turns were used up.
     StepsOut,

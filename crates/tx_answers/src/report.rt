@@ -1,13 +1,14 @@
 //! The lines that an end writes.
 
 ghost use Rattle.std.specs.Prelude.{◌≡◌, IfOk, string_bytes};
-ghost use Rattle.txcc_core.specs.Report.{trap_name, end_line, turn_line, end_lines, status_of};
+ghost use Rattle.tx_answers.specs.Report.{trap_name, end_line, turn_line, end_lines, status_of};
 
-use crate::answer::{End, Ran, Status, Trap};
+use crate::answer::{Ran, Status};
 use std::alloc::{AllocError, Global};
+use tx_events::{End, Trap};
 
-// The name of a trap.
-fn trap_name(trap: Trap) -> &'static str
+/// The name of a trap.
+pub fn trap_name(trap: Trap) -> &'static str
     ensures { result.now ≡ trap_name trap }
 {
     match trap {
@@ -24,7 +25,8 @@ fn trap_name(trap: Trap) -> &'static str
     }
 }
 
-fn end_line(alloc: Global, end: End) -> Result<String, AllocError>
+/// The line of an end; of a trap without its place.
+pub fn end_line(alloc: Global, end: End) -> Result<String, AllocError>
     ensures { IfOk result (λ text. string_bytes text ≡ end_line end) }
 {
     match end {
@@ -39,14 +41,17 @@ fn end_line(alloc: Global, end: End) -> Result<String, AllocError>
     }
 }
 
-fn turn_line(alloc: Global, ran: &Ran) -> Result<String, AllocError>
-    ensures { IfOk result (λ text. string_bytes text ≡ turn_line ran.now) }
+/// The line of the turns: how many ran, waited, gave up a block, and had nothing to do.
+pub fn turn_line(
+    alloc: Global,
+    ran: u64,
+    waited: u64,
+    rolled: u64,
+    idle: u64,
+) -> Result<String, AllocError>
+    ensures { IfOk result (λ text. string_bytes text ≡ turn_line ran waited rolled idle) }
 {
-    let turns = ran.ran;
-    let waited = ran.waited;
-    let rolled = ran.rolled;
-    let idle = ran.idle;
-    format!(in alloc; "turns ran {turns} waited {waited} rolled {rolled} idle {idle}\n")
+    format!(in alloc; "turns ran {ran} waited {waited} rolled {rolled} idle {idle}\n")
 }
 
 /// The end line and the turn line.
@@ -54,7 +59,7 @@ pub fn end_lines(alloc: Global, ran: &Ran) -> Result<String, AllocError>
     ensures { IfOk result (λ text. string_bytes text ≡ end_lines ran.now) }
 {
     let mut lines = end_line(alloc, ran.end)?;
-    let turns = turn_line(alloc, ran)?;
+    let turns = turn_line(alloc, ran.ran, ran.waited, ran.rolled, ran.idle)?;
     lines.push_str(turns.as_str())?;
     Ok(lines)
 }

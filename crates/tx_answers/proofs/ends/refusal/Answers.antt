@@ -1,6 +1,6 @@
 use Rattle.std.proofs.Common.{refl, ap, ◌∙◌, [], ◌∷◌, ◌++◌, map, codes}
 use Rattle.command_io.specs.Writes.{written_of, to_err}
-use Rattle.txcc_core.proofs.ends.refusal.Goals as goal
+use Rattle.tx_answers.proofs.ends.refusal.Goals as goal
 
 pub returns : goal.returns
 returns c = record {
