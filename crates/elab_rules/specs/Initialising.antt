@@ -17,7 +17,7 @@ use Rattle.cpp_overload.specs.Choosing.{Choice, best, none_viable, none_best, ch
 use Rattle.cpp_tree.specs.declared.kinds.TKind.{TKind}
 use Rattle.cpp_tree.specs.declared.kinds.TKind.TheVariants.{Retype, Materialize, Store, Construct, CopyConstruct, CopyFrom, Pieces, Piece, Elements, Conditional, Comma, FullExpression}
 use Rattle.cpp_tree.specs.declared.program.FuncKind.{FuncKind}
-use Rattle.cpp_tree.specs.declared.program.FuncKind.TheVariants.{Constructor, Plain}
+use Rattle.cpp_tree.specs.declared.program.FuncKind.TheVariants.{Constructor, Plain, ClosureCall}
 use Rattle.cpp_tree.specs.declared.program.Linkage.TheVariants.{External}
 use Rattle.cpp_types.specs.declared.classes.Safety.TheVariants.{None as NoSafety}
 use Rattle.cpp_tree.specs.declared.faults.ElabFault.{ElabFault}
@@ -81,10 +81,15 @@ abbrev pub same_number : ℕ → Option ℕ → Bool
 same_number n (Some m) = m == n
 same_number n None = false
 
+-- the class of a member function, which is a lambda's where it is its call
+abbrev pub owner_form : FuncKind → ℕ → Form
+owner_form ClosureCall n = closure n
+owner_form kind n = class n
+
 -- what the object of a member function is bound to
 abbrev pub object_type_of : Func → Option ℕ → Option Typ
 object_type_of f None = None
-object_type_of f (Some n) = Some (plain (ref (typ (class n) f.declared.is_const false)))
+object_type_of f (Some n) = Some (plain (ref (typ (owner_form f.kind n) f.declared.is_const false)))
 
 abbrev pub candidate : Func → Candidate
 candidate f = record { signature = f.declared.signature; this = object_type_of f f.class }
@@ -195,9 +200,13 @@ abbrev pub constructed_copy : Ctx → Work → ℕ → Typ → At → Operand �
 constructed_copy c w n t at o None = Ok (copied_in_place c w n t at o)
 constructed_copy c w n t at o (Some k) = and_then (reference_word c w (parameters_at c.funcs k) o) (λ (m : MadeAll). Ok (record { tree = node (Construct k) t Prvalue at m.trees; work = m.work }))
 
+abbrev pub has_copy : Special → Bool
+has_copy absent = false
+has_copy s = true
+
 -- a copy of an object of the class or of a class that is derived from it
 abbrev pub copied_object : Ctx → Work → ℕ → Typ → At → Operand → Result Made ElabFault
-copied_object c w n t at o = and_then (check (o.at) NoCopy (not (is_volatile_typ (typ_in o.tree)))) (λ y.
+copied_object c w n t at o = and_then (check (o.at) NoCopy (not (is_volatile_typ (typ_in o.tree)) && has_copy (traits_at c n).copy)) (λ y.
     and_then (meant at (chosen c.classes (makers c n) (argument o ∷ []))) (λ i. constructed_copy c w n t at o (constructor_at c n i)))
 
 -- a part of a lambda's object, copied from the source at hand
