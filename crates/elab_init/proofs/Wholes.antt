@@ -1,8 +1,8 @@
 -- Objects part by part, and nodes with several kids.
-use Rattle.std.proofs.Common.{◌≡◌, ℕ, zero, suc, ◌+◌, ◌-◌, ◌<◌, ◌≤◌, Bool, true, false, List, [], ◌∷◌, ◌++◌, length, drop, map, Option, None, refl, sym, ◌∙◌, ap, arith, get_or, Vec, Global}
-use Rattle.cpp_types.specs.Typ.{Typ, typ, class, signature, Signature, typ_of, typs_of, signature_of}
+use Rattle.std.proofs.Common.{◌≡◌, ℕ, suc, ◌+◌, ◌<◌, ◌≤◌, Bool, List, [], ◌∷◌, ◌++◌, length, drop, map, refl, sym, ◌∙◌, ap, arith, get_or, Vec, Global}
+use Rattle.cpp_types.specs.Typ.{Typ, typ, class, signature, typ_of, typs_of, signature_of}
 use Rattle.cpp_types.specs.declared.types.Ty.{Ty}
-use Rattle.cpp_types.specs.declared.types.FnTy.{FnTy, out-FnTy, roll-FnTy, out-roll-FnTy}
+use Rattle.cpp_types.specs.declared.types.FnTy.{roll-FnTy, out-roll-FnTy}
 use Rattle.cpp_types.proofs.Views.{signature_view}
 use Rattle.cpp_types.specs.Class.{Class}
 use Rattle.cpp_types.specs.declared.classes.At.{At}
@@ -10,14 +10,13 @@ use Rattle.cpp_types.specs.declared.ranks.Cat.TheVariants.{Prvalue}
 use Rattle.cpp_tree.specs.declared.kinds.TKind.{TKind}
 use Rattle.cpp_tree.specs.declared.kinds.TKind.TheVariants.{Pieces, Piece}
 use Rattle.cpp_tree.specs.declared.arena.TNodeId.{TNodeId}
-use Rattle.cpp_tree.specs.Trees.{Tree, node, Trees, none, more, one, two}
+use Rattle.cpp_tree.specs.Trees.{Tree, node, Trees, more, one, two}
 use Rattle.cpp_tree.specs.Arena.{tree_at, trees_at, Adds}
 use Rattle.cpp_tree.specs.Typing.{qualified}
 use Rattle.elab_ctx.specs.Says.{AddsAll}
-use Rattle.elab_ctx.proofs.Looks.{grows_refl, grows_trans, at_grown}
 use Rattle.elab_ctx.proofs.Making.{adds_after}
 use Rattle.elab_rules.specs.Values.{only_tree}
-use Rattle.elab_rules.specs.Objects.{Leaf, Part, whole, class_whole, parts_of}
+use Rattle.elab_rules.specs.Objects.{Leaf, whole, class_whole, parts_of}
 use Rattle.elab_init.specs.Leaves.{pieces_by}
 use Rattle.elab_init.specs.Parts.{part_of}
 use Rattle.elab_init.specs.declared.parts.ObjectPart.{ObjectPart}

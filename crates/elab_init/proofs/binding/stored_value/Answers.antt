@@ -1,6 +1,5 @@
-use Rattle.std.proofs.Common.{◌≡◌, ◌∙◌, ap}
+use Rattle.std.proofs.Common.{◌∙◌, ap}
 use Rattle.cpp_types.specs.Typ.{typ_of}
-use Rattle.cpp_tree.specs.Trees.{Tree}
 use Rattle.elab_ctx.proofs.Looks.{grows_trans}
 use Rattle.elab_ctx.proofs.Making.{last_adds}
 use Rattle.elab_rules.specs.Values.{stored, stepped}

@@ -1,4 +1,4 @@
-use Rattle.std.proofs.Common.{◌≡◌, ◌∙◌, ◌++◌, sym, ap, map}
+use Rattle.std.proofs.Common.{◌∙◌, ◌++◌, sym, ap, map}
 use Rattle.cpp_types.specs.Class.{classes_of, class_of, member_of}
 use Rattle.cpp_layout.specs.Layout.{end_from, head_items, class_extent}
 use Rattle.elab_rules.specs.Objects.{base_part}

@@ -1,7 +1,5 @@
-use Rattle.std.proofs.Common.{◌≡◌, ◌∙◌, ◌-◌, ap, arith, map, suc}
-use Rattle.cpp_types.specs.Typ.{typ_of}
+use Rattle.std.proofs.Common.{◌∙◌, ◌-◌, ap, arith, map}
 use Rattle.cpp_types.specs.Class.{classes_of}
-use Rattle.cpp_tree.specs.Arena.{trees_of, trees_at}
 use Rattle.elab_ctx.proofs.Making.{last_adds}
 use Rattle.elab_init.specs.Leaves.{leaf_of, pieces_by}
 use Rattle.elab_init.specs.Parts.{part_of}

@@ -1,4 +1,4 @@
-use Rattle.std.proofs.Common.{◌+◌, ◌*◌, drop, map}
+use Rattle.std.proofs.Common.{drop, map}
 use Rattle.cpp_types.specs.Class.{classes_of}
 use Rattle.cpp_tree.specs.Arena.{trees_of}
 use Rattle.elab_init.specs.Leaves.{leaf_of, pieces_by}

@@ -1,4 +1,4 @@
-use Rattle.std.proofs.Common.{◌≡◌, ap, Ok, Err}
+use Rattle.std.proofs.Common.{ap, Ok, Err}
 use Rattle.cpp_overload.specs.declared.calls.NoBest.TheVariants.{NoViable, Ambiguous}
 use Rattle.cpp_overload.proofs.Choosing.{chosen_is_meant}
 use Rattle.elab_rules.specs.Initialising.{meant}

@@ -1,4 +1,4 @@
-use Rattle.std.proofs.Common.{◌≡◌, ◌∙◌}
+use Rattle.std.proofs.Common.{◌∙◌}
 use Rattle.elab_ctx.proofs.Looks.{grows_trans, at_grown}
 use Rattle.elab_ctx.proofs.Making.{last_adds}
 use Rattle.elab_init.proofs.Wholes.{two_made}

@@ -1,4 +1,4 @@
-use Rattle.std.proofs.Common.{◌≡◌, ◌∙◌, ◌≤◌, sym, ap, arith, length}
+use Rattle.std.proofs.Common.{◌∙◌, sym, ap, arith}
 use Rattle.cpp_tree.specs.Arena.{trees_of, tree_at}
 use Rattle.elab_rules.specs.Values.{only_tree}
 use Rattle.elab_init.proofs.Wholes.{many_trees}
