@@ -55,12 +55,7 @@ fn class_type(class: u32, is_const: bool, is_volatile: bool) -> Ty
 }
 
 // The type of an array in an object with these qualifiers.
-fn array_type(
-    alloc: Global,
-    is_const: bool,
-    is_volatile: bool,
-    ty: &Ty,
-) -> Result<Ty, AllocError>
+fn array_type(alloc: Global, is_const: bool, is_volatile: bool, ty: &Ty) -> Result<Ty, AllocError>
     ensures { IfOk result (λ t. typ_of t ≡ qualified is_const is_volatile (typ (form_in (typ_of ty.now)) false false)) }
 {
     let plain = with_qualifiers(alloc, ty, false, false)?;

@@ -214,24 +214,13 @@ fn add_copy(
 }
 
 /// What makes an object of a class: its constructors, which stand in these places, and its copy where that is trivial.
-pub fn makers(
-    alloc: Global,
-    env: &Env,
-    class: u32,
-    places: &[u32],
-) -> Result<Vec<Cand>, AllocError>
+pub fn makers(alloc: Global, env: &Env, class: u32, places: &[u32]) -> Result<Vec<Cand>, AllocError>
     requires { places.now ≡ constructors_of (ctx_of env.now) class }
     ensures { IfOk result (λ cands. map candidate_of cands.items ≡ makers_of (ctx_of env.now) class) }
 {
     let mut list = makers_in(alloc, env, places)?;
     let traits = traits_at(env, class);
-    add_copy(
-        alloc,
-        &mut list,
-        class,
-        traits.copies_const,
-        traits.copy,
-    )?;
+    add_copy(alloc, &mut list, class, traits.copies_const, traits.copy)?;
     Ok(list)
 }
 
@@ -268,11 +257,7 @@ fn keep_argument(list: &mut Vec<Arg>, arg: Arg) -> Result<(), AllocError>
 }
 
 // The arguments of a call.
-fn all_arguments(
-    alloc: Global,
-    nodes: &Vec<TNode>,
-    os: &[Operand],
-) -> Result<Vec<Arg>, AllocError>
+fn all_arguments(alloc: Global, nodes: &Vec<TNode>, os: &[Operand]) -> Result<Vec<Arg>, AllocError>
     requires { are_in (length (trees_of nodes.now.items)) os.now ≡ true }
     ensures { IfOk result (λ v. map argument_of v.items ≡ arguments (operands_in (trees_of nodes.now.items) os.now)) }
 {

@@ -81,7 +81,12 @@ pub fn referred_type(ty: &Ty) -> &Ty
 
 /// A type as that of a part of an object with these qualifiers: an array is qualified where its elements are, and a
 /// reference is not (C++14 3.9.3).
-pub fn qualified_type(alloc: Global, is_const: bool, is_volatile: bool, ty: &Ty) -> Result<Ty, AllocError>
+pub fn qualified_type(
+    alloc: Global,
+    is_const: bool,
+    is_volatile: bool,
+    ty: &Ty,
+) -> Result<Ty, AllocError>
     ensures { IfOk result (λ t. typ_of t ≡ qualified is_const is_volatile (typ_of ty.now)) }
 {
     match &ty.shape {
