@@ -1,0 +1,3 @@
+pub mod Listing
+pub mod PartsPlaced
+pub mod Wholes

@@ -1,0 +1,17 @@
+-- What is done to each scalar of an object.
+use Rattle.std.specs.Prelude.{ℕ, Bool, List}
+use Rattle.cpp_types.specs.Class.{Class}
+use Rattle.cpp_types.specs.declared.classes.At.{At}
+use Rattle.cpp_tree.specs.Trees.{Trees}
+use Rattle.cpp_tree.specs.Typing.{qualified}
+use Rattle.elab_rules.specs.Objects.{Leaf as LeafTree, Part, zero_leaf, copy_leaf, whole, class_whole, pieces}
+use Rattle.elab_init.specs.declared.leaves.Leaf.{Leaf}
+use Rattle.elab_init.specs.declared.leaves.Leaf.TheVariants.{Zero, Copied}
+
+abbrev pub leaf_of : Leaf → LeafTree
+leaf_of Zero = zero_leaf
+leaf_of Copied = copy_leaf
+
+-- parts of an object with these qualifiers, in which classes nest no deeper than this
+abbrev pub pieces_by : ℕ → LeafTree → List Class → At → Bool → Bool → List Part → Trees
+pieces_by depth leaf classes at c v ps = pieces (λ (p : Part). whole (class_whole depth leaf classes at) leaf classes at c v p.typ) (λ (p : Part). qualified c v p.typ) at ps

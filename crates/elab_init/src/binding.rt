@@ -1,0 +1,95 @@
+// Conversions that initialise objects and references (C++14 clause 4, 8.5.3).
+
+ghost use Rattle.std.specs.Prelude.{◌≡◌, ◌<◌, IfOk, length};
+ghost use Rattle.cpp_types.specs.Typ.{typ_of};
+ghost use Rattle.cpp_tree.specs.Trees.{none};
+ghost use Rattle.cpp_tree.specs.Typing.{unqualified};
+ghost use Rattle.cpp_tree.specs.Arena.{trees_of, tree_at, Adds};
+ghost use Rattle.elab_ctx.specs.Ctx.{ctx_of, work_of};
+ghost use Rattle.elab_ctx.specs.Operands.{operand_in};
+ghost use Rattle.elab_ctx.specs.Says.{Puts, Makes};
+ghost use Rattle.elab_rules.specs.Values.{stepped as stepped_of, stored as stored_of, temporary as temporary_of, valued as valued_of};
+ghost use Rattle.elab_rules.specs.Initialising.{bound_by as bound, conversion, initial as initial_of};
+
+use crate::temporaries::temporary;
+use cpp_tree::{ElabFault, TNode, TNodeId};
+use cpp_types::{At, Binding, Conversion, Step, Ty, conversion_between};
+use elab_conv::types::unqualified_type;
+use elab_conv::{stepped, stored, valued};
+use elab_ctx::{Env, Operand, Work, node_at};
+use std::alloc::{AllocError, Global};
+
+// The value of an expression as one of a type, stored.
+fn stored_value(
+    alloc: Global,
+    nodes: &mut Vec<TNode>,
+    step: Step,
+    ty: &Ty,
+    bare: &Ty,
+    at: At,
+    id: TNodeId,
+) -> Result<TNodeId, AllocError>
+    requires { id.0 < length (trees_of nodes.old.items) }
+    ensures { IfOk result (λ r. Adds (trees_of nodes.old.items) (trees_of nodes.new.items) r (stored_of at (typ_of bare.now) (stepped_of at step (typ_of ty.now) (valued_of at (tree_at (trees_of nodes.old.items) id))))) }
+{
+    let read = valued(alloc, nodes, at, id)?;
+    let value = stepped(alloc, nodes, at, step, ty, read)?;
+    stored(alloc, nodes, at, bare, value)
+}
+
+// A temporary of a type that has the value of an expression.
+fn bound_temporary(
+    alloc: Global,
+    work: &mut Work,
+    step: Step,
+    ty: &Ty,
+    at: At,
+    id: TNodeId,
+) -> Result<TNodeId, AllocError>
+    requires { id.0 < length (trees_of work.old.nodes.items) }
+    ensures { IfOk result (λ r. Puts (trees_of work.old.nodes.items) (trees_of work.new.nodes.items) (work_of work.new) r (temporary_of (work_of work.old) (unqualified (typ_of ty.now)) at (stored_of at (unqualified (typ_of ty.now)) (stepped_of at step (typ_of ty.now) (valued_of at (tree_at (trees_of work.old.nodes.items) id)))) none)) }
+{
+    let bare = unqualified_type(alloc, ty)?;
+    let init = stored_value(alloc, &mut work.nodes, step, ty, &bare, at, id)?;
+    temporary(alloc, work, &bare, at, init, &[])
+}
+
+/// What a conversion makes of an expression that initialises an object or a reference of a type.
+pub fn bound_by(
+    alloc: Global,
+    env: &Env,
+    work: &mut Work,
+    binding: Binding,
+    step: Step,
+    ty: &Ty,
+    at: At,
+    id: TNodeId,
+) -> Result<TNodeId, AllocError>
+    requires { id.0 < length (trees_of work.old.nodes.items) }
+    ensures { IfOk result (λ r. Puts (trees_of work.old.nodes.items) (trees_of work.new.nodes.items) (work_of work.new) r (bound (ctx_of env.now) (work_of work.old) binding step (typ_of ty.now) at (tree_at (trees_of work.old.nodes.items) id))) }
+{
+    Err(AllocError)
+}
+
+/// The conversion of an expression that initialises an object or a reference of a type.
+pub fn conversion_of(env: &Env, nodes: &Vec<TNode>, ty: &Ty, o: Operand) -> Option<Conversion>
+    requires { o.id.0 < length (trees_of nodes.now.items) }
+    ensures { result ≡ conversion (ctx_of env.now) (typ_of ty.now) (operand_in (trees_of nodes.now.items) o) }
+{
+    let node = node_at(nodes, o.id);
+    conversion_between(&node.ty, node.cat, o.zero, ty, &env.classes)
+}
+
+/// A scalar's value, or the object that a reference refers to.
+pub fn initial(
+    alloc: Global,
+    env: &Env,
+    work: &mut Work,
+    ty: &Ty,
+    o: Operand,
+) -> Result<TNodeId, ElabFault>
+    requires { o.id.0 < length (trees_of work.old.nodes.items) }
+    ensures { Makes (trees_of work.old.nodes.items) (trees_of work.new.nodes.items) (work_of work.new) result (initial_of (ctx_of env.now) (work_of work.old) (typ_of ty.now) (operand_in (trees_of work.old.nodes.items) o)) }
+{
+    Err(ElabFault::Memory)
+}

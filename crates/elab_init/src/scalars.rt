@@ -1,0 +1,71 @@
+// Scalars of objects that are zero or copied.
+
+ghost use Rattle.std.specs.Prelude.{IfOk};
+ghost use Rattle.cpp_types.specs.Typ.{typ_of};
+ghost use Rattle.cpp_tree.specs.Arena.{trees_of, Adds};
+ghost use Rattle.elab_rules.specs.Objects.{zero_leaf, copy_leaf};
+ghost use Rattle.elab_init.specs.Leaves.{leaf_of};
+
+use crate::leaves::Leaf;
+use cpp_tree::{TKind, TNode, TNodeId, add_leaf};
+use cpp_types::{At, Cat, Ty, copy};
+use elab_conv::stored;
+use elab_conv::types::{kind_of, unqualified_type};
+use std::alloc::{AllocError, Global};
+
+// A scalar that is zero.
+fn zero_scalar(
+    alloc: Global,
+    nodes: &mut Vec<TNode>,
+    ty: &Ty,
+    at: At,
+) -> Result<TNodeId, AllocError>
+    ensures { IfOk result (λ r. Adds (trees_of nodes.old.items) (trees_of nodes.new.items) r (zero_leaf (typ_of ty.now) at)) }
+{
+    let target = unqualified_type(alloc, ty)?;
+    let zero = add_leaf(
+        alloc,
+        nodes,
+        TKind::Literal { word: 0 },
+        target,
+        Cat::Prvalue,
+        at,
+    )?;
+    stored(alloc, nodes, at, ty, zero)
+}
+
+// A scalar that is copied.
+fn copied_scalar(
+    alloc: Global,
+    nodes: &mut Vec<TNode>,
+    ty: &Ty,
+    at: At,
+) -> Result<TNodeId, AllocError>
+    ensures { IfOk result (λ r. Adds (trees_of nodes.old.items) (trees_of nodes.new.items) r (copy_leaf (typ_of ty.now) at)) }
+{
+    let target = copy(alloc, ty)?;
+    match kind_of(ty) {
+        Some(kind) => {
+            let volatile = ty.is_volatile;
+            let kind = TKind::CopyScalar { kind, volatile };
+            add_leaf(alloc, nodes, kind, target, Cat::Prvalue, at)
+        }
+        None => add_leaf(alloc, nodes, TKind::Pieces, target, Cat::Prvalue, at),
+    }
+}
+
+/// What is done to a scalar of a type.
+pub fn scalar_leaf(
+    alloc: Global,
+    nodes: &mut Vec<TNode>,
+    leaf: Leaf,
+    ty: &Ty,
+    at: At,
+) -> Result<TNodeId, AllocError>
+    ensures { IfOk result (λ r. Adds (trees_of nodes.old.items) (trees_of nodes.new.items) r (leaf_of leaf (typ_of ty.now) at)) }
+{
+    match leaf {
+        Leaf::Zero => zero_scalar(alloc, nodes, ty, at),
+        Leaf::Copied => copied_scalar(alloc, nodes, ty, at),
+    }
+}

@@ -1,0 +1,159 @@
+// Objects as those of a class, and initialisers as those of a type (C++14 8.5, 12.8).
+
+ghost use Rattle.std.specs.Prelude.{◌≡◌, ◌<◌, IfOk, length};
+ghost use Rattle.cpp_types.specs.Typ.{typ_of};
+ghost use Rattle.cpp_tree.specs.Trees.{node, two, typ_in, cat_of, kids_of};
+ghost use Rattle.cpp_types.specs.Class.{classes_of};
+ghost use Rattle.cpp_tree.specs.Arena.{trees_of, tree_at, Adds};
+ghost use Rattle.elab_ctx.specs.Ctx.{ctx_of, work_of};
+ghost use Rattle.elab_ctx.specs.Operands.{operand_in};
+ghost use Rattle.elab_ctx.specs.Says.{Puts};
+ghost use Rattle.elab_rules.specs.Values.{place_of};
+ghost use Rattle.elab_rules.specs.Objects.{copies as copies_by};
+ghost use Rattle.elab_rules.specs.Initialising.{as_base as as_base_of, as_source as as_source_of, building as building_of, same_number as same_number_of, copied_in_place as copied_in_place_of};
+
+use crate::objects::copies;
+use crate::types::class_number;
+use cpp_tree::{TKind, TNode, TNodeId, add_binary, add_node, add_unary};
+use cpp_types::{At, Cat, Shape, Ty, copy};
+use elab_ctx::{Env, Operand, Work, kids_at, node_at};
+use std::alloc::{AllocError, Global};
+
+/// Whether a class is the one with a number.
+pub fn same_number(class: u32, found: Option<u32>) -> bool
+    ensures { result ≡ same_number_of class found }
+{
+    match found {
+        Some(number) => number == class,
+        None => false,
+    }
+}
+
+/// An object as one of a base of its class.
+pub fn as_base(
+    alloc: Global,
+    nodes: &mut Vec<TNode>,
+    at: At,
+    class: u32,
+    id: TNodeId,
+) -> Result<TNodeId, AllocError>
+    requires { id.0 < length (trees_of nodes.old.items) }
+    ensures { IfOk result (λ r. Adds (trees_of nodes.old.items) (trees_of nodes.new.items) r (as_base_of at class (typ_in (tree_at (trees_of nodes.old.items) id)) (tree_at (trees_of nodes.old.items) id))) }
+{
+    let node = node_at(nodes, id);
+    let ty = Ty {
+        shape: Shape::Class(class),
+        is_const: node.ty.is_const,
+        is_volatile: node.ty.is_volatile,
+    };
+    add_unary(alloc, nodes, TKind::Retype, ty, Cat::Lvalue, at, id)
+}
+
+/// An object as one of the class, where it is none already.
+pub fn as_source(
+    alloc: Global,
+    nodes: &mut Vec<TNode>,
+    at: At,
+    class: u32,
+    id: TNodeId,
+) -> Result<TNodeId, AllocError>
+    requires { id.0 < length (trees_of nodes.old.items) }
+    ensures { IfOk result (λ r. Adds (trees_of nodes.old.items) (trees_of nodes.new.items) r (as_source_of at class (tree_at (trees_of nodes.old.items) id))) }
+{
+    let node = node_at(nodes, id);
+    if same_number(class, class_number(&node.ty)) {
+        return Ok(id);
+    }
+    as_base(alloc, nodes, at, class, id)
+}
+
+// A node like another, of another type.
+fn with_type(
+    alloc: Global,
+    nodes: &mut Vec<TNode>,
+    kind: TKind,
+    ty: &Ty,
+    id: TNodeId,
+) -> Result<TNodeId, AllocError>
+    requires { id.0 < length (trees_of nodes.old.items) }
+    ensures { IfOk result (λ r. Adds (trees_of nodes.old.items) (trees_of nodes.new.items) r (node kind (typ_of ty.now) (cat_of (tree_at (trees_of nodes.old.items) id)) (place_of (tree_at (trees_of nodes.old.items) id)) (kids_of (tree_at (trees_of nodes.old.items) id)))) }
+{
+    let cat = node_at(nodes, id).cat;
+    let at = node_at(nodes, id).at;
+    let kids = Vec::from_slice(alloc, kids_at(nodes, id)?)?;
+    let ty = copy(alloc, ty)?;
+    add_node(
+        nodes,
+        TNode {
+            kind,
+            ty,
+            cat,
+            at,
+            kids,
+        },
+    )
+}
+
+/// The initialiser of an object of a type, which has the qualifiers of that object; what is called has its own type.
+pub fn building(
+    alloc: Global,
+    nodes: &mut Vec<TNode>,
+    ty: &Ty,
+    id: TNodeId,
+) -> Result<TNodeId, AllocError>
+    requires { id.0 < length (trees_of nodes.old.items) }
+    ensures { IfOk result (λ r. Adds (trees_of nodes.old.items) (trees_of nodes.new.items) r (building_of (typ_of ty.now) (tree_at (trees_of nodes.old.items) id))) }
+{
+    let kind = node_at(nodes, id).kind;
+    match kind {
+        TKind::Construct { .. } => with_type(alloc, nodes, kind, ty, id),
+        TKind::CopyFrom => with_type(alloc, nodes, kind, ty, id),
+        TKind::Pieces => with_type(alloc, nodes, kind, ty, id),
+        _ => Ok(id),
+    }
+}
+
+// A copy of an object of a class, part by part.
+fn copy_in_place(
+    alloc: Global,
+    env: &Env,
+    nodes: &mut Vec<TNode>,
+    class: u32,
+    ty: &Ty,
+    at: At,
+    source_at: At,
+    id: TNodeId,
+) -> Result<TNodeId, AllocError>
+    requires { id.0 < length (trees_of nodes.old.items) }
+    ensures { IfOk result (λ r. Adds (trees_of nodes.old.items) (trees_of nodes.new.items) r (node TKind.CopyFrom (typ_of ty.now) Cat.Prvalue at (two (as_source_of source_at class (tree_at (trees_of nodes.old.items) id)) (copies_by (classes_of env.now.classes.items) at (typ_of ty.now))))) }
+{
+    let source = as_source(alloc, nodes, source_at, class, id)?;
+    let parts = copies(alloc, env, nodes, at, ty)?;
+    let ty = copy(alloc, ty)?;
+    add_binary(
+        alloc,
+        nodes,
+        TKind::CopyFrom,
+        ty,
+        Cat::Prvalue,
+        at,
+        source,
+        parts,
+    )
+}
+
+/// A copy in place, part by part, of an object.
+pub fn copied_in_place(
+    alloc: Global,
+    env: &Env,
+    work: &mut Work,
+    class: u32,
+    ty: &Ty,
+    at: At,
+    o: Operand,
+) -> Result<TNodeId, AllocError>
+    requires { o.id.0 < length (trees_of work.old.nodes.items) }
+    ensures { IfOk result (λ r. Puts (trees_of work.old.nodes.items) (trees_of work.new.nodes.items) (work_of work.new) r (copied_in_place_of (ctx_of env.now) (work_of work.old) class (typ_of ty.now) at (operand_in (trees_of work.old.nodes.items) o))) }
+{
+    Err(AllocError)
+}
