@@ -9,7 +9,7 @@ use Rattle.cpp_tree.specs.Arena.{trees_at}
 use Rattle.elab_ctx.specs.Says.{Faults, place_in}
 use Rattle.cpp_types.specs.Typ.{Typ, typ, void}
 use Rattle.cpp_types.specs.declared.ranks.Cat.{Cat}
-use Rattle.cpp_types.specs.declared.ranks.Cat.TheVariants.{Lvalue, Prvalue}
+use Rattle.cpp_types.specs.declared.ranks.Cat.TheVariants.{Lvalue}
 use Rattle.cpp_tree.specs.declared.kinds.TKind.{TKind}
 use Rattle.cpp_tree.specs.declared.kinds.TKind.TheVariants.{Function, Default, Builtin}
 use Rattle.cpp_tree.specs.Trees.{Tree, node, Trees, kind_of, typ_in, cat_of, kids_of}

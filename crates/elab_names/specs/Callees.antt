@@ -1,5 +1,5 @@
 -- What an expression names, where it is called or taken as a value.
-use Rattle.std.specs.Prelude.{ℕ, Result, Ok, Err}
+use Rattle.std.specs.Prelude.{Result, Ok, Err}
 use Rattle.cpp_types.specs.Typ.{Typ, typ, void}
 use Rattle.cpp_types.specs.declared.ranks.Cat.{Cat}
 use Rattle.cpp_types.specs.declared.ranks.Cat.TheVariants.{Lvalue}

@@ -1,5 +1,5 @@
 -- What a name was found to be among the members of a class.
-use Rattle.std.specs.Prelude.{ℕ, false, ◌&&◌, List, Option, Some, None, Result, Ok, if◌then◌else◌}
+use Rattle.std.specs.Prelude.{ℕ, false, ◌&&◌, Result, Ok, if◌then◌else◌}
 use Rattle.tx_ints.specs.declared.kinds.IntKind.TheVariants.{ULong}
 use Rattle.cpp_types.specs.declared.classes.At.{At}
 use Rattle.cpp_types.specs.declared.ranks.Cat.TheVariants.{Lvalue}
