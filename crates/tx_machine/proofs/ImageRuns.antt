@@ -44,10 +44,12 @@ pub asks_as : {S G : Type 0} (a : Thread S) (policy : Clash → Choice → Type 
     (input : List ℕ) (p q : MemoryLayout) (memory other : ℕ → ℕ) (main first : S) → p ≡ q → memory ≡ other → main ≡ first → (before after : G)
     → (slots : List Slot) × Asks a p policy step (first_machine memory input main) slots before after
     → (slots : List Slot) × Asks a q policy step (first_machine other input first) slots before after
-asks_as a policy step input p q memory other main first layout words state before after h =
-    (h.0, subst (λ z. Asks a z policy step (first_machine other input first) h.0 before after) layout
-    (subst (λ z. Asks a p policy step (first_machine z input first) h.0 before after) words
-    (subst (λ z. Asks a p policy step (first_machine memory input z) h.0 before after) state h.1)))
+asks_as a policy step input p q memory other main first layout words state before after h = (
+  h.0,
+  subst (λ z. Asks a z policy step (first_machine other input first) h.0 before after) layout
+      (subst (λ z. Asks a p policy step (first_machine z input first) h.0 before after) words
+      (subst (λ z. Asks a p policy step (first_machine memory input z) h.0 before after) state h.1)),
+)
 
 -- in a whole run the picker was asked once in each turn
 pub asks_of : {S G P W : Type 0} (a : Thread S) (policy : Clash → Choice → Type 0) (step : G → Seen → ℕ → G → Type 0) (sight : Sight S P W) (bound : ℕ)

@@ -1,4 +1,3 @@
-use Rattle.std.proofs.Common.{map, subst, ◌≡◌, Result, Ok, Err}
 use Rattle.text_commands.proofs.Decisions.{assembles, assembles_none}
 use Rattle.text_commands.proofs.assembling.decided.Goals as goal
 

@@ -1,4 +1,3 @@
-use Rattle.std.proofs.Common.{map, subst, ◌≡◌, Result, Ok, Err}
 use Rattle.text_commands.proofs.Decisions.{disassembles, disassembles_none}
 use Rattle.text_commands.proofs.disassembling.decided.Goals as goal
 

@@ -15,9 +15,12 @@ returns-clause-turned g c = on_ok c.after.result (λ told r shows.
     let limit : limit_of old ≡ THREAD_LIMIT = search rules in
     let count : c.len-turn.result ≡ length c.args.self.now.picked.items = search rules in
     one_turn (layout_at old) _ _ _ (record { place = g.read; shown = g.W.Observer.after_shown; told = g.W.Observer.after_told })
-    c.args.self.now _ _ _ _ (g.W.Observer.state c.before-2.new.self) _ r t c.in_ok-kind.kind shows c.in_ok-kind.ensures.chosen
-    (_, seen_is r _ (count ∙ shows.turn) (c.started.ensures.started ∙ ap (λ m. m.started) shows.machine) shows.last shows.inside,
-    one_to_limit (c.started.ensures.started ∙ ap (λ m. m.started) shows.machine) c.started.ensures.some c.started.ensures.within limit, c.pick-thread.ensures.step)
+    c.args.self.now _ _ _ _ (g.W.Observer.state c.before-2.new.self) _ r t c.in_ok-kind.kind shows c.in_ok-kind.ensures.chosen (
+      _,
+      seen_is r _ (count ∙ shows.turn) (c.started.ensures.started ∙ ap (λ m. m.started) shows.machine) shows.last shows.inside,
+      one_to_limit (c.started.ensures.started ∙ ap (λ m. m.started) shows.machine) c.started.ensures.some c.started.ensures.within limit,
+      c.pick-thread.ensures.step,
+    )
     (c.in_ok-before.ensures ∙ ap (g.W.Observer.after_shown (g.W.Observer.state c.args.observer.now) t)
     (shown_place g.A.Actor.state g.W.Observer.place g.read (search rules) ((machine_of old).threads t) (option_copied c.actor.result) c.actor.ensures))
     (told ∙ ap (g.W.Observer.after_told (g.W.Observer.state c.before-2.new.self) c.in_ok-kind.kind) c.end.ensures)
