@@ -5,8 +5,6 @@
 #[cfg(test)]
 mod conversions;
 #[cfg(test)]
-mod integers;
-#[cfg(test)]
 mod layouts;
 #[cfg(test)]
 mod meaning;
@@ -16,10 +14,6 @@ mod overloads;
 mod safety;
 #[cfg(test)]
 mod scopes;
-#[cfg(test)]
-mod syntax_nodes;
-#[cfg(test)]
-mod tokens;
 #[cfg(test)]
 mod typed_nodes;
 #[cfg(test)]

@@ -1,4 +1,4 @@
-//! The parser: each public call on its happy path, and values from outside. The tests of several crates stand here
+//! Text, tokens and trees: each public call on its happy path, and values from outside. The tests of several crates stand here
 //! together, so that none of these is proved a second time with its tests.
 #![tactic(auto)]
 
@@ -7,6 +7,12 @@ mod expressions;
 #[cfg(test)]
 mod grammar;
 #[cfg(test)]
+mod integers;
+#[cfg(test)]
 mod nesting;
+#[cfg(test)]
+mod syntax_nodes;
+#[cfg(test)]
+mod tokens;
 #[cfg(test)]
 mod units;
