@@ -1,8 +1,8 @@
 -- No fault is found exactly where the code is sound.
-use Rattle.std.proofs.Common.{Bool, true, false, ◌≡◌, ◌<◌, ◌≤◌, ◌⊎◌, inl, inr, ℕ, zero, suc, ◌+◌, ◌-◌, List, [], ◌∷◌, length, map, drop, get_or, Option, Some, None, refl, sym, ap, ◌∙◌, subst, arith}
+use Rattle.std.proofs.Common.{Bool, true, false, ◌≡◌, ◌<◌, ℕ, zero, suc, ◌+◌, ◌-◌, List, [], ◌∷◌, length, map, drop, get_or, Option, Some, None, refl, sym, ap, ◌∙◌, subst, arith}
 use Rattle.std.specs.declared.alloc.AllocError.{AllocError}
-use Rattle.std.specs.Prelude.{⊤, IfSome, IfNone, IfOk, Result, Ok, Err, min, nat_lt, nat_eq, slice_get, if◌then◌else◌}
-use Rattle.std.proofs.lemmas.Bool.{cases_Bool, true≢false, false≢true, ltb-true, eqb-true, eqb-false, ne_eqb}
+use Rattle.std.specs.Prelude.{IfSome, IfNone, IfOk, Result, Ok, Err, min, nat_eq, slice_get, if◌then◌else◌}
+use Rattle.std.proofs.lemmas.Bool.{ltb-true, eqb-false, ne_eqb}
 use Rattle.std.proofs.lemmas.Option.{none-some, same_Some}
 use Rattle.tx_code.specs.declared.instr.Instr.{Instr}
 use Rattle.tx_code.specs.declared.body.Row.{Row}
@@ -21,7 +21,7 @@ use Rattle.code_walk.specs.Clean.{Clean}
 use Rattle.code_verify.specs.Rules.{index_rule, row_rule}
 use Rattle.code_verify.specs.Faults.{fault, earlier, is_before, or_next, at_place, row_fault, first_of_rows, first_of_indexes, first_by, body_fault, frame_fault, behind, safe_fault, func_fault, or_below, first_of_funcs, image_fault}
 use Rattle.code_walk.proofs.Exact.{clean_is_sound, sound_is_clean}
-use Rattle.code_verify.proofs.RuleLaws.{none_clean, clean_index, clean_row, NoIndex, NoRow}
+use Rattle.code_verify.proofs.RuleLaws.{none_clean, clean_index, clean_row}
 
 some_none : {A P : Type 0} (a : A) → Some a ≡ None → P
 some_none a h = absurd (none-some a (sym h))

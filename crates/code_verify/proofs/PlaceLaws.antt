@@ -2,7 +2,7 @@
 use Rattle.std.proofs.Common.{Bool, true, false, ◌≡◌, ◌<◌, ◌≤◌, ◌⊎◌, inl, inr, ℕ, zero, suc, ◌+◌, ◌-◌, List, [], ◌∷◌, length, Option, Some, None, refl, sym, ap, ◌∙◌, subst, arith}
 use Rattle.std.specs.Prelude.{min, not, nat_lt, nat_eq, ◌&&◌, ◌||◌, slice_get, if◌then◌else◌, Result, Ok, Err, IfOk, IfSome}
 use Rattle.std.specs.declared.alloc.AllocError.{AllocError}
-use Rattle.std.proofs.lemmas.Bool.{cases_Bool, cases_eq, true≢false, false≢true, ltb-true, ltb-false, eqb-true, eqb-false, eq-eqb, ne_eqb}
+use Rattle.std.proofs.lemmas.Bool.{cases_Bool, cases_eq, true≢false, false≢true, ltb-true, ltb-false, eqb-true, eqb-false, eq-eqb}
 use Rattle.std.proofs.lemmas.Option.{none-some, same_Some, slice_get_within}
 use Rattle.tx_code.specs.declared.instr.Instr.{Instr}
 use Rattle.tx_code.specs.declared.body.Row.{Row}
@@ -17,7 +17,7 @@ use Rattle.code_walk.specs.Walk.{Slot, slot_at, walked}
 use Rattle.code_walk.specs.Bodies.{space}
 use Rattle.code_verify.specs.Rules.{first_broken, or_then, alone_right, shaped_right, row_alone, row_over, index_rule, row_rule}
 use Rattle.code_verify.specs.Faults.{fault, earlier, is_before, or_next, at_place, row_fault, first_of_rows, first_of_indexes, first_by, body_fault, frame_fault, behind, safe_fault, func_fault, or_below, first_of_funcs, image_fault}
-use Rattle.code_verify.specs.Places.{fails, index_breaks, row_breaks, BodyBreaks, is_empty, at_index, by_row, FuncBreaks, by_frame, in_plain, in_safe, Breaks, Precedes, PrecedesIn, FirstBroken}
+use Rattle.code_verify.specs.Places.{fails, index_breaks, row_breaks, BodyBreaks, is_empty, at_index, by_row, FuncBreaks, by_frame, in_plain, in_safe, Precedes, PrecedesIn, FirstBroken}
 
 -- ---- the lowest clause of a subject
 

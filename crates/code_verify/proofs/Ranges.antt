@@ -1,5 +1,5 @@
 -- A test of each index of a range, one index further.
-use Rattle.std.proofs.Common.{Bool, true, false, ◌≡◌, ◌<◌, ℕ, zero, suc, ◌+◌, ◌-◌, List, length, map, get_or, Option, Some, None, refl, sym, ap, ◌∙◌, arith}
+use Rattle.std.proofs.Common.{Bool, true, false, ◌≡◌, ◌<◌, ℕ, suc, ◌+◌, ◌-◌, List, length, map, get_or, sym, ap, ◌∙◌, arith}
 use Rattle.std.specs.Prelude.{◌&&◌}
 use Rattle.tx_events.specs.Thread.{Open}
 use Rattle.tx_code.specs.Shapes as shapes

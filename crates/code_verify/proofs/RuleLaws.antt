@@ -1,22 +1,22 @@
 -- No index and no row breaks a clause exactly where the body is clean.
-use Rattle.std.proofs.Common.{Bool, true, false, ◌≡◌, ◌<◌, ◌≤◌, ◌⊎◌, inl, inr, ℕ, zero, suc, ◌+◌, ◌-◌, List, [], ◌∷◌, length, Option, Some, None, refl, sym, ap, ◌∙◌, subst, arith}
-use Rattle.std.specs.Prelude.{⊤, not, is_some, nat_lt, nat_le, nat_eq, ◌&&◌, ◌||◌, slice_get, if◌then◌else◌}
+use Rattle.std.proofs.Common.{Bool, true, false, ◌≡◌, ◌<◌, ◌≤◌, inl, inr, ℕ, zero, suc, ◌+◌, ◌-◌, List, [], ◌∷◌, length, Option, Some, None, refl, sym, ap, ◌∙◌, subst, arith}
+use Rattle.std.specs.Prelude.{⊤, not, nat_lt, nat_le, nat_eq, ◌&&◌, ◌||◌, slice_get, if◌then◌else◌}
 use Rattle.std.specs.List.{list_all}
 use Rattle.std.specs.Option.{option_map_or}
-use Rattle.std.proofs.lemmas.Bool.{cases_Bool, true≢false, false≢true, le-leb, leb-true, lt-ltb, ltb-true, eqb-true, eq-eqb, cases_lt}
-use Rattle.std.proofs.lemmas.Option.{none-some, same_Some, slice_get_within}
+use Rattle.std.proofs.lemmas.Bool.{false≢true, le-leb, leb-true, lt-ltb, ltb-true, eqb-true, eq-eqb, cases_lt}
+use Rattle.std.proofs.lemmas.Option.{none-some, slice_get_within}
 use Rattle.tx_events.specs.Thread.{is_empty}
 use Rattle.tx_code.specs.declared.instr.Instr.{Instr}
 use Rattle.tx_code.specs.declared.body.Row.{Row}
 use Rattle.tx_code.specs.Objects.{BodyView}
 use Rattle.tx_code.specs.Meaning.{covers}
-use Rattle.tx_code.specs.Shapes.{Shape, Table, outgoing, Among, here, there}
-use Rattle.tx_code.specs.Sound.{Signature, target_lies, row_lies, is_last, is_known, row_is_known, names_right, row_names_right, passes, exception_right, is_inside, inside_right, outside_right, closes_right, edge_right, has_edge, left_at}
+use Rattle.tx_code.specs.Shapes.{Shape, Table, Among, here, there}
+use Rattle.tx_code.specs.Sound.{Signature, target_lies, row_lies, is_last, is_known, row_is_known, names_right, row_names_right, is_inside, inside_right, outside_right, closes_right, has_edge, left_at}
 use Rattle.tx_code.proofs.ReachedIndexes.{and_left, and_right, or_false, get_at, all_at, all_among}
 use Rattle.code_walk.specs.Walk.{Slot, slot_at, walked}
 use Rattle.code_walk.specs.Bodies.{space}
 use Rattle.code_walk.specs.Clean.{Found, Clean}
-use Rattle.code_verify.specs.Rules.{first_broken, of_shape, alone_right, place_right, outer_right, blocks_right, shape_right, shaped_right, or_then, index_rule, row_alone, holds_over, edge_test, depth_test, row_over, row_rule}
+use Rattle.code_verify.specs.Rules.{first_broken, of_shape, alone_right, shape_right, shaped_right, or_then, index_rule, row_alone, holds_over, edge_test, depth_test, row_over, row_rule}
 use Rattle.code_walk.proofs.Kept.{kept_walked}
 use Rattle.code_walk.proofs.Reached.{tests}
 

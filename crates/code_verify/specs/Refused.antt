@@ -1,5 +1,5 @@
 -- When an image is refused.
-use Rattle.std.specs.Prelude.{ℕ, ⊤}
+use Rattle.std.specs.Prelude.{⊤}
 use Rattle.tx_code.specs.Images.{ImageView}
 use Rattle.tx_code.specs.Sound.{Sound}
 use Rattle.code_verify.specs.Places.{FirstBroken}

@@ -1,11 +1,11 @@
 -- The walk comes to its end.
-use Rattle.std.proofs.Common.{Bool, true, false, ◌≡◌, ◌≢◌, ◌⊎◌, inl, inr, ℕ, zero, suc, ◌+◌, ◌<◌, ◌≤◌, List, [], ◌∷◌, length, set, replicate, Option, Some, None, refl, sym, ap, ◌∙◌, subst, arith}
+use Rattle.std.proofs.Common.{Bool, true, false, ◌≡◌, ◌⊎◌, inl, inr, ℕ, zero, suc, ◌+◌, ◌<◌, List, [], ◌∷◌, length, set, replicate, Option, Some, None, refl, sym, ap, ◌∙◌, subst, arith}
 use Rattle.std.proofs.lemmas.Bool.{cases_Bool, false≢true}
 use Rattle.std.proofs.lemmas.Option.{none-some, same_Some}
 use Rattle.std.specs.Prelude.{nat_lt, not, ◌&&◌, is_some, if◌then◌else◌}
 use Rattle.tx_code.proofs.ReachedIndexes.{and_left, and_right}
 use Rattle.code_walk.specs.Walk.{Given, Space, Tests, Slot, slot, bare, slot_at, noted, note, note_all, seen_slot, gives_at, look, waits, lowest, step_at, steps, start, walked}
-use Rattle.code_walk.proofs.Notes.{Grows, grows_noted}
+use Rattle.code_walk.proofs.Notes.{grows_noted}
 
 -- how many were not looked at
 left : {S : Type 0} → List (Slot S) → ℕ

@@ -1,18 +1,18 @@
 -- A body is sound exactly where the walk finds no broken clause.
-use Rattle.std.proofs.Common.{Bool, true, false, ◌≡◌, ◌<◌, ◌⊎◌, inl, inr, ℕ, ◌+◌, ◌-◌, List, [], ◌∷◌, ◌++◌, length, Option, Some, None, refl, sym, ap, ◌∙◌, subst, arith}
+use Rattle.std.proofs.Common.{Bool, true, false, ◌≡◌, ◌<◌, ℕ, ◌+◌, ◌-◌, List, [], ◌∷◌, ◌++◌, length, Some, refl, sym, ap, ◌∙◌, subst, arith}
 use Rattle.std.specs.Prelude.{nat_lt, nat_le, ◌&&◌, slice_get, if◌then◌else◌}
 use Rattle.std.specs.List.{list_all}
 use Rattle.std.specs.Option.{option_map_or}
-use Rattle.std.proofs.lemmas.Bool.{true≢false, false≢true, ltb-true}
+use Rattle.std.proofs.lemmas.Bool.{true≢false, ltb-true}
 use Rattle.std.proofs.lemmas.Option.{same_Some}
 use Rattle.tx_code.specs.declared.instr.Instr.{Instr}
 use Rattle.tx_code.specs.declared.body.Row.{Row}
 use Rattle.tx_code.specs.Objects.{BodyView}
 use Rattle.tx_code.specs.Meaning.{covers}
-use Rattle.tx_code.specs.Shapes.{Shape, Table, outgoing, targets, landed, Effect, Among, here, there, Reaches, enters, falls, lands}
+use Rattle.tx_code.specs.Shapes.{Shape, Table, targets, landed, Effect, Among, here, there, Reaches, enters, falls, lands}
 use Rattle.tx_code.specs.Sound.{Signature, entry, target_lies, row_lies, is_last, SoundBody}
-use Rattle.tx_code.proofs.ReachedIndexes.{and_left, and_right, all_at, all_among, led}
-use Rattle.code_walk.specs.Walk.{Given, given, Has, at_first, goes_on, slot_at, walked, Two}
+use Rattle.tx_code.proofs.ReachedIndexes.{and_right, all_at, all_among, led}
+use Rattle.code_walk.specs.Walk.{Given, given, Has, at_first, goes_on, Two}
 use Rattle.code_walk.specs.Bodies.{falls_to, lands_in, given_on, given_by, space}
 use Rattle.code_walk.specs.Clean.{Found, Clean}
 use Rattle.code_walk.proofs.Kept.{kept_walked, knows}

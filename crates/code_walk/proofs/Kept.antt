@@ -1,11 +1,11 @@
 -- What the walk keeps.
-use Rattle.std.proofs.Common.{Bool, true, false, ◌≡◌, ◌≢◌, ◌⊎◌, inl, inr, ℕ, zero, suc, ◌+◌, ◌<◌, ◌≤◌, List, [], ◌∷◌, length, set, replicate, Option, Some, None, refl, sym, ap, ◌∙◌, subst, arith, get_or-set_other, get_or-set_same}
+use Rattle.std.proofs.Common.{true, false, ◌≡◌, ◌≢◌, inl, inr, ℕ, zero, suc, ◌<◌, List, [], ◌∷◌, length, set, replicate, Option, Some, None, refl, sym, ap, ◌∙◌, subst, arith, get_or-set_other, get_or-set_same}
 use Rattle.std.proofs.lemmas.Bool.{cases_eq, cases_lt, false≢true}
 use Rattle.std.proofs.lemmas.List.{length-set}
 use Rattle.std.proofs.lemmas.Option.{none-some, same_Some}
 use Rattle.tx_code.specs.Shapes.{Among, here, there}
-use Rattle.code_walk.specs.Walk.{Given, given, Space, Tests, Has, at_first, goes_on, Slot, slot, bare, slot_at, noted, note, note_all, seen_slot, gives_at, look, waits, lowest, step_at, steps, start, walked, Two}
-use Rattle.code_walk.proofs.Notes.{Grows, grows_self, grows_then, Told, told_grows, shape_noted, clash_noted, note_same, note_other, length_note, past, all_grow, all_told}
+use Rattle.code_walk.specs.Walk.{Given, given, Space, Tests, Has, at_first, goes_on, Slot, slot, bare, slot_at, note, note_all, seen_slot, gives_at, look, lowest, step_at, steps, start, walked, Two}
+use Rattle.code_walk.proofs.Notes.{Grows, Told, told_grows, shape_noted, clash_noted, note_same, note_other, length_note, past, all_grow, all_told}
 use Rattle.code_walk.proofs.Ends.{Lowest, lowest_some, waits_has, waits_not, walked_ends, bares_at, length_bares}
 
 -- what the slots say is so

@@ -1,7 +1,7 @@
 -- What is walked is what is reached.
-use Rattle.std.proofs.Common.{Bool, true, false, ◌≡◌, ◌<◌, ◌⊎◌, inl, inr, ℕ, List, [], ◌∷◌, ◌++◌, length, Option, Some, None, refl, sym, ap, ◌∙◌, subst, arith}
+use Rattle.std.proofs.Common.{Bool, true, false, ◌≡◌, ◌⊎◌, inl, inr, ℕ, List, [], ◌∷◌, ◌++◌, Option, Some, None, refl, sym, ap, ◌∙◌, subst}
 use Rattle.std.specs.Prelude.{nat_eq, ◌&&◌, slice_get, if◌then◌else◌}
-use Rattle.std.proofs.lemmas.Bool.{cases_Bool, false≢true, eqb-true, eq-eqb}
+use Rattle.std.proofs.lemmas.Bool.{false≢true, eqb-true, eq-eqb}
 use Rattle.tx_events.specs.declared.BlockKind.{BlockKind}
 use Rattle.tx_events.specs.declared.BlockKind.TheVariants.{NoExcept, Commit, Cancel}
 use Rattle.tx_events.specs.Thread.{Open, Atomic, Sync, same_kind}
@@ -12,7 +12,7 @@ use Rattle.tx_code.specs.Meaning.{covers}
 use Rattle.tx_code.specs.Shapes.{Hand, Empty, Builds, Flies, Shape, Table, outgoing, targets, landed, Among, here, there, Reaches, enters, falls, lands}
 use Rattle.tx_code.specs.Sound.{Signature, entry}
 use Rattle.tx_code.proofs.ReachedIndexes.{and_left, and_right}
-use Rattle.code_walk.specs.Walk.{Given, given, Space, Tests, Has, at_first, goes_on}
+use Rattle.code_walk.specs.Walk.{Given, given, Tests, Has, at_first, goes_on}
 use Rattle.code_walk.specs.Bodies.{same_open, same_opens, same_hand, same_shape, falls_to, lands_in, given_on, given_by, space}
 
 -- ---- the test of shapes

@@ -1,6 +1,6 @@
 -- Notes in the code's slots.
-use Rattle.std.proofs.Common.{Bool, true, false, ◌≡◌, ◌<◌, ◌≤◌, ◌⊎◌, inl, inr, ℕ, zero, suc, ◌+◌, List, [], ◌∷◌, ◌++◌, length, map, set, get_or, take, replicate, Option, Some, None, refl, sym, ap, ◌∙◌, subst, arith}
-use Rattle.std.specs.Prelude.{nat_lt, ◌&&◌, if◌then◌else◌, slice_get}
+use Rattle.std.proofs.Common.{Bool, true, false, ◌≡◌, ◌<◌, ◌≤◌, ℕ, zero, suc, ◌+◌, List, [], ◌∷◌, ◌++◌, length, map, set, get_or, take, replicate, Option, Some, None, refl, sym, ap, ◌∙◌, subst, arith}
+use Rattle.std.specs.Prelude.{nat_lt, ◌&&◌, if◌then◌else◌}
 use Rattle.std.specs.List.{list_all}
 use Rattle.std.specs.Option.{option_map, option_map_or}
 use Rattle.std.proofs.lemmas.List.{take_more}
@@ -17,8 +17,8 @@ use Rattle.code_walk.specs.declared.shapes.Shape.{Shape}
 use Rattle.code_walk.specs.declared.walk.Slot.{Slot}
 use Rattle.code_walk.specs.Walk as walk
 use Rattle.code_walk.specs.Walk.{Space, Given, given, slot, bare, slot_at, seen_slot, gives_at, noted_in, noted, note, note_all, look, start}
-use Rattle.code_walk.specs.Bodies.{same_shape, falls_to, lands_in, space}
-use Rattle.code_walk.specs.Nests.{nest, Extends}
+use Rattle.code_walk.specs.Bodies.{falls_to, lands_in, space}
+use Rattle.code_walk.specs.Nests.{Extends}
 use Rattle.code_walk.specs.ShapeViews.{hand_of, shape_of, fits}
 use Rattle.code_walk.specs.Slots.{slot_of, slot_fits, tested, Notes, Steps}
 

@@ -1,11 +1,11 @@
 -- A spelling read from its end.
-use Rattle.std.proofs.Common.{Bool, true, false, ◌≡◌, ◌≢◌, ◌<◌, ◌≤◌, ◌⊎◌, inl, inr, ℕ, zero, suc, ◌+◌, ◌-◌, List, [], ◌∷◌, ◌++◌, length, take, drop, get_or, Option, Some, None, refl, sym, ap, ◌∙◌, subst, arith, length-drop}
+use Rattle.std.proofs.Common.{Bool, true, false, ◌≡◌, ◌<◌, ℕ, zero, suc, ◌+◌, ◌-◌, List, [], ◌∷◌, ◌++◌, length, take, drop, get_or, Option, Some, None, refl, sym, ap, ◌∙◌, arith}
 use Rattle.std.specs.Prelude.{nat_eq, if◌then◌else◌}
 use Rattle.std.proofs.lemmas.Bool.{eqb-true, ne_eqb, eq-eqb}
 use Rattle.std.proofs.lemmas.List.{take-append-drop, drop_more}
 use Rattle.tx_code.specs.Signatures as spelling
 use Rattle.tx_code.specs.Signatures.{Ending, Whole, deeper, longer, is_empty, ending, commas, ends_in}
-use Rattle.code_walk.specs.Spellings.{inside_from, less_one, depth_with, depth_behind, comma_at, is_open}
+use Rattle.code_walk.specs.Spellings.{inside_from, depth_with, depth_behind, comma_at, is_open}
 
 -- ---- one more byte in front
 

@@ -1,5 +1,5 @@
 -- A body as it is walked: what an index gives on, by its instruction and by the rows that cover it.
-use Rattle.std.specs.Prelude.{Bool, true, false, ◌≡◌, ◌<◌, ℕ, List, [], ◌∷◌, ◌++◌, length, Option, Some, None, ◌&&◌, nat_eq, if◌then◌else◌, slice_get}
+use Rattle.std.specs.Prelude.{Bool, true, false, ℕ, List, [], ◌∷◌, ◌++◌, length, Option, Some, None, ◌&&◌, nat_eq, if◌then◌else◌, slice_get}
 use Rattle.tx_events.specs.Thread.{Open, Atomic, Sync, same_kind}
 use Rattle.tx_code.specs.declared.instr.Instr.{Instr}
 use Rattle.tx_code.specs.declared.body.Row.{Row}

@@ -1,5 +1,5 @@
 -- A table of nests of open blocks: nest 0 is empty, and each link makes one more of an earlier one.
-use Rattle.std.specs.Prelude.{Bool, Some, ◌≡◌, ◌<◌, ◌≤◌, ℕ, ◌+◌, List, [], ◌∷◌, ◌++◌, length, not, slice_get, slice_index_or}
+use Rattle.std.specs.Prelude.{Some, ◌≡◌, ◌<◌, ◌≤◌, ℕ, ◌+◌, List, [], ◌∷◌, ◌++◌, length, not, slice_get, slice_index_or}
 use Rattle.tx_events.specs.Thread.{Open, Atomic, Sync, no_atomic}
 use Rattle.code_walk.specs.declared.nests.Block.{Block}
 use Rattle.code_walk.specs.declared.nests.Block.TheVariants.{Atomic as AtomicBlock, Sync as SyncBlock}

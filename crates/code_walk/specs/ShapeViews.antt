@@ -1,8 +1,6 @@
 -- Shapes as the code has them, with the nest as a number, and what an instruction makes of one, by its class.
-use Rattle.std.specs.Prelude.{Bool, true, false, ◌≡◌, ◌<◌, ℕ, zero, suc, List, ◌∷◌, Option, Some, None, ◌&&◌, nat_lt, nat_le, nat_eq, length, slice_get, map}
-use Rattle.std.specs.List.{list_all}
+use Rattle.std.specs.Prelude.{Bool, true, ◌≡◌, ℕ, suc, List, ◌∷◌, Option, Some, ◌&&◌, nat_lt, nat_le, nat_eq, length, slice_get}
 use Rattle.std.specs.Option.{option_map, option_map_or}
-use Rattle.tx_events.specs.declared.BlockKind.{BlockKind}
 use Rattle.tx_events.specs.Thread.{Open, Sync, in_atomic, in_sync}
 use Rattle.tx_code.specs.declared.instr.Instr.{Instr}
 use Rattle.tx_code.specs.declared.instr.Instr.TheVariants.{Push, Dup, Pop, Swap, FrameAddr, GlobalAddr, FuncAddr, ClassAddr, Load, Store, TLoad, TStore, VLoad, VStore, Bin, Neg, Conv, Jump, JumpZero, Call, TCall, CallIndirect, TCallIndirect, Slot, Ret, Begin, End, BeginSync, EndSync, Out, Inp, Spawn, Join, Abort, NewException, PutException, Throw, Rethrow, GetException, EndHandler, Resume, Over}

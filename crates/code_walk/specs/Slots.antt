@@ -1,5 +1,5 @@
 -- The walk's slots as the code has them, and the body that is walked.
-use Rattle.std.specs.Prelude.{Bool, true, ◌≡◌, ℕ, ◌+◌, List, [], ◌∷◌, length, map, Option, Some}
+use Rattle.std.specs.Prelude.{Bool, true, ◌≡◌, ℕ, List, [], ◌∷◌, length, map}
 use Rattle.std.specs.List.{list_all}
 use Rattle.std.specs.Option.{option_map, option_map_or}
 use Rattle.tx_events.specs.Thread.{Open}

@@ -1,4 +1,4 @@
-use Rattle.std.proofs.Common.{◌≡◌, Some, ap, ◌∙◌, length, arith}
+use Rattle.std.proofs.Common.{◌≡◌, ap, length, arith}
 use Rattle.std.specs.Option.{option_map}
 use Rattle.tx_code.specs.Objects.{body_view}
 use Rattle.tx_code.specs.Images.{image_func_view}

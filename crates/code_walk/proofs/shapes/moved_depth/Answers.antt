@@ -1,5 +1,5 @@
 use Rattle.std.proofs.Common.{◌≡◌, ◌+◌, Some, sym, ap, ◌∙◌, arith}
-use Rattle.tx_code.specs.Shapes.{less, grown}
+use Rattle.tx_code.specs.Shapes.{grown}
 use Rattle.code_walk.proofs.Depths.{less_some, more_is}
 use Rattle.code_walk.proofs.shapes.moved_depth.Goals as goal
 

@@ -1,4 +1,4 @@
-use Rattle.std.proofs.Common.{◌≡◌, Some, None, sym, ap, ◌∙◌, subst, refl, map, arith}
+use Rattle.std.proofs.Common.{◌≡◌, Some, None, ap, ◌∙◌, subst, refl, map, arith}
 use Rattle.std.specs.Prelude.{slice_get}
 use Rattle.code_walk.specs.Walk.{note_all}
 use Rattle.code_walk.specs.Bodies.{given_by}

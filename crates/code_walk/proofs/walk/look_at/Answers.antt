@@ -1,4 +1,4 @@
-use Rattle.std.proofs.Common.{◌≡◌, ◌<◌, length, sym, arith}
+use Rattle.std.proofs.Common.{◌<◌, length, sym, arith}
 use Rattle.code_walk.specs.Slots.{table_in, signature_in, view_in}
 use Rattle.code_walk.proofs.SlotNotes.{mark_fit, looked_none, looked_some}
 use Rattle.code_walk.proofs.walk.look_at.Goals as goal

@@ -1,4 +1,4 @@
-use Rattle.std.proofs.Common.{◌<◌, length, subst, sym, arith}
+use Rattle.std.proofs.Common.{◌<◌, length, arith}
 use Rattle.code_walk.specs.ShapeViews.{shape_of}
 use Rattle.code_walk.proofs.SlotNotes.{row_noted}
 use Rattle.code_walk.proofs.walk.note_rows.Goals as goal

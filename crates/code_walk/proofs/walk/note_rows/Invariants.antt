@@ -1,4 +1,4 @@
-use Rattle.std.proofs.Common.{◌≡◌, ◌-◌, drop, take, true}
+use Rattle.std.proofs.Common.{take}
 use Rattle.code_walk.specs.Bodies.{lands_in}
 use Rattle.code_walk.specs.ShapeViews.{shape_of}
 use Rattle.code_walk.specs.Slots.{Notes}

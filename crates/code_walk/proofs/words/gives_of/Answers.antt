@@ -1,6 +1,6 @@
-use Rattle.std.proofs.Common.{◌≡◌, ap, ◌∙◌}
+use Rattle.std.proofs.Common.{ap, ◌∙◌}
 use Rattle.std.specs.Option.{option_map_or}
-use Rattle.tx_code.specs.Signatures.{gives_of, words_taken, words_returned, function_ending, ending}
+use Rattle.tx_code.specs.Signatures.{gives_of, words_returned, function_ending, ending}
 use Rattle.code_walk.proofs.words.gives_of.Goals as goal
 
 pub returns : goal.returns

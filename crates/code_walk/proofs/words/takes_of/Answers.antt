@@ -1,6 +1,6 @@
-use Rattle.std.proofs.Common.{◌≡◌, ap, ◌∙◌}
+use Rattle.std.proofs.Common.{ap, ◌∙◌}
 use Rattle.std.specs.Option.{option_map_or}
-use Rattle.tx_code.specs.Signatures.{takes_of, words_taken, words_returned, function_ending, ending}
+use Rattle.tx_code.specs.Signatures.{takes_of, words_taken, function_ending, ending}
 use Rattle.code_walk.proofs.words.takes_of.Goals as goal
 
 pub returns : goal.returns
