@@ -5,13 +5,14 @@ ghost use Rattle.cpp_types.specs.Typ.{typ_of};
 ghost use Rattle.cpp_types.specs.Class.{classes_of};
 ghost use Rattle.cpp_types.specs.Conversion.{referred};
 ghost use Rattle.cpp_tree.specs.Arena.{trees_of, tree_at};
-ghost use Rattle.cpp_tree.specs.Typing.{qualified, is_class_typ, is_class_prvalue as is_class_prvalue_of};
+ghost use Rattle.cpp_tree.specs.Typing.{form_in, qualified, is_class_typ, is_class_prvalue as is_class_prvalue_of};
 ghost use Rattle.elab_ctx.specs.Ctx.{ctx_of, traits_of};
-ghost use Rattle.elab_rules.specs.Objects.{element_of, traits_at as traits_at_of};
+ghost use Rattle.elab_rules.specs.Objects.{element_of, element_form, traits_at as traits_at_of};
 ghost use Rattle.elab_rules.specs.Initialising.{class_number as class_number_of, is_same_or_base as is_same_or_base_of, is_prvalue_of_class as is_prvalue_of_class_of};
 
 use cpp_tree::{TNode, TNodeId};
 use cpp_types::{Cat, Shape, Ty, copy, steps_to_base};
+use elab_conv::types::unqualified_type;
 use elab_ctx::{Env, Special, Traits, node_at, traits_of_class};
 use std::alloc::{AllocError, Global};
 
@@ -120,10 +121,35 @@ pub fn qualified_type(
 }
 
 /// The type of the elements of an array, whatever its bounds; another type as it is.
+#[cycle(element)]
 pub fn element_type(alloc: Global, ty: &Ty) -> Result<Ty, AllocError>
     ensures { IfOk result (λ t. typ_of t ≡ element_of (typ_of ty.now)) }
 {
-    Err(AllocError)
+    let element = bare_element(alloc, ty)?;
+    qualified_type(alloc, ty.is_const, ty.is_volatile, &element)
+}
+
+// The same without the type's own qualifiers.
+#[cycle(element)]
+fn bare_element(alloc: Global, ty: &Ty) -> Result<Ty, AllocError>
+    ensures { IfOk result (λ t. typ_of t ≡ element_form (form_in (typ_of ty.now))) }
+{
+    match &ty.shape {
+        Shape::Array(element, _) => {
+            let found = element_type(alloc, element)?;
+            Ok(found)
+        }
+        Shape::Void
+        | Shape::Int(_)
+        | Shape::Enum { .. }
+        | Shape::Null
+        | Shape::Ptr(_)
+        | Shape::Ref(_)
+        | Shape::Func(_)
+        | Shape::Class(_)
+        | Shape::Closure(_)
+        | Shape::TxEx(_) => unqualified_type(alloc, ty),
+    }
 }
 
 /// What holds of a class; of a number that no class has, nothing.
