@@ -1,8 +1,7 @@
 -- A run of an image is a run of the thread of its main.
-use Rattle.std.proofs.Common.{ℕ, ◌≡◌, ◌≤◌, ◌%◌, true, inl, refl, ap, ◌∙◌, subst, List, Option}
+use Rattle.std.proofs.Common.{ℕ, ◌≡◌, ◌≤◌, ◌%◌, true, inl, refl, subst, List}
 use Rattle.std.specs.Prelude.{nat_eq, nat_le}
 use Rattle.std.specs.List.{list_all}
-use Rattle.std.specs.Option.{option_map}
 use Rattle.std.proofs.lemmas.Bool.{eqb-true, leb-true}
 use Rattle.choosers.specs.declared.Clash.{Clash}
 use Rattle.choosers.specs.declared.Choice.{Choice}

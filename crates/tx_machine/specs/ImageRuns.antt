@@ -1,5 +1,5 @@
 -- Runs of a linked program.
-use Rattle.std.specs.Prelude.{ℕ, ◌≡◌, min, List, ⊤}
+use Rattle.std.specs.Prelude.{ℕ, min, List, ⊤}
 use Rattle.std.specs.Option.{option_map}
 use Rattle.choosers.specs.declared.Clash.{Clash}
 use Rattle.choosers.specs.declared.Choice.{Choice}

@@ -1,6 +1,5 @@
-use Rattle.std.proofs.Common.{rules, refl, inl, ◌≡◌, [], subst}
+use Rattle.std.proofs.Common.{refl, inl, [], subst}
 use Rattle.std.proofs.lemmas.Result.{IfOk-weaker}
-use Rattle.tx_code.specs.Views.{image_view}
 use Rattle.tx_runtime.proofs.ThreadTables.{on_err}
 use Rattle.vm_thread.specs.Threads.{running}
 use Rattle.tx_machine.specs.Finished.{outcome_of}

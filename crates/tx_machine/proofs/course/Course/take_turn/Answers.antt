@@ -1,4 +1,4 @@
-use Rattle.std.proofs.Common.{rules, refl, ap, subst, ◌≡◌, ◌≤◌, ◌∙◌, cond, length}
+use Rattle.std.proofs.Common.{rules, refl, ap, ◌≡◌, ◌∙◌, cond, length}
 use Rattle.std.specs.Prelude.{option_copied}
 use Rattle.std.proofs.lemmas.Bool.{eq-eqb}
 use Rattle.tx_runtime.specs.Runtime.{machine_of, layout_at, limit_of, inside_of}
