@@ -1,0 +1,52 @@
+// Compares what the definitions give with the data. Usage: node compare.js DEFINITIONS.js TERMS
+"use strict";
+
+const { readFileSync } = require("fs");
+const { resolve } = require("path");
+const { cases } = require("./data.js");
+
+const [definitions, terms] = process.argv.slice(2);
+const { events, verdict } = require("./evaluate.js")(require(resolve(definitions)));
+
+// The name of each source, in refusal lines.
+const PATH = "a.cc";
+
+// What the lexer or the parser answers, which are no part of these definitions.
+const is_passed_over = (answer) => /: (Lex|Syntax|Limit Nesting)$/.test(answer);
+
+// Events don't tell the place in the source at which a trap comes.
+const without_place = (line) => line.replace(/^(end trap \w+) .*/, "$1");
+
+function given({ kind, text }, unit) {
+    try {
+        return kind === "runs" ? events(unit, PATH, text) : [verdict(unit, PATH, text)];
+    } catch (error) {
+        return [String(error.stack)];
+    }
+}
+
+// The first line that differs, told on the output; whether there was none.
+function agrees({ name, wanted }, lines) {
+    const count = Math.max(wanted.length, lines.length);
+    for (let i = 0; i < count; i++) {
+        if (without_place(wanted[i] ?? "") !== (lines[i] ?? "")) {
+            console.log(`${name}, line ${i + 1}:\n  wanted ${wanted[i] ?? "nothing"}\n  given  ${lines[i] ?? "nothing"}`);
+            return false;
+        }
+    }
+    return true;
+}
+
+const units = readFileSync(terms, "utf8").trimEnd().split("\n").map((line) => JSON.parse(line));
+if (units.length !== cases.length) throw new Error(`${units.length} sources were read, and there are ${cases.length}`);
+const counts = { runs: { passed: 0, failed: 0, over: 0 }, refusals: { passed: 0, failed: 0, over: 0 } };
+cases.forEach((one, i) => {
+    const count = counts[one.kind];
+    if (is_passed_over(one.wanted[0])) count.over++;
+    else if (agrees(one, given(one, units[i]))) count.passed++;
+    else count.failed++;
+});
+for (const [kind, { passed, failed, over }] of Object.entries(counts)) {
+    console.log(`${kind}: ${passed} passed, ${failed} failed${over ? ` (${over} texts are left to the lexer and the parser)` : ""}`);
+}
+process.exitCode = counts.runs.failed + counts.refusals.failed > 0 ? 1 : 0;
