@@ -1,6 +1,7 @@
 //! Texts and their tokens, by the tables of C++14 clause 2.
 
 use cpp_lex::*;
+use std::alloc::Global;
 use std::process::Abort;
 use tx_ints::IntKind;
 
