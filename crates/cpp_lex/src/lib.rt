@@ -19,6 +19,8 @@ mod piece;
 mod puncts;
 mod quoted;
 mod skipped;
+#[cfg(test)]
+mod tests;
 mod words;
 
 /// The greatest length of a text, in bytes.

@@ -4,6 +4,8 @@
 pub mod calls;
 pub mod choice;
 pub mod laws;
+#[cfg(test)]
+mod tests;
 
 pub use calls::{Arg, Cand, NoBest};
 pub use choice::choose;

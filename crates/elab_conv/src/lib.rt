@@ -2,6 +2,8 @@
 #![tactic(auto)]
 
 pub mod conversions;
+#[cfg(test)]
+mod tests;
 pub mod types;
 pub mod values;
 
