@@ -160,8 +160,8 @@ captured_pieces c w (p ∷ ps) (x ∷ xs) = and_then (captured c w x) (λ (m : M
     Ok (record { trees = more (node (Piece p.offset) p.typ Prvalue x.at (more m.tree (destroys c x.at p.typ))) r.trees; work = r.work })))
 captured_pieces c w ps xs = Ok (record { trees = none; work = w })
 
-abbrev pub closure_object : Ctx → Work → At → Result Made ElabFault
-closure_object c w at = and_then (expect at OutOfProfile (closure_at at c.closures)) (λ (x : Closure). and_then (captured_pieces c w (parts_of c.classes x.class) x.captures) (λ (m : MadeAll).
+abbrev pub closure_object : Ctx → List Closure → Work → At → Result Made ElabFault
+closure_object c l w at = and_then (expect at OutOfProfile (closure_at at l)) (λ (x : Closure). and_then (captured_pieces c w (parts_of c.classes x.class) x.captures) (λ (m : MadeAll).
     Ok (record { tree = node Pieces (plain (closure x.class)) Prvalue at m.trees; work = m.work })))
 
 -- Array bounds
@@ -172,77 +172,100 @@ bound_kind at x = expect at BadOperand x
 abbrev pub bounded : Ctx → Work → At → Typ → Operand → Result Typ ElabFault
 bounded c w at t o = and_then (bound_kind o.at (arithmetic (form_in (typ_in (value o))))) (λ (kind : IntKind). and_then (expect o.at NotConstant (constant w.globals (value o))) (λ n. array_of c at o.at t kind n))
 
--- Everything that holds expressions
+-- Everything that holds expressions. The lambdas that may stand in a form are given beside the context: there are none in an operand that is not evaluated (C++14 5.1.2 p2).
 
 abbrev mutual
-  pub expression_of : List Lexeme → Ctx → Work → syntax.Tree → Result Typed ElabFault
-  expression_of s c w (syntax.node k.ParenthesizedExpression p token (syntax.more e syntax.none)) = and_then (expression_of s c w e) (λ (x : Typed). Ok (record x { operand = record { tree = x.operand.tree; at = at_of p; zero = x.operand.zero } }))
-  expression_of s c w (syntax.node k.FunctionCall p token (syntax.more f es)) = and_then (expression_of s c w f) (λ (x : Typed). and_then (operands_of s c x.work es) (λ (xs : TypedAll). an_operand (at_of p) (call c xs.work (at_of p) x.operand xs.operands)))
-  expression_of s c w (syntax.node k.FunctionalCast p token (syntax.more base es)) = and_then (specified_by s c w no_specifiers base) (λ (d : Specifiers). and_then (specified_type (at_of p) d) (λ (t : Typ). and_then (operands_of s c w es) (λ (xs : TypedAll). an_operand (at_of p) (functional c xs.work (at_of p) t xs.operands))))
-  expression_of s c w (syntax.node k.StaticCast p token (syntax.more t (syntax.more e syntax.none))) = and_then (type_id_of s c w t) (λ (u : Typ). and_then (and_then (expression_of s c w e) (chosen_operand c)) (λ (x : Typed). an_operand (at_of p) (cast c x.work (at_of p) u x.operand)))
-  expression_of s c w (syntax.node k.CastExpression p token (syntax.more t (syntax.more e syntax.none))) = and_then (type_id_of s c w t) (λ (u : Typ). and_then (and_then (expression_of s c w e) (chosen_operand c)) (λ (x : Typed). an_operand (at_of p) (cast c x.work (at_of p) u x.operand)))
-  expression_of s c w (syntax.node k.SizeofExpression p token (syntax.more e syntax.none)) = and_then (and_then (expression_of s (record c { closures = [] }) w e) (chosen_operand c)) (λ (x : Typed). a_tree (at_of p) w (size_literal c (at_of p) x.operand.at (typ_in x.operand.tree)))
-  expression_of s c w (syntax.node k.SizeofType p token (syntax.more t syntax.none)) = and_then (type_id_of s (record c { closures = [] }) w t) (λ (u : Typ). a_tree (at_of p) w (size_literal c (at_of p) (at_of p) u))
-  expression_of s c w (syntax.node k.Lambda p token kids) = an_operand (at_of p) (closure_object c w (at_of p))
-  expression_of s c w (syntax.node k.QualifiedId p (Some n) (syntax.more (syntax.node kind q (Some t) kids) syntax.none)) = a_tree (at_of p) w (qualified_name c w (at_of p) (spelling s t) (spelling s n))
-  expression_of s c w (syntax.node kind p (Some t) syntax.none) = leaf_or_row s c w kind (at_of p) t
-  expression_of s c w (syntax.node kind p (Some t) kids) = and_then (operands_of s c w kids) (λ (xs : TypedAll). row_of s c xs.work kind (at_of p) t xs.operands)
-  expression_of s c w (syntax.node kind p None kids) = Err (Ill (at_of p) OutOfProfile)
+  pub expression_with : List Lexeme → Ctx → List Closure → Work → syntax.Tree → Result Typed ElabFault
+  expression_with s c l w (syntax.node k.ParenthesizedExpression p token (syntax.more e syntax.none)) = and_then (expression_with s c l w e) (λ (x : Typed). Ok (record x { operand = record { tree = x.operand.tree; at = at_of p; zero = x.operand.zero } }))
+  expression_with s c l w (syntax.node k.FunctionCall p token (syntax.more f es)) = and_then (expression_with s c l w f) (λ (x : Typed). and_then (operands_with s c l x.work es) (λ (xs : TypedAll). an_operand (at_of p) (call c xs.work (at_of p) x.operand xs.operands)))
+  expression_with s c l w (syntax.node k.FunctionalCast p token (syntax.more base es)) = and_then (specified_with s c l w no_specifiers base) (λ (d : Specifiers). and_then (specified_type (at_of p) d) (λ (t : Typ). and_then (operands_with s c l w es) (λ (xs : TypedAll). an_operand (at_of p) (functional c xs.work (at_of p) t xs.operands))))
+  expression_with s c l w (syntax.node k.StaticCast p token (syntax.more t (syntax.more e syntax.none))) = and_then (type_id_with s c l w t) (λ (u : Typ). and_then (and_then (expression_with s c l w e) (chosen_operand c)) (λ (x : Typed). an_operand (at_of p) (cast c x.work (at_of p) u x.operand)))
+  expression_with s c l w (syntax.node k.CastExpression p token (syntax.more t (syntax.more e syntax.none))) = and_then (type_id_with s c l w t) (λ (u : Typ). and_then (and_then (expression_with s c l w e) (chosen_operand c)) (λ (x : Typed). an_operand (at_of p) (cast c x.work (at_of p) u x.operand)))
+  expression_with s c l w (syntax.node k.SizeofExpression p token (syntax.more e syntax.none)) = and_then (and_then (expression_with s c [] w e) (chosen_operand c)) (λ (x : Typed). a_tree (at_of p) w (size_literal c (at_of p) x.operand.at (typ_in x.operand.tree)))
+  expression_with s c l w (syntax.node k.SizeofType p token (syntax.more t syntax.none)) = and_then (type_id_with s c [] w t) (λ (u : Typ). a_tree (at_of p) w (size_literal c (at_of p) (at_of p) u))
+  expression_with s c l w (syntax.node k.Lambda p token kids) = an_operand (at_of p) (closure_object c l w (at_of p))
+  expression_with s c l w (syntax.node k.QualifiedId p (Some n) (syntax.more (syntax.node kind q (Some t) kids) syntax.none)) = a_tree (at_of p) w (qualified_name c w (at_of p) (spelling s t) (spelling s n))
+  expression_with s c l w (syntax.node kind p (Some t) syntax.none) = leaf_or_row s c w kind (at_of p) t
+  expression_with s c l w (syntax.node kind p (Some t) kids) = and_then (operands_with s c l w kids) (λ (xs : TypedAll). row_of s c xs.work kind (at_of p) t xs.operands)
+  expression_with s c l w (syntax.node kind p None kids) = Err (Ill (at_of p) OutOfProfile)
 
-  pub operands_of : List Lexeme → Ctx → Work → syntax.Trees → Result TypedAll ElabFault
-  operands_of s c w syntax.none = Ok (record { operands = []; work = w })
-  operands_of s c w (syntax.more t ts) = and_then (and_then (expression_of s c w t) (chosen_operand c)) (λ (x : Typed). and_then (operands_of s c x.work ts) (λ (xs : TypedAll). Ok (record { operands = x.operand ∷ xs.operands; work = xs.work })))
+  pub operands_with : List Lexeme → Ctx → List Closure → Work → syntax.Trees → Result TypedAll ElabFault
+  operands_with s c l w syntax.none = Ok (record { operands = []; work = w })
+  operands_with s c l w (syntax.more t ts) = and_then (and_then (expression_with s c l w t) (chosen_operand c)) (λ (x : Typed). and_then (operands_with s c l x.work ts) (λ (xs : TypedAll). Ok (record { operands = x.operand ∷ xs.operands; work = xs.work })))
 
   -- one specifier of a type
-  pub specified_by : List Lexeme → Ctx → Work → Specifiers → syntax.Tree → Result Specifiers ElabFault
-  specified_by s c w d (syntax.node k.CvQualifier p (Some t) kids) = Ok (if bytes_eq (spelling s t) (codes "const") then record d { is_const = true } else record d { is_volatile = true })
-  specified_by s c w d (syntax.node k.SimpleTypeSpecifier p (Some t) kids) = Ok (record d { words = d.words ++ spelling s t ∷ [] })
-  specified_by s c w d (syntax.node k.TypeName p (Some t) kids) = and_then (expect (at_of p) UnknownName (type_named (spelling s t) c.types)) (λ (u : Typ). Ok (record d { named = Some u }))
-  specified_by s c w d (syntax.node k.TxException p token (syntax.more t syntax.none)) = and_then (type_id_of s c w t) (λ (u : Typ). and_then (check (at_of p) NotTriviallyCopyable (may_be_thrown c u)) (λ y. Ok (record d { named = Some (plain (tx_ex u)) })))
-  specified_by s c w d (syntax.node kind p token kids) = Err (Ill (at_of p) OutOfProfile)
+  pub specified_with : List Lexeme → Ctx → List Closure → Work → Specifiers → syntax.Tree → Result Specifiers ElabFault
+  specified_with s c l w d (syntax.node k.CvQualifier p (Some t) kids) = Ok (if bytes_eq (spelling s t) (codes "const") then record d { is_const = true } else record d { is_volatile = true })
+  specified_with s c l w d (syntax.node k.SimpleTypeSpecifier p (Some t) kids) = Ok (record d { words = d.words ++ spelling s t ∷ [] })
+  specified_with s c l w d (syntax.node k.TypeName p (Some t) kids) = and_then (expect (at_of p) UnknownName (type_named (spelling s t) c.types)) (λ (u : Typ). Ok (record d { named = Some u }))
+  specified_with s c l w d (syntax.node k.TxException p token (syntax.more t syntax.none)) = and_then (type_id_with s c l w t) (λ (u : Typ). and_then (check (at_of p) NotTriviallyCopyable (may_be_thrown c u)) (λ y. Ok (record d { named = Some (plain (tx_ex u)) })))
+  specified_with s c l w d (syntax.node kind p token kids) = Err (Ill (at_of p) OutOfProfile)
 
-  pub all_specified : List Lexeme → Ctx → Work → Specifiers → syntax.Trees → Result Specifiers ElabFault
-  all_specified s c w d syntax.none = Ok d
-  all_specified s c w d (syntax.more t ts) = and_then (specified_by s c w d t) (λ (x : Specifiers). all_specified s c w x ts)
+  pub all_specified_with : List Lexeme → Ctx → List Closure → Work → Specifiers → syntax.Trees → Result Specifiers ElabFault
+  all_specified_with s c l w d syntax.none = Ok d
+  all_specified_with s c l w d (syntax.more t ts) = and_then (specified_with s c l w d t) (λ (x : Specifiers). all_specified_with s c l w x ts)
 
   -- the type that a list of specifiers gives
-  pub type_of_specifiers : List Lexeme → Ctx → Work → syntax.Tree → Result Typ ElabFault
-  type_of_specifiers s c w (syntax.node kind p token kids) = and_then (all_specified s c w no_specifiers kids) (λ (d : Specifiers). specified_type (at_of p) d)
+  pub specifiers_with : List Lexeme → Ctx → List Closure → Work → syntax.Tree → Result Typ ElabFault
+  specifiers_with s c l w (syntax.node kind p token kids) = and_then (all_specified_with s c l w no_specifiers kids) (λ (d : Specifiers). specified_type (at_of p) d)
 
-  pub type_id_of : List Lexeme → Ctx → Work → syntax.Tree → Result Typ ElabFault
-  type_id_of s c w (syntax.node kind p token (syntax.more base (syntax.more d syntax.none))) = and_then (type_of_specifiers s c w base) (λ (t : Typ). and_then (declared_by s c w (at_of p) t d) (λ (r : Declared). Ok r.typ))
-  type_id_of s c w (syntax.node kind p token kids) = Err (Ill (at_of p) OutOfProfile)
+  pub type_id_with : List Lexeme → Ctx → List Closure → Work → syntax.Tree → Result Typ ElabFault
+  type_id_with s c l w (syntax.node kind p token (syntax.more base (syntax.more d syntax.none))) = and_then (specifiers_with s c l w base) (λ (t : Typ). and_then (declared_with s c l w (at_of p) t d) (λ (r : Declared). Ok r.typ))
+  type_id_with s c l w (syntax.node kind p token kids) = Err (Ill (at_of p) OutOfProfile)
 
   -- what a declarator declares of a type; the place is that of the declared name
-  pub declared_by : List Lexeme → Ctx → Work → At → Typ → syntax.Tree → Result Declared ElabFault
-  declared_by s c w at t (syntax.node k.DeclaratorId p token kids) = Ok (declared_name token None false t)
-  declared_by s c w at t (syntax.node k.DestructorId p token kids) = Ok (declared_name token None true t)
-  declared_by s c w at t (syntax.node k.QualifiedDeclaratorId p token kids) = Ok (declared_name token (owner_token kids) false t)
-  declared_by s c w at t (syntax.node k.QualifiedDestructorId p token kids) = Ok (declared_name token (owner_token kids) true t)
-  declared_by s c w at t (syntax.node k.OmittedId p token kids) = Ok (declared_name None None false t)
-  declared_by s c w at t (syntax.node k.ParenthesizedDeclarator p token (syntax.more d syntax.none)) = declared_by s c w at t d
-  declared_by s c w at t (syntax.node k.PointerDeclarator p token kids) = and_then (pointer_to at t) (λ (u : Typ). pointed_by s c w at u kids)
-  declared_by s c w at t (syntax.node k.ReferenceDeclarator p token (syntax.more d syntax.none)) = and_then (reference_to at t) (λ (u : Typ). declared_by s c w at u d)
-  declared_by s c w at t (syntax.node k.ArrayDeclarator p token (syntax.more d syntax.none)) = and_then (open_array at t) (λ (u : Typ). declared_by s c w at u d)
-  declared_by s c w at t (syntax.node k.ArrayDeclarator p token (syntax.more d (syntax.more e syntax.none))) = and_then (and_then (expression_of s c w e) (chosen_operand c)) (λ (x : Typed). and_then (bounded c w at t x.operand) (λ (u : Typ). declared_by s c w at u d))
-  declared_by s c w at t (syntax.node k.FunctionDeclarator p token (syntax.more d (syntax.more ps (syntax.more q syntax.none)))) = and_then (parameters_in s c w ps) (λ (xs : List Parameter). and_then (function_of c at t xs (is_declared_safe (qualifiers_of s q))) (λ (u : Typ).
-      and_then (declared_by s c w at u d) (λ (r : Declared). with_function at (is_name d) xs (qualifiers_of s q) r)))
-  declared_by s c w at t (syntax.node kind p token kids) = Err (Ill at OutOfProfile)
+  pub declared_with : List Lexeme → Ctx → List Closure → Work → At → Typ → syntax.Tree → Result Declared ElabFault
+  declared_with s c l w at t (syntax.node k.DeclaratorId p token kids) = Ok (declared_name token None false t)
+  declared_with s c l w at t (syntax.node k.DestructorId p token kids) = Ok (declared_name token None true t)
+  declared_with s c l w at t (syntax.node k.QualifiedDeclaratorId p token kids) = Ok (declared_name token (owner_token kids) false t)
+  declared_with s c l w at t (syntax.node k.QualifiedDestructorId p token kids) = Ok (declared_name token (owner_token kids) true t)
+  declared_with s c l w at t (syntax.node k.OmittedId p token kids) = Ok (declared_name None None false t)
+  declared_with s c l w at t (syntax.node k.ParenthesizedDeclarator p token (syntax.more d syntax.none)) = declared_with s c l w at t d
+  declared_with s c l w at t (syntax.node k.PointerDeclarator p token kids) = and_then (pointer_to at t) (λ (u : Typ). pointed_with s c l w at u kids)
+  declared_with s c l w at t (syntax.node k.ReferenceDeclarator p token (syntax.more d syntax.none)) = and_then (reference_to at t) (λ (u : Typ). declared_with s c l w at u d)
+  declared_with s c l w at t (syntax.node k.ArrayDeclarator p token (syntax.more d syntax.none)) = and_then (open_array at t) (λ (u : Typ). declared_with s c l w at u d)
+  declared_with s c l w at t (syntax.node k.ArrayDeclarator p token (syntax.more d (syntax.more e syntax.none))) = and_then (and_then (expression_with s c l w e) (chosen_operand c)) (λ (x : Typed). and_then (bounded c w at t x.operand) (λ (u : Typ). declared_with s c l w at u d))
+  declared_with s c l w at t (syntax.node k.FunctionDeclarator p token (syntax.more d (syntax.more ps (syntax.more q syntax.none)))) = and_then (parameters_in_with s c l w ps) (λ (xs : List Parameter). and_then (function_of c at t xs (is_declared_safe (qualifiers_of s q))) (λ (u : Typ).
+      and_then (declared_with s c l w at u d) (λ (r : Declared). with_function at (is_name d) xs (qualifiers_of s q) r)))
+  declared_with s c l w at t (syntax.node kind p token kids) = Err (Ill at OutOfProfile)
 
   -- behind a star: the qualifiers of the pointer, then what is declared of it
-  pub pointed_by : List Lexeme → Ctx → Work → At → Typ → syntax.Trees → Result Declared ElabFault
-  pointed_by s c w at t (syntax.more (syntax.node k.CvQualifier p (Some n) kids) ts) = pointed_by s c w at (if bytes_eq (spelling s n) (codes "const") then with_qualifiers true false t else with_qualifiers false true t) ts
-  pointed_by s c w at t (syntax.more d syntax.none) = declared_by s c w at t d
-  pointed_by s c w at t ts = Err (Ill at OutOfProfile)
+  pub pointed_with : List Lexeme → Ctx → List Closure → Work → At → Typ → syntax.Trees → Result Declared ElabFault
+  pointed_with s c l w at t (syntax.more (syntax.node k.CvQualifier p (Some n) kids) ts) = pointed_with s c l w at (if bytes_eq (spelling s n) (codes "const") then with_qualifiers true false t else with_qualifiers false true t) ts
+  pointed_with s c l w at t (syntax.more d syntax.none) = declared_with s c l w at t d
+  pointed_with s c l w at t ts = Err (Ill at OutOfProfile)
 
-  pub parameters_in : List Lexeme → Ctx → Work → syntax.Tree → Result (List Parameter) ElabFault
-  parameters_in s c w (syntax.node kind p token kids) = parameters_of s c w kids
+  pub parameters_in_with : List Lexeme → Ctx → List Closure → Work → syntax.Tree → Result (List Parameter) ElabFault
+  parameters_in_with s c l w (syntax.node kind p token kids) = parameters_with s c l w kids
 
-  pub parameters_of : List Lexeme → Ctx → Work → syntax.Trees → Result (List Parameter) ElabFault
-  parameters_of s c w syntax.none = Ok []
-  parameters_of s c w (syntax.more t ts) = and_then (parameter_of s c w t) (λ (x : Parameter). and_then (parameters_of s c w ts) (λ (xs : List Parameter). Ok (x ∷ xs)))
+  pub parameters_with : List Lexeme → Ctx → List Closure → Work → syntax.Trees → Result (List Parameter) ElabFault
+  parameters_with s c l w syntax.none = Ok []
+  parameters_with s c l w (syntax.more t ts) = and_then (parameter_with s c l w t) (λ (x : Parameter). and_then (parameters_with s c l w ts) (λ (xs : List Parameter). Ok (x ∷ xs)))
 
-  pub parameter_of : List Lexeme → Ctx → Work → syntax.Tree → Result Parameter ElabFault
-  parameter_of s c w (syntax.node kind p token (syntax.more base (syntax.more d syntax.none))) = and_then (type_of_specifiers s c w base) (λ (t : Typ). and_then (declared_by s c w (at_of p) t d) (λ (r : Declared). and_then (parameter_type c (at_of p) r.typ) (λ (u : Typ).
+  pub parameter_with : List Lexeme → Ctx → List Closure → Work → syntax.Tree → Result Parameter ElabFault
+  parameter_with s c l w (syntax.node kind p token (syntax.more base (syntax.more d syntax.none))) = and_then (specifiers_with s c l w base) (λ (t : Typ). and_then (declared_with s c l w (at_of p) t d) (λ (r : Declared). and_then (parameter_type c (at_of p) r.typ) (λ (u : Typ).
       Ok (record { name = r.name; at = at_of p; typ = u }))))
-  parameter_of s c w (syntax.node kind p token kids) = Err (Ill (at_of p) OutOfProfile)
+  parameter_with s c l w (syntax.node kind p token kids) = Err (Ill (at_of p) OutOfProfile)
+
+-- The same with the lambdas of the full-expression at hand
+
+abbrev pub expression_of : List Lexeme → Ctx → Work → syntax.Tree → Result Typed ElabFault
+expression_of s c w t = expression_with s c c.closures w t
+
+abbrev pub operands_of : List Lexeme → Ctx → Work → syntax.Trees → Result TypedAll ElabFault
+operands_of s c w ts = operands_with s c c.closures w ts
+
+abbrev pub type_of_specifiers : List Lexeme → Ctx → Work → syntax.Tree → Result Typ ElabFault
+type_of_specifiers s c w t = specifiers_with s c c.closures w t
+
+abbrev pub type_id_of : List Lexeme → Ctx → Work → syntax.Tree → Result Typ ElabFault
+type_id_of s c w t = type_id_with s c c.closures w t
+
+abbrev pub declared_by : List Lexeme → Ctx → Work → At → Typ → syntax.Tree → Result Declared ElabFault
+declared_by s c w at t d = declared_with s c c.closures w at t d
+
+abbrev pub parameters_in : List Lexeme → Ctx → Work → syntax.Tree → Result (List Parameter) ElabFault
+parameters_in s c w t = parameters_in_with s c c.closures w t
+
+abbrev pub parameter_of : List Lexeme → Ctx → Work → syntax.Tree → Result Parameter ElabFault
+parameter_of s c w t = parameter_with s c c.closures w t
