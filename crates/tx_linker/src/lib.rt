@@ -1,0 +1,7 @@
+//! The linker: the image that objects are linked to, or the first fault that they have.
+#![tactic(auto)]
+
+mod link;
+
+pub use link::link;
+pub use link_faults::LinkFault;
