@@ -1,7 +1,7 @@
 //! The linker: the image that objects are linked to, or the first fault that they have.
 #![tactic(auto)]
 
-mod link;
+mod linking;
 
-pub use link::link;
+pub use linking::link;
 pub use link_faults::LinkFault;
