@@ -118,6 +118,7 @@ position_first t n (x ∷ xs) k e = by (t x) e (position_first t (n + 1) xs k)
   where
     same : (a b : ℕ) → Some a ≡ Some b → b ≡ a
     same a b q = cc
+
     by : (b : Bool) → cond b (Some n) (position_from t (n + 1) xs) ≡ Some k → (position_from t (n + 1) xs ≡ Some k → (j : ℕ) × ((k ≡ n + 1 + j) × (slice_get xs j ≡ first_of t xs))) → (j : ℕ) × ((k ≡ n + j) × (slice_get (x ∷ xs) j ≡ cond b (Some x) (first_of t xs)))
     by true g f = (0, ((let s = same n k g in omega (arith, s)), refl))
     by false g f = let r = f g in (suc r.0, ((let s = r.1.0 in omega (arith, s)), r.1.1))
@@ -173,10 +174,10 @@ defs_come : (os : List ObjectView) (at : ℕ) (rest : List ObjectView) → ((k :
 defs_come os at [] g d m = nowhere m
 defs_come os at (o ∷ rest) g d m =
     ⊎_elim
-      (λ a. let b = among_back (func_def at o) (filter is_defined o.funcs) a in let f = filter_among is_defined o.funcs b.1.0 in
-        subst (λ e. Comes os e) b.1.1 (let s : at ≡ at + 0 = omega arith in record { at = ap (slice_get os) s ∙ g 0; func = f.0; defined = f.1 }))
-      (λ a. defs_come os (at + 1) rest (λ k. (let s : at + 1 + k ≡ at + suc k = omega arith in ap (slice_get os) s) ∙ g (suc k)) d a)
-      (among_either (map (func_def at o) (filter is_defined o.funcs)) (func_defs (at + 1) rest) m)
+    (λ a. let b = among_back (func_def at o) (filter is_defined o.funcs) a in let f = filter_among is_defined o.funcs b.1.0 in
+    subst (λ e. Comes os e) b.1.1 (let s : at ≡ at + 0 = omega arith in record { at = ap (slice_get os) s ∙ g 0; func = f.0; defined = f.1 }))
+    (λ a. defs_come os (at + 1) rest (λ k. (let s : at + 1 + k ≡ at + suc k = omega arith in ap (slice_get os) s) ∙ g (suc k)) d a)
+    (among_either (map (func_def at o) (filter is_defined o.funcs)) (func_defs (at + 1) rest) m)
 
 kept_among : (kept ds : List FuncDef) (d : FuncDef) → Among d (kept_after kept ds) → Among d kept ⊎ Among d ds
 kept_among kept [] d m = inl m
@@ -184,6 +185,7 @@ kept_among kept (x ∷ ds) d m = by (repeats kept x) (λ ks n. kept_among ks ds 
   where
     one : Among d (x ∷ []) → Among d (x ∷ ds)
     one n = ⊎_elim (λ q. subst (λ z. Among z (x ∷ ds)) (sym q) here) (λ i. nowhere i) (among_head n)
+
     by : (b : Bool) → ((ks : List FuncDef) → Among d (kept_after ks ds) → Among d ks ⊎ Among d ds) → Among d (kept_after (cond b kept (kept ++ x ∷ [])) ds) → Among d kept ⊎ Among d (x ∷ ds)
     by true f n = ⊎_elim (λ a. inl a) (λ b. inr (there b)) (f kept n)
     by false f n = ⊎_elim (λ a. ⊎_elim (λ c. inl c) (λ c. inr (one c)) (among_either kept (x ∷ []) a)) (λ b. inr (there b)) (f (kept ++ x ∷ []) n)
@@ -205,11 +207,14 @@ internal_kept kept (x ∷ ds) d i m = first m (λ ks n. internal_kept ks ds d i 
   where
     new : is_internal x ≡ true → repeats kept x ≡ false
     new e = ap (λ (b : Bool). not b && list_any (defines (func_symbol x)) kept) e
+
     later : (b : Bool) → ((ks : List FuncDef) → Among d ds → Among d (kept_after ks ds)) → Among d ds → Among d (kept_after (cond b kept (kept ++ x ∷ [])) ds)
     later true f n = f kept n
     later false f n = f (kept ++ x ∷ []) n
+
     now : is_internal x ≡ true → Among x (kept_after (kept_with kept x) ds)
     now e = subst (λ (b : Bool). Among x (kept_after (cond b kept (kept ++ x ∷ [])) ds)) (sym (new e)) (stays (kept ++ x ∷ []) ds x (among_right kept here))
+
     first : Among d (x ∷ ds) → ((ks : List FuncDef) → Among d ds → Among d (kept_after ks ds)) → Among d (kept_after (kept_with kept x) ds)
     first n f = ⊎_elim (λ q. subst (λ z. Among z (kept_after (kept_with kept x) ds)) (sym q) (now (subst (λ z. is_internal z ≡ true) q i))) (λ r. later (repeats kept x) f r) (among_head n)
 
@@ -250,6 +255,7 @@ first_kept symbol kept (d ∷ ds) = by (repeats kept d) refl (λ ks. first_kept 
             first_append (defines symbol) kept ds
             ∙ ap (λ (b : Bool). cond (list_any (defines symbol) kept) (first_of (defines symbol) kept) (cond b (Some d) (first_of (defines symbol) ds))) (sym g)
             ∙ sym (first_append (defines symbol) kept (d ∷ ds))
+
     by : (b : Bool) → repeats kept d ≡ b → ((ks : List FuncDef) → first_of (defines symbol) (kept_after ks ds) ≡ first_of (defines symbol) (ks ++ ds)) → first_of (defines symbol) (kept_after (cond b kept (kept ++ d ∷ [])) ds) ≡ first_of (defines symbol) (kept ++ d ∷ ds)
     by true e f = f kept ∙ hidden e
     by false e f = f (kept ++ d ∷ []) ∙ ap (first_of (defines symbol)) (append_assoc kept (d ∷ []) ds)
@@ -264,6 +270,7 @@ first_here symbol at o (f ∷ fs) = by (is_defined f) (defines symbol (func_def 
     pull : (b : Bool) → first_of (defines symbol) (map (func_def at o) (cond b (f ∷ filter is_defined fs) (filter is_defined fs))) ≡ cond b (cond (defines symbol (func_def at o f)) (Some (func_def at o f)) (first_of (defines symbol) (map (func_def at o) (filter is_defined fs)))) (first_of (defines symbol) (map (func_def at o) (filter is_defined fs)))
     pull true = refl
     pull false = refl
+
     by : (b t : Bool) → first_of (entry_defines symbol) (map (func_entry o) fs) ≡ option_map entry_of_def (first_of (defines symbol) (map (func_def at o) (filter is_defined fs)))
         → cond (b && t) (Some (func_entry o f)) (first_of (entry_defines symbol) (map (func_entry o) fs)) ≡ option_map entry_of_def (cond b (cond t (Some (func_def at o f)) (first_of (defines symbol) (map (func_def at o) (filter is_defined fs)))) (first_of (defines symbol) (map (func_def at o) (filter is_defined fs))))
     by true true r = refl
@@ -277,6 +284,7 @@ any_here symbol at o (f ∷ fs) = by (is_defined f) (defines symbol (func_def at
     pull : (b : Bool) → list_any (defines symbol) (map (func_def at o) (cond b (f ∷ filter is_defined fs) (filter is_defined fs))) ≡ cond b (defines symbol (func_def at o f) || list_any (defines symbol) (map (func_def at o) (filter is_defined fs))) (list_any (defines symbol) (map (func_def at o) (filter is_defined fs)))
     pull true = refl
     pull false = refl
+
     by : (b t : Bool) → list_any (entry_defines symbol) (map (func_entry o) fs) ≡ list_any (defines symbol) (map (func_def at o) (filter is_defined fs))
         → ((b && t) || list_any (entry_defines symbol) (map (func_entry o) fs)) ≡ cond b (t || list_any (defines symbol) (map (func_def at o) (filter is_defined fs))) (list_any (defines symbol) (map (func_def at o) (filter is_defined fs)))
     by true t r = ap (λ (c : Bool). t || c) r
@@ -376,14 +384,16 @@ own_stands os h l at o e f m k p =
     let symbol : d.func.symbol ≡ f.symbol = eqb-true d.func.symbol f.symbol (and_right (nat_eq d.at at && is_internal d) _ r.1.1.passes) in
     let object : d.object ≡ o = inside d.object o (sym comes.at ∙ ap (slice_get os) at-is ∙ e) in
     let func : d.func ≡ f = one_entry o.funcs (object_is h (get_among os at o e)).funcs_ascend (subst (λ (q : ObjectView). Among d.func q.funcs) object comes.func) m symbol in
-    let f-internal : nat_eq f.linkage 1 ≡ true = ap (λ (g : FuncView). nat_eq g.linkage 1) (sym func) ∙ internal in
-    (d, record {
-      number = ap (λ (q : Option ℕ). or_else q (position_from (defines (name_in o f.symbol)) 0 (kept_funcs os))) p;
-      is = is;
-      ty = ap (λ (q : ObjectView). name_in q d.func.ty) object ∙ ap (λ (g : FuncView). name_in o g.ty) func;
-      safe = λ w. ap (λ (g : FuncView). has_safe g) func ∙ sym (ap (λ (b : Bool). cond b (has_safe f) (option_map_or (λ (x : Entry). x.safe) (first_of (entry_defines (name_in o f.symbol)) (func_entries os)) false)) f-internal)
-        ∙ wanted os l.unsafe o f (entry_among f (get_among os at o e) m) w;
-    })
+    let f-internal : nat_eq f.linkage 1 ≡ true = ap (λ (g : FuncView). nat_eq g.linkage 1) (sym func) ∙ internal in (
+      d,
+      record {
+        number = ap (λ (q : Option ℕ). or_else q (position_from (defines (name_in o f.symbol)) 0 (kept_funcs os))) p;
+        is = is;
+        ty = ap (λ (q : ObjectView). name_in q d.func.ty) object ∙ ap (λ (g : FuncView). name_in o g.ty) func;
+        safe = λ w. ap (λ (g : FuncView). has_safe g) func ∙ sym (ap (λ (b : Bool). cond b (has_safe f) (option_map_or (λ (x : Entry). x.safe) (first_of (entry_defines (name_in o f.symbol)) (func_entries os)) false)) f-internal)
+            ∙ wanted os l.unsafe o f (entry_among f (get_among os at o e) m) w;
+      },
+    )
 
 any_of_first : {A : Type 0} (t : A → Bool) (xs : List A) (x : A) → first_of t xs ≡ Some x → list_any t xs ≡ true
 any_of_first t [] x e = cc
@@ -399,8 +409,10 @@ defined_somewhere os l o f m i = by (is_defined f) refl
   where
     symbol : List ℕ
     symbol = name_in o f.symbol
+
     missing : is_missing (func_entries os) symbol (func_entry o f) ≡ false
     missing = none_among (is_missing (func_entries os) symbol) m (no_missing_func os symbol l.undefined)
+
     left : (d : Bool) (j : Bool) (a : Bool) → d ≡ false → j ≡ false → ((bytes_eq symbol symbol && not d) && (j || not a)) ≡ false → a ≡ true
     left d j a e g h = again (bytes_eq symbol symbol) (equals_itself symbol) d e j g a h
       where
@@ -410,6 +422,7 @@ defined_somewhere os l o f m i = by (is_defined f) refl
         again true p false q true r a h = cc
         again true p true q j r a h = cc
         again false p d q j r a h = cc
+
     by : (b : Bool) → is_defined f ≡ b → list_any (entry_defines symbol) (func_entries os) ≡ true
     by true e = any_among (entry_defines symbol) m (and_both _ _ e (and_both _ _ (ap not i) (equals_itself symbol)))
     by false e = left (is_defined f) (nat_eq f.linkage 1) (list_any (entry_defines symbol) (func_entries os)) e i missing
@@ -428,19 +441,24 @@ seen_stands os h l at o e f m i p =
     let comes = kept_comes os d (get_among (kept_funcs os) place.0 d is) in
     let other = entry_among d.func (get_among os d.at d.object comes.at) comes.func in
     let passes : defines symbol d ≡ true = first_passes (defines symbol) (kept_funcs os) d kept in
-    let types = (or_both _ _ ((or_both _ _ (l.different.none symbol)).0)).1 in
-    (place.0, (d, record {
-      number = ap (λ (q : Option ℕ). or_else q (position_from (defines symbol) 0 (kept_funcs os))) p ∙ place.1;
-      is = is;
-      ty = ⊎_elim (λ q. ap (λ (x : Entry). x.ty) q)
-        (λ q. ⊎_elim
-          (λ g. same_bytes (name_in d.object d.func.ty) (name_in o f.ty) (three (shows symbol (entry_of_def d)) (shows symbol (func_entry o f)) (bytes_eq (name_in d.object d.func.ty) (name_in o f.ty)) passes (shown o f i) g))
-          (λ g. sym (same_bytes (name_in o f.ty) (name_in d.object d.func.ty) (three (shows symbol (func_entry o f)) (shows symbol (entry_of_def d)) (bytes_eq (name_in o f.ty) (name_in d.object d.func.ty)) (shown o f i) passes g))) q)
-        (pair_among (types_differ symbol) types other entry);
-      safe = λ w. sym (ap (λ (b : Bool). cond b (has_safe f) (option_map_or (λ (x : Entry). x.safe) (first_of (entry_defines symbol) (func_entries os)) false)) i
-          ∙ ap (λ (x : Option Entry). option_map_or (λ (y : Entry). y.safe) x false) (first_of_defs symbol 0 os ∙ ap (option_map entry_of_def) found.1))
-        ∙ wanted os l.unsafe o f entry w;
-    }))
+    let types = (or_both _ _ ((or_both _ _ (l.different.none symbol)).0)).1 in (
+      place.0,
+      (
+        d,
+        record {
+          number = ap (λ (q : Option ℕ). or_else q (position_from (defines symbol) 0 (kept_funcs os))) p ∙ place.1;
+          is = is;
+          ty = ⊎_elim (λ q. ap (λ (x : Entry). x.ty) q)
+              (λ q. ⊎_elim
+              (λ g. same_bytes (name_in d.object d.func.ty) (name_in o f.ty) (three (shows symbol (entry_of_def d)) (shows symbol (func_entry o f)) (bytes_eq (name_in d.object d.func.ty) (name_in o f.ty)) passes (shown o f i) g))
+              (λ g. sym (same_bytes (name_in o f.ty) (name_in d.object d.func.ty) (three (shows symbol (func_entry o f)) (shows symbol (entry_of_def d)) (bytes_eq (name_in o f.ty) (name_in d.object d.func.ty)) (shown o f i) passes g))) q)
+              (pair_among (types_differ symbol) types other entry);
+          safe = λ w. sym (ap (λ (b : Bool). cond b (has_safe f) (option_map_or (λ (x : Entry). x.safe) (first_of (entry_defines symbol) (func_entries os)) false)) i
+              ∙ ap (λ (x : Option Entry). option_map_or (λ (y : Entry). y.safe) x false) (first_of_defs symbol 0 os ∙ ap (option_map entry_of_def) found.1))
+              ∙ wanted os l.unsafe o f entry w;
+        },
+      ),
+    )
   where
     shown : (o : ObjectView) (f : FuncView) → nat_eq f.linkage 1 ≡ false → shows (name_in o f.symbol) (func_entry o f) ≡ true
     shown o f i = and_both _ _ (ap not i) (equals_itself (name_in o f.symbol))
@@ -450,6 +468,7 @@ stands os h l at o e f m = by (position_from (is_own at f.symbol) 0 (kept_funcs 
   where
     entry : Among (func_entry o f) (func_entries os)
     entry = entry_among f (get_among os at o e) m
+
     -- an internal entry has its own definition
     defined : nat_eq f.linkage 1 ≡ true → is_defined f ≡ true
     defined i = two (is_defined f) refl
@@ -458,12 +477,14 @@ stands os h l at o e f m = by (position_from (is_own at f.symbol) 0 (kept_funcs 
         shut true p true q a h = cc
         shut true p false q a h = cc
         shut false p j q a h = cc
+
         two : (d : Bool) → is_defined f ≡ d → d ≡ true
         two true g = refl
         two false g =
             let n = none_among (is_missing (func_entries os) (name_in o f.symbol)) entry (no_missing_func os (name_in o f.symbol) l.undefined) in
             shut (bytes_eq (name_in o f.symbol) (name_in o f.symbol)) (equals_itself (name_in o f.symbol)) (nat_eq f.linkage 1) i (list_any (entry_defines (name_in o f.symbol)) (func_entries os))
             (ap (λ (b : Bool). (bytes_eq (name_in o f.symbol) (name_in o f.symbol) && not b) && (nat_eq f.linkage 1 || not (list_any (entry_defines (name_in o f.symbol)) (func_entries os)))) (sym g) ∙ n)
+
     own : nat_eq f.linkage 1 ≡ true → list_any (is_own at f.symbol) (kept_funcs os) ≡ true
     own i =
         let s : 0 + at ≡ at = omega arith in
@@ -472,6 +493,7 @@ stands os h l at o e f m = by (position_from (is_own at f.symbol) 0 (kept_funcs 
       where
         same_number : (n : ℕ) → nat_eq n n ≡ true
         same_number n = eq-eqb n n refl
+
     by : (q : Option ℕ) → position_from (is_own at f.symbol) 0 (kept_funcs os) ≡ q → (k : ℕ) × ((d : FuncDef) × Stands os at o f k d)
     by (Some k) p = (k, own_stands os h l at o e f m k p)
     by None p = two (nat_eq f.linkage 1) refl

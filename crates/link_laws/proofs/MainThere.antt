@@ -48,6 +48,7 @@ fresh kept d e h = both (not (is_internal d)) (list_any (defines (func_symbol d)
     both : (a b : Bool) → b ≡ false → (a && b) ≡ false
     both true b g = g
     both false b g = refl
+
     none : (ks : List FuncDef) → list_any (λ k. clashes k d) ks ≡ false → list_any (defines (func_symbol d)) ks ≡ false
     none [] g = refl
     none (k ∷ ks) g = one (defines (func_symbol d) k) (list_any (λ k. clashes k d) ks) (nat_eq d.func.linkage 0) e g (none ks)
@@ -64,6 +65,7 @@ main_kept kept (d ∷ ds) (next c a b) h = by (is_main_def d) refl h (main_kept 
     ahead : (r : Bool) → list_any is_main_def ds ≡ true → (list_any is_main_def ds ≡ true → list_any is_main_def (kept_after kept ds) ≡ true) → (list_any is_main_def ds ≡ true → list_any is_main_def (kept_after (kept ++ d ∷ []) ds) ≡ true) → list_any is_main_def (kept_after (cond r kept (kept ++ d ∷ [])) ds) ≡ true
     ahead true g p q = p g
     ahead false g p q = q g
+
     by : (m : Bool) → is_main_def d ≡ m → (m || list_any is_main_def ds) ≡ true → (list_any is_main_def ds ≡ true → list_any is_main_def (kept_after kept ds) ≡ true) → (list_any is_main_def ds ≡ true → list_any is_main_def (kept_after (kept ++ d ∷ []) ds) ≡ true) → list_any is_main_def (kept_after (kept_with kept d) ds) ≡ true
     by true e g p q =
         let f : repeats kept d ≡ false = fresh kept d (and_left _ _ (and_left _ _ e)) c in
@@ -130,6 +132,7 @@ no_clash symbol a b da db s h = by (clashes a b) refl
       where
         not_one : (l : ℕ) → nat_eq l 0 ≡ true → not (nat_eq l 1) ≡ true
         not_one l g = let z = eqb-true l 0 g in rw z refl
+
         or_right_true : (x y : Bool) → y ≡ true → (x || y) ≡ true
         or_right_true true y g = refl
         or_right_true false y g = g
@@ -205,6 +208,7 @@ main_here at o (f ∷ fs) = by (is_defined f) (nat_eq f.linkage 0) (bytes_eq (na
     pull : (b : Bool) → list_any is_main_def (map (func_def at o) (cond b (f ∷ filter is_defined fs) (filter is_defined fs))) ≡ cond b (is_main_def (func_def at o f) || list_any is_main_def (map (func_def at o) (filter is_defined fs))) (list_any is_main_def (map (func_def at o) (filter is_defined fs)))
     pull true = refl
     pull false = refl
+
     by : (d e s t : Bool) → list_any is_main (map (func_entry o) fs) ≡ list_any is_main_def (map (func_def at o) (filter is_defined fs))
         → ((d && e && (s && t)) || list_any is_main (map (func_entry o) fs)) ≡ cond d ((e && s && t) || list_any is_main_def (map (func_def at o) (filter is_defined fs))) (list_any is_main_def (map (func_def at o) (filter is_defined fs)))
     by true true true t h = ap (λ b. t || b) h

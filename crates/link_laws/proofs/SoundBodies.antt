@@ -150,21 +150,21 @@ sound_body x y r t g safe b same types row_types h =
       rows_names = all_mapped (renamed_row r) (row_names_right y) (λ q. list_all t (named_by_row q)) b.rows (λ i q e l. row_names x y r t same q l) row_types;
       one_shape = λ i s u p q. h.one_shape i s u (back x y r t b same named g.gives (entry g) p) (back x y r t b same named g.gives (entry g) q);
       operands = λ i s a p e. let w = get_back (renamed r) b.code i a e in let k = alike_at x y r t b same named i w.0 w.1.0 in
-        ap is_some (ap (λ (c : Instr). outgoing y g.gives c s) (sym w.1.1) ∙ k.out g.gives s) ∙ h.operands i s w.0 (back x y r t b same named g.gives (entry g) p) w.1.0;
+          ap is_some (ap (λ (c : Instr). outgoing y g.gives c s) (sym w.1.1) ∙ k.out g.gives s) ∙ h.operands i s w.0 (back x y r t b same named g.gives (entry g) p) w.1.0;
       words = λ i s a p e. let w = get_back (renamed r) b.code i a e in let k = alike_at x y r t b same named i w.0 w.1.0 in
-        ap (passes y) (sym w.1.1) ∙ k.words ∙ h.words i s w.0 (back x y r t b same named g.gives (entry g) p) w.1.0;
+          ap (passes y) (sym w.1.1) ∙ k.words ∙ h.words i s w.0 (back x y r t b same named g.gives (entry g) p) w.1.0;
       exceptions = λ i s a p e. let w = get_back (renamed r) b.code i a e in let k = alike_at x y r t b same named i w.0 w.1.0 in
-        ap (λ (c : Instr). exception_right c s) (sym w.1.1) ∙ k.exceptions s ∙ h.exceptions i s w.0 (back x y r t b same named g.gives (entry g) p) w.1.0;
+          ap (λ (c : Instr). exception_right c s) (sym w.1.1) ∙ k.exceptions s ∙ h.exceptions i s w.0 (back x y r t b same named g.gives (entry g) p) w.1.0;
       inside = λ i s a p e f. let w = get_back (renamed r) b.code i a e in let k = alike_at x y r t b same named i w.0 w.1.0 in
-        ap (inside_right y) (sym w.1.1) ∙ k.inside (h.inside i s w.0 (back x y r t b same named g.gives (entry g) p) w.1.0 f);
+          ap (inside_right y) (sym w.1.1) ∙ k.inside (h.inside i s w.0 (back x y r t b same named g.gives (entry g) p) w.1.0 f);
       outside = λ i s a p e f. let w = get_back (renamed r) b.code i a e in let k = alike_at x y r t b same named i w.0 w.1.0 in
-        ap outside_right (sym w.1.1) ∙ k.outside ∙ h.outside i s w.0 (back x y r t b same named g.gives (entry g) p) w.1.0 f;
+          ap outside_right (sym w.1.1) ∙ k.outside ∙ h.outside i s w.0 (back x y r t b same named g.gives (entry g) p) w.1.0 f;
       closes = λ i s a p e. let w = get_back (renamed r) b.code i a e in let k = alike_at x y r t b same named i w.0 w.1.0 in
-        ap (λ (c : Instr). closes_right c s) (sym w.1.1) ∙ k.closes s ∙ h.closes i s w.0 (back x y r t b same named g.gives (entry g) p) w.1.0;
+          ap (λ (c : Instr). closes_right c s) (sym w.1.1) ∙ k.closes s ∙ h.closes i s w.0 (back x y r t b same named g.gives (entry g) p) w.1.0;
       edges = λ i s q p m c. let w = among_back (renamed_row r) b.rows m in
-        ap (λ (v : Row). edge_right v.what s.opens) (sym w.1.1) ∙ h.edges i s w.0 (back x y r t b same named g.gives (entry g) p) w.1.0 (ap (λ (v : Row). covers v i) w.1.1 ∙ c);
+          ap (λ (v : Row). edge_right v.what s.opens) (sym w.1.1) ∙ h.edges i s w.0 (back x y r t b same named g.gives (entry g) p) w.1.0 (ap (λ (v : Row). covers v i) w.1.1 ∙ c);
       covered = λ i s p. ap (λ (v : Bool). is_empty s.opens || v) (any_mapped (renamed_row r) (λ (v : Row). is_edge v && covers v i) (λ (v : Row). is_edge v && covers v i) b.rows (λ v. refl)) ∙ h.covered i s (back x y r t b same named g.gives (entry g) p);
       depths = λ i s a q p e m c. let w = get_back (renamed r) b.code i a e in let k = alike_at x y r t b same named i w.0 w.1.0 in let z = among_back (renamed_row r) b.rows m in
-        ap (λ (v : Row). nat_le v.depth (left_at a s.depth)) (sym z.1.1) ∙ ap (λ (d : ℕ). nat_le z.0.depth d) (ap (λ (c : Instr). left_at c s.depth) (sym w.1.1) ∙ k.left s.depth)
-        ∙ h.depths i s w.0 z.0 (back x y r t b same named g.gives (entry g) p) w.1.0 z.1.0 (ap (λ (v : Row). covers v i) z.1.1 ∙ c);
+          ap (λ (v : Row). nat_le v.depth (left_at a s.depth)) (sym z.1.1) ∙ ap (λ (d : ℕ). nat_le z.0.depth d) (ap (λ (c : Instr). left_at c s.depth) (sym w.1.1) ∙ k.left s.depth)
+          ∙ h.depths i s w.0 z.0 (back x y r t b same named g.gives (entry g) p) w.1.0 z.1.0 (ap (λ (v : Row). covers v i) z.1.1 ∙ c);
     }

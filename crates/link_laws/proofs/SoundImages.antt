@@ -62,15 +62,23 @@ func_of os i h l g at o e s p = by (entry_of o s) refl p
         let n : f.symbol ≡ s = eqb-true f.symbol s m.1 in
         let w = stands os h l at o e f m.0 in
         let d = w.1.0 in
-        let v = w.1.1 in
-        (w.0, (f, (d, record {
-          entry = r;
-          number = ap (λ (x : ℕ). func_number os at o x) (sym n) ∙ v.number;
-          kept = v.is;
-          image = ap (λ fs. slice_get fs w.0) g.funcs ∙ get_map (image_func os i.types) (kept_funcs os) w.0 ∙ ap (option_map (image_func os i.types)) v.is;
-          ty = v.ty;
-          safe = v.safe;
-        })))
+        let v = w.1.1 in (
+          w.0,
+          (
+            f,
+            (
+              d,
+              record {
+                entry = r;
+                number = ap (λ (x : ℕ). func_number os at o x) (sym n) ∙ v.number;
+                kept = v.is;
+                image = ap (λ fs. slice_get fs w.0) g.funcs ∙ get_map (image_func os i.types) (kept_funcs os) w.0 ∙ ap (option_map (image_func os i.types)) v.is;
+                ty = v.ty;
+                safe = v.safe;
+              },
+            ),
+          ),
+        )
 
 there_is : {A : Type 0} (xs : List A) (k : ℕ) (x : A) → slice_get xs k ≡ Some x → nat_lt k (length xs) ≡ true
 there_is {A} xs k x e = lt-ltb k (length xs) (by xs k e)
@@ -86,14 +94,14 @@ globals_come : (os : List ObjectView) (at : ℕ) (rest : List ObjectView) → ((
 globals_come os at [] f d m = nowhere m
 globals_come os at (o ∷ rest) f d m =
     ⊎_elim
-      (λ a.
-        let b = among_back (global_def at o) (placed_globals o) a in
-        let c : Among b.0 (filter is_defined_global o.globals) = ⊎_elim (λ n. (filter_among (λ g. not (is_string o g)) (filter is_defined_global o.globals) n).0) (λ n. (filter_among (is_string o) (filter is_defined_global o.globals) n).0)
-              (among_either (filter (λ g. not (is_string o g)) (filter is_defined_global o.globals)) (filter (is_string o) (filter is_defined_global o.globals)) b.1.0) in
-        let e = filter_among is_defined_global o.globals c in
-        subst (λ (x : GlobalDef). Among x.object os × (Among x.global x.object.globals × (is_defined_global x.global ≡ true))) b.1.1 (f o here, (e.0, e.1)))
-      (λ a. globals_come os (at + 1) rest (λ p n. f p (there n)) d a)
-      (among_either (map (global_def at o) (placed_globals o)) (global_defs (at + 1) rest) m)
+    (λ a.
+    let b = among_back (global_def at o) (placed_globals o) a in
+    let c : Among b.0 (filter is_defined_global o.globals) = ⊎_elim (λ n. (filter_among (λ g. not (is_string o g)) (filter is_defined_global o.globals) n).0) (λ n. (filter_among (is_string o) (filter is_defined_global o.globals) n).0)
+    (among_either (filter (λ g. not (is_string o g)) (filter is_defined_global o.globals)) (filter (is_string o) (filter is_defined_global o.globals)) b.1.0) in
+    let e = filter_among is_defined_global o.globals c in
+    subst (λ (x : GlobalDef). Among x.object os × (Among x.global x.object.globals × (is_defined_global x.global ≡ true))) b.1.1 (f o here, (e.0, e.1)))
+    (λ a. globals_come os (at + 1) rest (λ p n. f p (there n)) d a)
+    (among_either (map (global_def at o) (placed_globals o)) (global_defs (at + 1) rest) m)
 
 placed_among : (o : ObjectView) (g : GlobalView) → Among g o.globals → is_defined_global g ≡ true → Among g (placed_globals o)
 placed_among o g m d = by (is_string o g) refl
@@ -154,29 +162,38 @@ global_stands os h l at o e n p = by (list_any (is_own_global at n) ds) refl
   where
     ds : List GlobalDef
     ds = global_defs 0 os
+
     big : (d : GlobalDef) → Among d (global_defs 0 os) → 0 < d.global.size
     big d m = let c = globals_come os 0 os (λ q a. a) d m in global_size (length d.object.names) d.global (all_among (global_fits (length d.object.names)) c.1.0 (object_is h c.0).globals) c.1.1
+
     is : (g : GlobalView) × (Among g o.globals × (nat_eq g.symbol n ≡ true))
     is = one_among (λ (g : GlobalView). nat_eq g.symbol n) o.globals p
+
     entry : Among (global_entry o is.0) (global_entries os)
     entry = global_entry_among is.0 (get_among os at o e) is.1.0
+
     symbol : is.0.symbol ≡ n
     symbol = eqb-true is.0.symbol n is.1.1
+
     name : List ℕ
     name = name_in o is.0.symbol
+
     missing : is_missing (global_entries os) name (global_entry o is.0) ≡ false
     missing = none_among (is_missing (global_entries os) name) entry (no_missing_global os name l.undefined)
+
     left : (b d j a : Bool) → b ≡ true → ((b && not d) && (j || not a)) ≡ false → (d ≡ true) ⊎ ((j ≡ false) × (a ≡ true))
     left true true j a f g = inl refl
     left true false true a f g = cc
     left true false false true f g = inr (refl, refl)
     left true false false false f g = cc
     left false d j a f g = cc
+
     own : is_defined_global is.0 ≡ true → nat_eq is.0.linkage 1 ≡ true → list_any (is_own_global at n) (global_defs 0 os) ≡ true
     own d j =
         let s : 0 + at ≡ at = omega arith in
         let m : Among (global_def at o is.0) (global_defs 0 os) = subst (λ (k : ℕ). Among (global_def k o is.0) (global_defs 0 os)) s (globals_among os 0 at o is.0 e is.1.0 d) in
         any_among (is_own_global at n) m (and_both _ _ (and_both _ _ (eq-eqb at at refl) j) is.1.1)
+
     from_entry : list_any (entry_defines name) (global_entries os) ≡ true → list_any (defines_global (name_in o n)) (global_defs 0 os) ≡ true
     from_entry q =
         let x = one_among (entry_defines name) (global_entries os) q in
@@ -185,9 +202,11 @@ global_stands os h l at o e n p = by (list_any (is_own_global at n) ds) refl
         let s : 0 + b.0 ≡ b.0 = omega arith in
         let m = globals_among os 0 b.0 b.1.0 b.1.1.0 b.1.1.1.0 b.1.1.1.1.0 (and_left _ _ passes) in
         subst (λ (k : ℕ). list_any (defines_global (name_in o k)) (global_defs 0 os) ≡ true) symbol (any_among (defines_global name) m (and_right (is_defined_global b.1.1.0) _ passes))
+
     external : nat_eq is.0.linkage 1 ≡ false → list_any (defines_global (name_in o n)) (global_defs 0 os) ≡ true
     external j = from_entry (⊎_elim (λ d. any_among (entry_defines name) entry (and_both _ _ d (and_both _ _ (ap not j) (equals_itself name)))) (λ r. r.1)
         (left (bytes_eq name name) (is_defined_global is.0) (nat_eq is.0.linkage 1) (list_any (entry_defines name) (global_entries os)) (equals_itself name) missing))
+
     seen : list_any (is_own_global at n) (global_defs 0 os) ≡ false → list_any (defines_global (name_in o n)) (global_defs 0 os) ≡ true
     seen z = two (nat_eq is.0.linkage 1) refl
       where
@@ -195,6 +214,7 @@ global_stands os h l at o e n p = by (list_any (is_own_global at n) ds) refl
         two false j = external j
         two true j = ⊎_elim (λ d. absurd (true≢false (sym (own d j) ∙ z))) (λ r. absurd (true≢false (sym j ∙ r.0)))
             (left (bytes_eq name name) (is_defined_global is.0) (nat_eq is.0.linkage 1) (list_any (entry_defines name) (global_entries os)) (equals_itself name) missing)
+
     by : (b : Bool) → list_any (is_own_global at n) (global_defs 0 os) ≡ b → (k : ℕ) × ((global_number os at o n ≡ Some k) × (k < end_of 0 (global_defs 0 os)))
     by true z = let r = some_offset (is_own_global at n) 0 (global_defs 0 os) big z in (r.0, (ap (λ (q : Option ℕ). or_else q (offset_of (defines_global (name_in o n)) 0 (global_defs 0 os))) r.1.0, r.1.1))
     by false z =
@@ -248,15 +268,20 @@ class_of os i l g at o e n c m s =
     let j : p.0 ≡ r.0 = let q = r.1.1.index in omega (arith, q) in
     let is : slice_get (kept_classes os) p.0 ≡ Some d = ap (slice_get (kept_classes os)) j ∙ r.1.1.is in
     let comes = come_at os (kept_classes os) p.0 d (all_come os) is in
-    let differ = (or_both _ _ ((or_both _ _ ((or_both _ _ (l.different.none name)).0)).0)).0 in
-    (p.0, (d, record {
-      number = p.1;
-      image = ap (λ cs. slice_get cs p.0) g.classes ∙ get_map (image_class os) (kept_classes os) p.0 ∙ ap (option_map (image_class os)) is;
-      slots = λ b w v.
-        let mine : bytes_eq (name_in o b.name) name ≡ true = ap (λ (x : ℕ). bytes_eq (name_in o x) name) v ∙ equals_itself name in
-        let long = as_many name (class_among b (lies (get_among os at o e)) (lies w)) (class_among d.class comes.object comes.class) differ mine r.1.1.passes in
-        sym (length-map b.slots (text_in o)) ∙ long ∙ length-map d.class.slots (text_in d.object);
-    }))
+    let differ = (or_both _ _ ((or_both _ _ ((or_both _ _ (l.different.none name)).0)).0)).0 in (
+      p.0,
+      (
+        d,
+        record {
+          number = p.1;
+          image = ap (λ cs. slice_get cs p.0) g.classes ∙ get_map (image_class os) (kept_classes os) p.0 ∙ ap (option_map (image_class os)) is;
+          slots = λ b w v.
+              let mine : bytes_eq (name_in o b.name) name ≡ true = ap (λ (x : ℕ). bytes_eq (name_in o x) name) v ∙ equals_itself name in
+              let long = as_many name (class_among b (lies (get_among os at o e)) (lies w)) (class_among d.class comes.object comes.class) differ mine r.1.1.passes in
+              sym (length-map b.slots (text_in o)) ∙ long ∙ length-map d.class.slots (text_in d.object);
+        },
+      ),
+    )
 
 -- ---- types
 
@@ -293,13 +318,13 @@ safe_there os i h d m f =
 
 pub same_names : (os : List ObjectView) (i : ImageView) → AllObjects os → Links os → ImageOf os i → (at : ℕ) (o : ObjectView) → slice_get os at ≡ Some o → Same (object_table o) (table_of i) (numbering os i.types at o) (is_type_named os o)
 same_names os i h l g at o e = record {
-    global = λ s p. let r = global_stands os h l at o e s p in
+  global = λ s p. let r = global_stands os h l at o e s p in
       ap (λ (q : Option ℕ). nat_lt (unwrap_or q absent) i.size) r.1.0 ∙ lt-ltb r.0 i.size (let z = g.size in let w = r.1.1 in omega (arith, z, w));
-    func = λ s p. let r = func_of os i h l g at o e s p in let v = r.1.1.1 in
+  func = λ s p. let r = func_of os i h l g at o e s p in let v = r.1.1.1 in
       ap (λ (q : Option ℕ). nat_lt (unwrap_or q absent) (length i.funcs)) v.number ∙ there_is i.funcs r.0 (image_func os i.types r.1.1.0) v.image;
-    class = λ s p. let c = one_among (λ (x : ClassView). nat_eq x.name s) o.classes p in let r = class_of os i l g at o e s c.0 c.1.0 (eqb-true c.0.name s c.1.1) in let v = r.1.1 in
+  class = λ s p. let c = one_among (λ (x : ClassView). nat_eq x.name s) o.classes p in let r = class_of os i l g at o e s c.0 c.1.0 (eqb-true c.0.name s c.1.1) in let v = r.1.1 in
       ap (λ (q : Option ℕ). nat_lt (unwrap_or q absent) (length i.classes)) v.number ∙ there_is i.classes r.0 (image_class os r.1.0) v.image;
-    slot = λ s n p. let c = one_among (λ (x : ClassView). nat_eq x.name s && nat_lt n (length x.slots)) o.classes p in
+  slot = λ s n p. let c = one_among (λ (x : ClassView). nat_eq x.name s && nat_lt n (length x.slots)) o.classes p in
       let name : c.0.name ≡ s = eqb-true c.0.name s (and_left _ _ c.1.1) in
       let r = class_of os i l g at o e s c.0 c.1.0 name in let v = r.1.1 in
       let below = ltb-true n (length c.0.slots) (and_right (nat_eq c.0.name s) _ c.1.1) in
@@ -308,26 +333,26 @@ same_names os i h l g at o e = record {
       ap (λ (q : Option ℕ). option_map_or (λ (k : ImageClassView). nat_lt n (length k.slots)) (slice_get i.classes (unwrap_or q absent)) false) v.number
       ∙ ap (λ (q : Option ImageClassView). option_map_or (λ (k : ImageClassView). nat_lt n (length k.slots)) q false) v.image
       ∙ lt-ltb n (length (image_class os r.1.0).slots) (omega (arith, below, many, long));
-    ty = λ n p. let r = type_of os i g o n p in
+  ty = λ n p. let r = type_of os i g o n p in
       ap (λ (q : Option ℕ). nat_lt (unwrap_or q absent) (length i.types)) r.1.0 ∙ there_is i.types r.0 (name_in o n) r.1.1;
-    safe = λ s p q. let r = func_of os i h l g at o e s p in let v = r.1.1.1 in let d = r.1.1.0 in
+  safe = λ s p q. let r = func_of os i h l g at o e s p in let v = r.1.1.1 in let d = r.1.1.0 in
       let w : is_wanted_safe r.1.0 ≡ true = ap (λ (x : Option FuncView). option_map_or is_wanted_safe x false) (sym v.entry) ∙ q in
       ap (λ (x : Option ℕ). option_map_or (λ (y : ImageFuncView). is_some y.safe) (slice_get i.funcs (unwrap_or x absent)) false) v.number
       ∙ ap (λ (x : Option ImageFuncView). option_map_or (λ (y : ImageFuncView). is_some y.safe) x false) v.image
       ∙ safe_there os i h d (get_among (kept_funcs os) r.0 d v.kept) (v.safe w);
-    takes = λ s p. let r = func_of os i h l g at o e s p in let v = r.1.1.1 in
+  takes = λ s p. let r = func_of os i h l g at o e s p in let v = r.1.1.1 in
       ap (λ (x : Option ℕ). option_map_or (λ (y : ImageFuncView). takes_of y.ty) (slice_get i.funcs (unwrap_or x absent)) 0) v.number
       ∙ ap (λ (x : Option ImageFuncView). option_map_or (λ (y : ImageFuncView). takes_of y.ty) x 0) v.image
       ∙ ap takes_of v.ty ∙ ap (λ (x : Option FuncView). option_map_or (λ (f : FuncView). takes_of (spelling o f.ty)) x 0) (sym v.entry);
-    gives = λ s p. let r = func_of os i h l g at o e s p in let v = r.1.1.1 in
+  gives = λ s p. let r = func_of os i h l g at o e s p in let v = r.1.1.1 in
       ap (λ (x : Option ℕ). option_map_or (λ (y : ImageFuncView). gives_of y.ty) (slice_get i.funcs (unwrap_or x absent)) 0) v.number
       ∙ ap (λ (x : Option ImageFuncView). option_map_or (λ (y : ImageFuncView). gives_of y.ty) x 0) v.image
       ∙ ap gives_of v.ty ∙ ap (λ (x : Option FuncView). option_map_or (λ (f : FuncView). gives_of (spelling o f.ty)) x 0) (sym v.entry);
-    type_takes = λ n p. let r = type_of os i g o n p in
+  type_takes = λ n p. let r = type_of os i g o n p in
       ap (λ (q : Option ℕ). option_map_or takes_of (slice_get i.types (unwrap_or q absent)) 0) r.1.0 ∙ ap (λ (q : Option (List ℕ)). option_map_or takes_of q 0) r.1.1;
-    type_gives = λ n p. let r = type_of os i g o n p in
+  type_gives = λ n p. let r = type_of os i g o n p in
       ap (λ (q : Option ℕ). option_map_or gives_of (slice_get i.types (unwrap_or q absent)) 0) r.1.0 ∙ ap (λ (q : Option (List ℕ)). option_map_or gives_of q 0) r.1.1;
-  }
+}
 
 -- ---- types of kept bodies
 
@@ -379,6 +404,7 @@ def_sound os i h l g d m s =
         → SoundBody (table_of i) (signature (name_in d.object d.func.ty)) false (renamed_body (numbering_at os i.types d) (unwrap_or q no_body))
     plain None e f w t = absurd (true≢false (sym (same_true (is_defined d.func) false f w)))
     plain (Some b) e f w t = body_sound os i h l g d b (record { kept = m; types = λ x n. among_left (option_map_or (types_in_body d.object) d.func.safe []) (subst (λ q. Among x (option_map_or (types_in_body d.object) q [])) (sym e) n) }) (name_in d.object d.func.ty) false t
+
     safe : (q : Option BodyView) → d.func.safe ≡ q → IfSome q (SoundBody (object_table d.object) (signature (spelling d.object d.func.ty)) true)
         → IfSome (option_map (renamed_body (numbering_at os i.types d)) q) (SoundBody (table_of i) (signature (name_in d.object d.func.ty)) true)
     safe None e t = t

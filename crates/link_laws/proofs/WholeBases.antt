@@ -149,6 +149,7 @@ chain os o n a (suc most) (suc name) h = at (class_named o.classes name) refl h 
     none_ends : (m : ℕ) → base_ends (bases_of os) m None ≡ true
     none_ends zero = refl
     none_ends (suc m) = refl
+
     at : (r : Option ClassView) → class_named o.classes name ≡ r → option_map_or (λ c. chain_ends o.classes most c.base) r false ≡ true
         → ((base : ℕ) → chain_ends o.classes most base ≡ true → base_ends (bases_of os) most (number_named os (text_in o base)) ≡ true)
         → base_ends (bases_of os) (suc most) (position_from (has_class_name (name_in o name)) 0 (kept_classes os)) ≡ true
@@ -168,9 +169,9 @@ chain os o n a (suc most) (suc name) h = at (class_named o.classes name) refl h 
             let none-differ = (or_both (any_two (classes_differ (name_in o name)) (class_records os)) _ ((or_both _ _ ((or_both _ _ (n.none (name_in o name))).0)).0)).0 in
             let same : text_in d.object d.class.base ≡ text_in o c.base = one_base (name_in o name) (class_among d.class comes.object comes.class) (class_among c a mine.0) none-differ other own in
             let there : slice_get (bases_of os) k ≡ Some (number_named os (text_in o c.base)) =
-                get_map base_in (map (image_class os) (kept_classes os)) k
-                ∙ ap (option_map base_in) (get_map (image_class os) (kept_classes os) k ∙ ap (λ j. option_map (image_class os) (slice_get (kept_classes os) j)) i ∙ ap (option_map (image_class os)) r.1.1.is)
-                ∙ ap (λ b. Some b) (number_by_name os d.object d.class.base ∙ ap (number_named os) same) in
+            get_map base_in (map (image_class os) (kept_classes os)) k
+            ∙ ap (option_map base_in) (get_map (image_class os) (kept_classes os) k ∙ ap (λ j. option_map (image_class os) (slice_get (kept_classes os) j)) i ∙ ap (option_map (image_class os)) r.1.1.is)
+            ∙ ap (λ b. Some b) (number_by_name os d.object d.class.base ∙ ap (number_named os) same) in
             rw there (goes c.base g)
 
 -- ---- an object has no more classes than the image
@@ -279,9 +280,11 @@ kept_has name kept (d ∷ ds) h = by (list_any (has_class_name (class_name d)) k
     moved true b c g = refl
     moved false true c g = refl
     moved false false c g = g
+
     dropped : (a c : Bool) → (a || (false || c)) ≡ true → (a || c) ≡ true
     dropped true c g = refl
     dropped false c g = g
+
     by : (r : Bool) → list_any (has_class_name (class_name d)) kept ≡ r → (e : Bool) → bytes_eq (class_name d) name ≡ e
         → ((ks : List ClassDef) → (list_any (has_class_name name) ks || list_any (has_class_name name) ds) ≡ true → list_any (has_class_name name) (classes_after ks ds) ≡ true)
         → list_any (has_class_name name) (classes_after (cond r kept (kept ++ d ∷ [])) ds) ≡ true
@@ -331,7 +334,7 @@ of_label o (c ∷ cs) P f a = by (λ x i. of_label o cs P (λ d j. f d (later j)
 few_classes : (os : List ObjectView) (o : ObjectView) → IsObject o → Among o os → length o.classes ≤ length (kept_classes os)
 few_classes os o i a =
     let l = pigeons (map (class_label o) o.classes) (map class_name (kept_classes os)) (distinct_labels o i.names_ascend o.classes i.classes_ascend i.classes)
-          (λ x m. of_label o o.classes (λ y. Among y (map class_name (kept_classes os))) (λ c j. named_kept (name_in o c.name) (kept_classes os) (kept_has (name_in o c.name) [] (class_defs 0 os) (defs_have 0 c a j))) m) in
+    (λ x m. of_label o o.classes (λ y. Among y (map class_name (kept_classes os))) (λ c j. named_kept (name_in o c.name) (kept_classes os) (kept_has (name_in o c.name) [] (class_defs 0 os) (defs_have 0 c a j))) m) in
     omega (arith, l, length-map o.classes (class_label o), length-map (kept_classes os) class_name)
 
 -- ---- of an image

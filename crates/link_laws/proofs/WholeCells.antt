@@ -22,14 +22,19 @@ sum_multiple s start off h m e = by (nat_eq s 1) refl (nat_eq s 2) refl (nat_eq 
   where
     rest : off % s ≡ 0
     rest = eqb-true (off % s) 0 e
+
     at-1 : s ≡ 1 → is_multiple (start + off) s ≡ true
     at-1 q = rw q (eq-eqb ((start + off) % 1) 0 (omega arith))
+
     at-2 : s ≡ 2 → is_multiple (start + off) s ≡ true
     at-2 q = let r : off % 2 ≡ 0 = rw q at rest in rw q (eq-eqb ((start + off) % 2) 0 (omega arith))
+
     at-4 : s ≡ 4 → is_multiple (start + off) s ≡ true
     at-4 q = let r : off % 4 ≡ 0 = rw q at rest in rw q (eq-eqb ((start + off) % 4) 0 (omega arith))
+
     at-8 : s ≡ 8 → is_multiple (start + off) s ≡ true
     at-8 q = let r : off % 8 ≡ 0 = rw q at rest in rw q (eq-eqb ((start + off) % 8) 0 (omega arith))
+
     by : (a : Bool) → nat_eq s 1 ≡ a → (b : Bool) → nat_eq s 2 ≡ b → (c : Bool) → nat_eq s 4 ≡ c → (d : Bool) → nat_eq s 8 ≡ d → (a || b || c || d) ≡ true → is_multiple (start + off) s ≡ true
     by true f b g c i d j k = at-1 (eqb-true s 1 f)
     by false f true g c i d j k = at-2 (eqb-true s 2 g)
@@ -204,6 +209,7 @@ fit_globals at o n t (g ∷ gs) h = by (is_defined_global g) (fit_globals at o n
     one : (b : Bool) → AllFit (map (global_def at o) (filter t (filter is_defined_global gs))) → AllFit (map (global_def at o) (cond b (g ∷ filter t (filter is_defined_global gs)) (filter t (filter is_defined_global gs))))
     one true r = joined (record { names = n; fits = and_left (global_fits n g) _ h }) r
     one false r = r
+
     by : (b : Bool) → AllFit (map (global_def at o) (filter t (filter is_defined_global gs))) → AllFit (map (global_def at o) (filter t (cond b (g ∷ filter is_defined_global gs) (filter is_defined_global gs))))
     by true r = one (t g) r
     by false r = r

@@ -60,7 +60,7 @@ main_starts os types main e =
     let r = position_found is_main_def 0 (kept_funcs os) main e in
     let i : main ≡ r.0 = let s = r.1.1.index in omega (arith, s) in
     let at : slice_get (map (image_func os types) (kept_funcs os)) main ≡ Some (image_func os types r.1.0) =
-        get_map (image_func os types) (kept_funcs os) main ∙ ap (λ k. option_map (image_func os types) (slice_get (kept_funcs os) k)) i ∙ ap (option_map (image_func os types)) r.1.1.is in
+    get_map (image_func os types) (kept_funcs os) main ∙ ap (λ k. option_map (image_func os types) (slice_get (kept_funcs os) k)) i ∙ ap (option_map (image_func os types)) r.1.1.is in
     rw at (main_passes r.1.0 r.1.1.passes)
 
 -- ---- slots
