@@ -1,5 +1,5 @@
 -- The test of the order of nodes says what the order is.
-use Rattle.std.proofs.Common.{◌≡◌, ◌∙◌, ℕ, zero, suc, ◌+◌, Bool, true, ◌&&◌, IsTrue, ◌↔◌, List, [], ◌∷◌, Some, slice_get, refl, sym, ap, arith, subst}
+use Rattle.std.proofs.Common.{◌≡◌, ◌∙◌, ℕ, zero, suc, ◌+◌, Bool, true, IsTrue, ◌↔◌, List, [], ◌∷◌, Some, slice_get, refl, sym, ap, arith}
 use Rattle.std.proofs.lemmas.Bool.{and_parts, and_from}
 use Rattle.cpp_tree.specs.declared.arena.TNode.{TNode}
 use Rattle.cpp_tree.specs.Arena.{are_below, IsOrdered}

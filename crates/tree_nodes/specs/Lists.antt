@@ -1,5 +1,5 @@
 -- Lists of ids, and what the check marks in them.
-use Rattle.std.specs.Prelude.{◌≡◌, ◌<◌, ◌≤◌, ℕ, ◌++◌, Bool, true, false, cond, List, [], ◌∷◌, map, Option, Some, None, get_or, length, slice_get}
+use Rattle.std.specs.Prelude.{◌≡◌, ◌<◌, ◌≤◌, ℕ, ◌++◌, Bool, false, cond, List, [], ◌∷◌, Option, Some, None, get_or, length, slice_get}
 use Rattle.cpp_tree.specs.declared.arena.TNode.{TNode}
 use Rattle.cpp_tree.specs.declared.arena.TNodeId.{TNodeId}
 use Rattle.cpp_tree.specs.declared.program.TFunc.{TFunc}

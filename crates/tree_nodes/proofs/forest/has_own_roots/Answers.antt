@@ -1,4 +1,4 @@
-use Rattle.std.proofs.Common.{◌≡◌, true, false, sym, rules, length}
+use Rattle.std.proofs.Common.{◌≡◌, true, false, rules}
 use Rattle.tree_nodes.proofs.Lists.{roots_no, roots_answer}
 use Rattle.tree_nodes.proofs.forest.has_own_roots.Goals as goal
 

@@ -1,4 +1,4 @@
-use Rattle.std.proofs.Common.{◌≡◌, ◌<◌, ℕ, true, false, get_or, length, sym, arith}
+use Rattle.std.proofs.Common.{◌≡◌, ◌<◌, ℕ, get_or, length, sym, arith}
 use Rattle.tree_nodes.proofs.Marking.{number_below, marked_there, marked_twice, marked_all}
 use Rattle.tree_nodes.proofs.marks.are_distinct.Goals as goal
 
