@@ -1,7 +1,7 @@
 -- The function that an entry of an object stands for.
-use Rattle.std.proofs.Common.{Bool, true, false, ◌≡◌, ◌<◌, ◌≤◌, ◌⊎◌, ℕ, zero, suc, ◌+◌, List, [], ◌∷◌, ◌++◌, map, filter, length, Option, Some, None, refl, sym, ap, ◌∙◌, subst, arith, inl, inr, ⊎_elim, cond, eq-eqb}
-use Rattle.std.specs.Prelude.{slice_get, nat_lt, nat_eq, ◌&&◌, ◌||◌, not, is_some, find}
-use Rattle.std.specs.List.{All, flat_map, list_all, list_any, position_from}
+use Rattle.std.proofs.Common.{Bool, true, false, ◌≡◌, ◌<◌, ◌⊎◌, ℕ, zero, suc, ◌+◌, List, [], ◌∷◌, ◌++◌, map, filter, Option, Some, None, refl, sym, ap, ◌∙◌, subst, arith, inl, inr, ⊎_elim, cond, eq-eqb}
+use Rattle.std.specs.Prelude.{slice_get, nat_lt, nat_eq, ◌&&◌, ◌||◌, not}
+use Rattle.std.specs.List.{list_any, position_from}
 use Rattle.std.specs.Option.{option_map, option_map_or}
 use Rattle.std.specs.Str.{bytes_eq}
 use borrow.Author.Tests.{eqb-true, ltb-true}
@@ -11,8 +11,8 @@ use Rattle.tx_code.specs.WellFormed.{IsObject, ascends, ascends_from, has_safe, 
 use Rattle.tx_code.specs.Shapes.{Among, here, there}
 use Rattle.tx_code.specs.Linked.{FuncDef, func_def, func_defs, func_number, func_symbol, is_internal, defines, repeats, kept_with, kept_after, kept_funcs, is_own, name_in, or_else}
 use Rattle.link_faults.specs.Answers.{Links, NoneOf}
-use Rattle.link_faults.specs.Faults.{Entry, func_entry, funcs_of, func_entries, any_two, first_of, global_entries, has_unlisted, is_different, is_missing, is_undefined, is_unsafe, kept_is_safe, shows, types_differ, wants}
-use Rattle.link_faults.specs.Faults.{defines as entry_defines, is_internal as entry_internal}
+use Rattle.link_faults.specs.Faults.{Entry, func_entry, funcs_of, func_entries, any_two, first_of, global_entries, has_unlisted, is_missing, is_undefined, is_unsafe, kept_is_safe, shows, types_differ, wants}
+use Rattle.link_faults.specs.Faults.{defines as entry_defines}
 use Rattle.link_faults.proofs.Ascending.{and_left, and_right, same_bytes, equals_itself}
 use Rattle.link_faults.proofs.ListedEntries.{and_both}
 use Rattle.link_faults.proofs.FirstClaims.{any_of_append, or_left, inside}

@@ -1,6 +1,6 @@
 -- Where an object defines an external `main()` of type `int()`, one of the kept functions is it.
-use Rattle.std.proofs.Common.{Bool, true, false, ◌≡◌, ℕ, ◌+◌, List, [], ◌∷◌, ◌++◌, map, filter, length, refl, sym, ap, ◌∙◌, Option, Some, None, ◌&&◌, ◌||◌, not, nat_eq, cond, codes}
-use Rattle.std.specs.List.{flat_map, list_any, position_from}
+use Rattle.std.proofs.Common.{Bool, true, false, ◌≡◌, ℕ, ◌+◌, List, [], ◌∷◌, ◌++◌, map, filter, refl, sym, ap, ◌∙◌, Some, None, ◌&&◌, ◌||◌, not, nat_eq, cond, codes}
+use Rattle.std.specs.List.{list_any, position_from}
 use Rattle.std.specs.Str.{bytes_eq}
 use borrow.Author.Tests.{eqb-true}
 use Rattle.tx_code.specs.Objects.{ObjectView, FuncView}
@@ -8,8 +8,8 @@ use Rattle.tx_code.specs.WellFormed.{is_defined}
 use Rattle.tx_code.specs.Images.{main_type}
 use Rattle.tx_code.specs.Linked.{FuncDef, func_def, func_defs, func_symbol, is_internal, defines, repeats, kept_with, kept_after, kept_funcs, is_main_def, name_in}
 use Rattle.link_faults.specs.Answers.{NoneOf}
-use Rattle.link_faults.specs.Faults.{Entry, func_entry, funcs_of, func_entries, any_two, clash, is_twice, has_main, is_main, names_main}
-use Rattle.link_faults.proofs.Ascending.{and_left, and_right, same_bytes, equals_itself}
+use Rattle.link_faults.specs.Faults.{Entry, func_entry, funcs_of, func_entries, any_two, clash, is_twice, has_main, is_main}
+use Rattle.link_faults.proofs.Ascending.{and_left, and_right, equals_itself}
 use Rattle.link_faults.proofs.ListedEntries.{and_both}
 use Rattle.link_faults.proofs.FirstClaims.{any_of_append, or_left}
 

@@ -14,8 +14,8 @@ use Rattle.tx_code.specs.WellFormed.{named_by_row}
 use Rattle.tx_code.specs.Renaming.{Numbering, renamed, renamed_row, renamed_body}
 use Rattle.tx_code.specs.Linked.{named_types}
 use Rattle.tx_code.specs.Meaning.{covers}
-use Rattle.tx_code.specs.Shapes.{Shape, Table, Among, here, there, Effect, Reaches, enters, falls, lands, landed, moves, outgoing, targets}
-use Rattle.tx_code.specs.Sound.{Signature, SoundBody, closes_right, edge_right, entry, exception_right, has_edge, inside_right, is_edge, is_known, is_last, left_at, names_right, outside_right, passes, row_is_known, row_lies, row_names_right, target_lies}
+use Rattle.tx_code.specs.Shapes.{Shape, Table, Among, here, there, Reaches, enters, falls, lands, landed, moves, outgoing, targets}
+use Rattle.tx_code.specs.Sound.{Signature, SoundBody, closes_right, edge_right, entry, exception_right, inside_right, is_edge, is_known, is_last, left_at, names_right, outside_right, passes, row_is_known, row_lies, row_names_right, target_lies}
 use Rattle.tx_code.proofs.ReachedIndexes.{and_left, and_right, all_at}
 
 -- what names stand for in an object, and their numbers in an image; of types only those that pass the test

@@ -1,7 +1,7 @@
 -- Sound objects link to a sound image.
-use Rattle.std.proofs.Common.{Bool, true, false, ◌≡◌, ◌<◌, ◌≤◌, ◌⊎◌, ℕ, zero, suc, ◌+◌, ◌-◌, List, [], ◌∷◌, ◌++◌, map, filter, length, Option, Some, None, refl, sym, ap, ◌∙◌, subst, arith, inl, inr, ⊎_elim, cond, eq-eqb}
+use Rattle.std.proofs.Common.{Bool, true, false, ◌≡◌, ◌<◌, ◌⊎◌, ℕ, zero, suc, ◌+◌, List, [], ◌∷◌, ◌++◌, map, filter, length, Option, Some, None, refl, sym, ap, ◌∙◌, subst, arith, inl, inr, ⊎_elim, cond, eq-eqb}
 use Rattle.std.specs.Prelude.{slice_get, nat_lt, nat_eq, ◌&&◌, ◌||◌, not, is_some, find, unwrap_or, IfSome}
-use Rattle.std.specs.List.{All, flat_map, list_all, list_any, position_from}
+use Rattle.std.specs.List.{All, flat_map, list_all, list_any}
 use Rattle.std.specs.Option.{option_map, option_map_or}
 use Rattle.std.specs.Str.{bytes_eq}
 use Rattle.std.specs.Cmp.Lexicographic.{pointwise}
@@ -11,16 +11,16 @@ use borrow.Author.Tests.{eqb-true, ltb-true}
 use Rattle.tx_code.specs.declared.instr.Instr.{Instr}
 use Rattle.tx_code.specs.declared.body.Row.{Row}
 use Rattle.tx_code.specs.Objects.{ObjectView, BodyView, FuncView, GlobalView, ClassView}
-use Rattle.tx_code.specs.WellFormed.{IsObject, func_fits, global_fits, has_safe, is_defined, is_wanted_safe, named_by_row, same}
+use Rattle.tx_code.specs.WellFormed.{func_fits, global_fits, has_safe, is_defined, is_wanted_safe, named_by_row, same}
 use Rattle.tx_code.specs.Images.{ImageView, ImageFuncView, ImageClassView}
-use Rattle.tx_code.specs.Linked.{ImageOf, FuncDef, GlobalDef, ClassDef, absent, class_name, class_number, class_defs, defines_global, end_of, func_number, global_def, global_defs, global_number, has_class_name, image_class, image_func, is_defined_global, is_own_global, is_string, kept_classes, kept_funcs, name_in, named_types, no_body, numbering, numbering_at, offset_of, or_else, or_none, placed_globals, plain_body, rounded, type_number, types_in_body, types_in_def, types_named}
+use Rattle.tx_code.specs.Linked.{ImageOf, FuncDef, GlobalDef, ClassDef, absent, class_number, class_defs, defines_global, end_of, func_number, global_def, global_defs, global_number, has_class_name, image_class, image_func, is_defined_global, is_own_global, is_string, kept_classes, kept_funcs, name_in, named_types, no_body, numbering, numbering_at, offset_of, or_else, or_none, placed_globals, rounded, type_number, types_in_body, types_in_def, types_named}
 use Rattle.tx_code.specs.Renaming.{Numbering, renamed_body}
-use Rattle.tx_code.specs.Shapes.{Table, Among, here, there}
+use Rattle.tx_code.specs.Shapes.{Among, here, there}
 use Rattle.tx_code.specs.Signatures.{takes_of, gives_of}
 use Rattle.tx_code.specs.Sound.{Sound, SoundBody, SoundEntry, SoundFunc, SoundObject, entry_of, frame_right, object_table, signature, spelling, table_of}
 use Rattle.tx_code.proofs.ReachedIndexes.{all_among}
-use Rattle.link_faults.specs.Answers.{Links, NoneOf}
-use Rattle.link_faults.specs.Faults.{ClassRecord, Entry, any_two, class_record, class_records, classes_differ, first_of, global_entries, global_entry, globals_of, is_different, is_missing, is_undefined, same_class, same_or_none, text_in}
+use Rattle.link_faults.specs.Answers.{Links}
+use Rattle.link_faults.specs.Faults.{ClassRecord, Entry, any_two, classes_differ, global_entries, global_entry, globals_of, is_missing, same_class, same_or_none, text_in}
 use Rattle.link_faults.specs.Faults.{defines as entry_defines}
 use Rattle.link_faults.proofs.Ascending.{and_left, and_right, same_bytes, equals_itself}
 use Rattle.link_faults.proofs.ListedEntries.{and_both}
@@ -29,7 +29,7 @@ use Rattle.link_laws.proofs.WholeImages.{AllObjects, position_found, get_map, en
 use Rattle.link_laws.proofs.MainThere.{or_both}
 use Rattle.link_laws.proofs.WholeBases.{class_among, come_at, all_come, defs_have, kept_has}
 use Rattle.link_laws.proofs.WholeBases.{Among as Lies, first, later}
-use Rattle.link_laws.proofs.KeptFuncs.{Stands, among_back, among_either, among_filter, among_left, among_map, among_right, any_among, filter_among, get_among, kept_comes, no_position, no_missing_global, none_among, nowhere, object_is, one_among, some_position, stands}
+use Rattle.link_laws.proofs.KeptFuncs.{among_back, among_either, among_filter, among_left, among_map, among_right, any_among, filter_among, get_among, kept_comes, no_missing_global, none_among, nowhere, object_is, one_among, some_position, stands}
 use Rattle.link_laws.proofs.SoundBodies.{Same, get_back, sound_body}
 
 -- ---- functions

@@ -1,23 +1,22 @@
 -- No chain of bases of a linked image is a circle: it is the chain of one object.
-use Rattle.std.proofs.Common.{Bool, true, false, ◌≡◌, ◌<◌, ◌≤◌, ℕ, suc, zero, ◌+◌, List, [], ◌∷◌, ◌++◌, map, filter, length, refl, sym, ap, ◌∙◌, arith, Option, Some, None, ◌&&◌, ◌||◌, not, nat_eq, nat_lt, nat_le, cond, slice_get, length-append, ◌⊎◌, inl, inr, ⊎_elim, subst, get_or, unwrap_or}
-use Rattle.std.specs.List.{flat_map, list_all, list_any, position_from}
+use Rattle.std.proofs.Common.{Bool, true, false, ◌≡◌, ◌<◌, ◌≤◌, ℕ, suc, zero, ◌+◌, List, [], ◌∷◌, ◌++◌, map, length, refl, sym, ap, ◌∙◌, arith, Option, Some, None, ◌&&◌, ◌||◌, not, nat_eq, nat_lt, cond, slice_get, ◌⊎◌, inl, inr, ⊎_elim, subst, get_or, unwrap_or}
+use Rattle.std.specs.List.{list_all, list_any, position_from}
 use Rattle.std.specs.Option.{option_map, option_map_or}
 use Rattle.std.specs.Str.{bytes_eq}
-use Rattle.std.specs.Cmp.Lexicographic.{pointwise}
-use borrow.Author.Tests.{eqb-true, eqb-false, ltb-true, leb-true}
+use borrow.Author.Tests.{eqb-true, ltb-true}
 use Rattle.tx_code.specs.Objects.{ObjectView, ClassView}
 use Rattle.tx_code.specs.WellFormed.{ascends, ascends_from, bytes_lt, class_fits, class_named, chain_ends, bases_fit, IsObject}
-use Rattle.tx_code.specs.Images.{ImageClassView, base_ends, base_in, bases_end}
-use Rattle.tx_code.specs.Linked.{ClassDef, class_def, class_defs, class_name, has_class_name, classes_with, classes_after, kept_classes, class_number, or_none, image_class, name_in}
+use Rattle.tx_code.specs.Images.{base_ends, base_in, bases_end}
+use Rattle.tx_code.specs.Linked.{ClassDef, class_def, class_defs, class_name, has_class_name, classes_after, kept_classes, class_number, or_none, image_class, name_in}
 use Rattle.link_faults.specs.Answers.{NoneOf}
-use Rattle.link_faults.specs.Faults.{ClassRecord, class_record, classes_of, class_records, any_two, classes_differ, same_class, same_member, same_or_none, text_in, is_different}
+use Rattle.link_faults.specs.Faults.{ClassRecord, class_record, classes_of, class_records, any_two, classes_differ, same_class, same_or_none, text_in, is_different}
 use Rattle.std.proofs.lemmas.List.{length-map}
 use Rattle.tx_code.specs.Images.{ImageView}
 use Rattle.tx_code.specs.Linked.{ImageOf}
 use Rattle.link_faults.proofs.Ascending.{and_left, and_right, same_bytes, equals_itself, below_trans, below_not_same, head_below, tail_ascends}
 use Rattle.link_faults.proofs.ListedEntries.{and_both}
 use Rattle.link_faults.proofs.FirstClaims.{any_of_append, inside}
-use Rattle.link_laws.proofs.WholeImages.{AllObjects, none, some, FoundAt, position_found, get_map}
+use Rattle.link_laws.proofs.WholeImages.{AllObjects, none, some, position_found, get_map}
 use Rattle.link_laws.proofs.MainThere.{or_both}
 
 -- ---- bases by name

@@ -1,19 +1,19 @@
 -- The cells of a linked image lie within its globals and apart from one another.
-use Rattle.std.proofs.Common.{Bool, true, false, ◌≡◌, ◌≢◌, ◌<◌, ◌≤◌, ℕ, suc, zero, ◌+◌, ◌-◌, ◌*◌, ◌/◌, ◌%◌, ◌^◌, List, [], ◌∷◌, ◌++◌, map, filter, length, refl, sym, ap, ◌∙◌, arith, Option, Some, None, ◌&&◌, ◌||◌, not, nat_eq, nat_lt, nat_le, cond, slice_get, unwrap_or, eq-eqb}
-use Rattle.std.specs.List.{flat_map, list_all, list_any, position_from}
-use borrow.Author.Tests.{eqb-true, eqb-false, ltb-true, leb-true}
+use Rattle.std.proofs.Common.{Bool, true, false, ◌≡◌, ◌<◌, ◌≤◌, ℕ, suc, zero, ◌+◌, ◌-◌, ◌*◌, ◌%◌, ◌^◌, List, [], ◌∷◌, ◌++◌, map, filter, length, refl, ap, ◌∙◌, arith, ◌&&◌, ◌||◌, not, nat_eq, nat_lt, nat_le, cond, unwrap_or, eq-eqb}
+use Rattle.std.specs.List.{flat_map, list_all}
+use borrow.Author.Tests.{eqb-true, ltb-true, leb-true}
 use Rattle.std.proofs.lemmas.Bool.{lt-ltb, le-leb}
 use Rattle.tx_events.specs.declared.GlobalCell.{GlobalCell}
 use Rattle.tx_code.specs.declared.object.ObjCell.{ObjCell}
 use Rattle.tx_code.specs.Objects.{ObjectView, GlobalView}
-use Rattle.tx_code.specs.WellFormed.{ascends, ascends_from, global_fits, is_cell_size, is_multiple, cell_fits, cell_after, cell_kind_fits, is_name_or_none}
+use Rattle.tx_code.specs.WellFormed.{ascends, ascends_from, global_fits, is_cell_size, is_multiple, cell_fits, cell_after, cell_kind_fits}
 use Rattle.tx_code.specs.Images.{ImageView, is_cell, apart, all_apart, cells_fit}
-use Rattle.tx_code.specs.Program.{func_address, global_address}
+use Rattle.tx_code.specs.Program.{func_address}
 use Rattle.link_faults.specs.Ranks.{names_of}
-use Rattle.tx_code.specs.Linked.{ImageOf, global_def, global_defs, placed_globals, is_defined_global, is_string, GlobalDef, absent, cell_value, func_number, global_number, rounded, end_of, image_cell, image_cells, kept_funcs}
+use Rattle.tx_code.specs.Linked.{ImageOf, global_def, global_defs, placed_globals, is_defined_global, is_string, GlobalDef, absent, cell_value, func_number, rounded, end_of, image_cell, image_cells, kept_funcs}
 use Rattle.link_faults.proofs.Ascending.{and_left, and_right}
 use Rattle.link_faults.proofs.ListedEntries.{and_both, all_of_append}
-use Rattle.link_laws.proofs.WholeImages.{AllObjects, none, some, end_above, few_kept, number_bounded}
+use Rattle.link_laws.proofs.WholeImages.{AllObjects, some, end_above, few_kept, number_bounded}
 
 -- ---- places
 

@@ -1,20 +1,18 @@
 -- What the type `Image` keeps holds of each image that objects link to.
-use Rattle.std.proofs.Common.{Bool, true, false, ◌≡◌, ◌≢◌, ◌<◌, ◌≤◌, ℕ, suc, zero, ◌+◌, ◌*◌, ◌/◌, ◌%◌, ◌^◌, List, [], ◌∷◌, ◌++◌, map, filter, length, refl, sym, ap, ◌∙◌, arith, Option, Some, None, ◌&&◌, ◌||◌, not, nat_eq, nat_lt, nat_le, cond, slice_get, unwrap_or, length-append, codes, eq-eqb}
-use Rattle.std.specs.List.{All, flat_map, list_all, list_any, position_from}
-use Rattle.std.specs.Option.{option_map, option_map_or}
+use Rattle.std.proofs.Common.{Bool, true, false, ◌≡◌, ◌<◌, ◌≤◌, ℕ, suc, zero, ◌+◌, ◌%◌, List, [], ◌∷◌, ◌++◌, map, filter, length, refl, ap, ◌∙◌, arith, Option, Some, None, ◌&&◌, nat_eq, nat_lt, nat_le, cond, slice_get, unwrap_or, length-append, codes, eq-eqb}
+use Rattle.std.specs.List.{All, flat_map, list_all, position_from}
+use Rattle.std.specs.Option.{option_map}
 use Rattle.std.specs.Str.{bytes_eq}
-use borrow.Author.Tests.{eqb-true, eqb-false, ltb-true, leb-true}
+use borrow.Author.Tests.{ltb-true}
 use Rattle.std.proofs.lemmas.Bool.{lt-ltb, le-leb}
 use Rattle.std.proofs.lemmas.List.{length-map}
-use Rattle.tx_events.specs.declared.GlobalCell.{GlobalCell}
-use Rattle.tx_code.specs.declared.object.ObjCell.{ObjCell}
-use Rattle.tx_code.specs.Objects.{ObjectView, FuncView, GlobalView, ClassView}
-use Rattle.tx_code.specs.WellFormed.{ascends, ascends_from, bytes_lt, is_defined, func_fits, global_fits, is_cell_size, is_multiple, cell_fits, cell_after, IsObject}
-use Rattle.tx_code.specs.Images.{ImageView, ImageFuncView, ImageClassView, is_cell, apart, all_apart, cells_fit, size_fits, main_type, is_main, slot_fits, slots_fit}
-use Rattle.tx_code.specs.Linked.{absent, FuncDef, GlobalDef, ClassDef, func_def, func_defs, kept_with, kept_after, kept_funcs, kept_classes, repeats, or_else, or_none, func_number, is_own, defines, name_in, image_func, image_class, is_main_def, func_symbol, global_defs, global_def, placed_globals, rounded, end_of, image_cell, image_cells, ImageOf}
+use Rattle.tx_code.specs.Objects.{ObjectView, FuncView}
+use Rattle.tx_code.specs.WellFormed.{ascends, ascends_from, is_defined, func_fits, is_multiple, IsObject}
+use Rattle.tx_code.specs.Images.{ImageView, size_fits, main_type, is_main, slot_fits, slots_fit}
+use Rattle.tx_code.specs.Linked.{absent, FuncDef, GlobalDef, ClassDef, func_def, func_defs, kept_after, kept_funcs, kept_classes, repeats, or_else, or_none, func_number, is_own, defines, name_in, image_func, image_class, is_main_def, func_symbol, global_defs, rounded, end_of, ImageOf}
 use Rattle.link_faults.specs.Ranks.{names_of}
 use Rattle.link_faults.proofs.Ascending.{and_left, and_right}
-use Rattle.link_faults.proofs.ListedEntries.{and_both, all_of_append, func_symbol as func_symbol_fits}
+use Rattle.link_faults.proofs.ListedEntries.{and_both, func_symbol as func_symbol_fits}
 
 -- ---- the size
 

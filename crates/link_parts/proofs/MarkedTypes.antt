@@ -1,16 +1,16 @@
 -- The types of an image are the names that bodies name as types.
-use Rattle.std.proofs.Common.{Bool, true, false, ◌≡◌, ◌≢◌, ◌<◌, ◌≤◌, ℕ, suc, zero, ◌+◌, List, [], ◌∷◌, ◌++◌, map, filter, take, length, refl, sym, ap, ◌∙◌, arith, Option, Some, None, ◌&&◌, ◌||◌, nat_eq, cond, slice_get, slice_set, slice_index, get_or, unwrap_or, length-set}
-use Rattle.std.specs.List.{flat_map, list_all, list_any, position_from}
+use Rattle.std.proofs.Common.{Bool, true, false, ◌≡◌, ◌≢◌, ◌<◌, ◌≤◌, ℕ, suc, ◌+◌, List, [], ◌∷◌, ◌++◌, map, filter, length, refl, sym, ap, ◌∙◌, arith, Some, None, ◌&&◌, ◌||◌, nat_eq, cond, slice_get, slice_set, get_or, length-set}
+use Rattle.std.specs.List.{list_all, list_any, position_from}
 use Rattle.std.specs.Str.{bytes_eq}
-use borrow.Author.Tests.{eqb-true, eqb-false}
+use borrow.Author.Tests.{eqb-true}
 use Rattle.tx_code.specs.WellFormed.{ascends, ascends_from, bytes_lt}
 use Rattle.link_faults.specs.Ranks.{is_listed, rank_of}
 use Rattle.link_faults.specs.Unlisted.{AreMarks, is_symbol}
-use Rattle.link_faults.proofs.Ascending.{and_left, and_right, same_bytes, equals_itself, below_trans, where_listed, rank_at, listed_at, position_at}
+use Rattle.link_faults.proofs.Ascending.{and_left, and_right, same_bytes, equals_itself, below_trans, rank_at, listed_at}
 use Rattle.link_faults.proofs.ByRank.{equal_ranks}
-use Rattle.link_faults.proofs.FirstClaims.{any_of_append, get_set_same, get_set_other, inside}
+use Rattle.link_faults.proofs.FirstClaims.{any_of_append}
 use Rattle.link_faults.proofs.Marks.{marked as marked_one}
-use Rattle.link_parts.specs.Types.{Adds, marked, number_in}
+use Rattle.link_parts.specs.Types.{Adds, marked}
 use Rattle.link_parts.specs.Told.{AreTypes}
 
 -- ---- marks

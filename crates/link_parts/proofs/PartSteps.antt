@@ -1,5 +1,5 @@
 -- The steps of loops over types and the parts of an image.
-use Rattle.std.proofs.Common.{Bool, true, false, ◌≡◌, ◌<◌, ◌≤◌, ℕ, suc, zero, ◌+◌, List, [], ◌∷◌, ◌++◌, map, take, length, refl, sym, ap, ◌∙◌, arith, Option, Some, None, ◌||◌, cond, get_or, slice_get, add-one, length-take}
+use Rattle.std.proofs.Common.{Bool, true, false, ◌≡◌, ◌<◌, ℕ, suc, zero, ◌+◌, List, [], ◌∷◌, ◌++◌, map, take, length, refl, sym, ap, ◌∙◌, arith, Some, None, ◌||◌, cond, get_or, slice_get, add-one, length-take}
 use Rattle.std.specs.List.{flat_map, list_any, position_from}
 use Rattle.std.specs.Global.{Vec}
 use Rattle.std.proofs.lemmas.List.{length-map}

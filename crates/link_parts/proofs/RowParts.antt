@@ -1,5 +1,5 @@
 -- Parts by tables are those of the image of the objects.
-use Rattle.std.proofs.Common.{Bool, true, false, ◌≡◌, ◌<◌, ◌≤◌, ℕ, suc, zero, ◌+◌, ◌-◌, ◌%◌, ◌^◌, List, [], ◌∷◌, ◌++◌, map, filter, length, refl, sym, ap, ◌∙◌, arith, Option, Some, None, ◌&&◌, not, cond, nat_lt, nat_le, nat_eq, unwrap_or, slice_get}
+use Rattle.std.proofs.Common.{Bool, true, false, ◌≡◌, ◌<◌, ◌≤◌, ℕ, suc, zero, ◌+◌, ◌-◌, ◌%◌, ◌^◌, List, [], ◌∷◌, ◌++◌, map, filter, length, refl, ap, ◌∙◌, arith, Option, Some, None, ◌&&◌, not, cond, nat_lt, nat_le, nat_eq, unwrap_or}
 use Rattle.std.specs.List.{All, flat_map, list_all, position_from}
 use Rattle.std.specs.Option.{option_map}
 use borrow.Author.Tests.{eqb-true, ltb-true, leb-true}
@@ -8,16 +8,16 @@ use Rattle.tx_code.specs.Objects.{ObjectView, BodyView, FuncView, GlobalView, Cl
 use Rattle.tx_code.specs.WellFormed.{is_defined, is_no_except, is_name, is_name_or_none, named_by_body, body_fits, some_fits, func_fits, global_fits, class_fits, cell_fits, is_count}
 use Rattle.tx_code.specs.Renaming.{Numbering, renamed_body}
 use Rattle.tx_code.specs.Program.{func_address, global_address}
-use Rattle.tx_code.specs.Linked.{absent, name_in, kept_funcs, kept_classes, global_defs, image_func, image_class, image_cell, image_cells, is_main_def, numbering, numbering_at, plain_body, no_body, or_none, rounded, class_number, func_number, global_number, cell_value, is_string, is_defined_global}
+use Rattle.tx_code.specs.Linked.{absent, name_in, kept_funcs, kept_classes, global_defs, image_func, image_class, image_cell, image_cells, is_main_def, numbering, numbering_at, plain_body, no_body, or_none, rounded, class_number, func_number, cell_value, is_string, is_defined_global}
 use Rattle.link_faults.specs.Ranks.{Known}
 use Rattle.link_faults.proofs.Ascending.{and_left, and_right}
 use Rattle.link_faults.proofs.ListedEntries.{AllKnown}
 use Rattle.link_tables.specs.declared.renamed.Numbers.{Numbers}
-use Rattle.link_tables.specs.Homes.{HomeView, homes, start_of}
+use Rattle.link_tables.specs.Homes.{HomeView, homes}
 use Rattle.link_tables.specs.Found.{FuncRow, func_of_row, func_symbol_of, row_of_func, funcs_in, kept_rows, GlobalRow, global_of_row, row_of_global, globals_in, ClassRow, class_of_row, class_symbol_of, row_of_class, classes_in, kept_class_rows}
 use Rattle.link_tables.specs.Symbols.{comes_again}
 use Rattle.link_tables.specs.Renamed.{numbering_in, told}
-use Rattle.link_tables.proofs.NamePlaces.{StandsAt, Each, nil, also, IsPlaced, each_append}
+use Rattle.link_tables.proofs.NamePlaces.{Each, nil, also, each_append}
 use Rattle.link_tables.proofs.ByPlace.{globals_are_defs}
 use Rattle.link_tables.proofs.FoundRows.{IsKnownHome, all_homes, each_of_all, kept_func_rows, kept_class_rows_are}
 use Rattle.link_parts.specs.Parts.{cell_number, cell_told, cells_told, class_told, func_told, is_main_row}

@@ -1,13 +1,13 @@
 -- The types by ranks are those that the kept bodies name.
-use Rattle.std.proofs.Common.{Bool, true, false, ◌≡◌, ◌<◌, ℕ, suc, zero, ◌+◌, List, [], ◌∷◌, ◌++◌, map, length, refl, sym, ap, ◌∙◌, Option, Some, None, ◌&&◌, nat_lt, slice_get, slice_index}
-use Rattle.std.specs.List.{All, flat_map, list_all, position_from}
+use Rattle.std.proofs.Common.{Bool, true, ◌≡◌, ◌<◌, ℕ, suc, zero, ◌+◌, List, [], ◌∷◌, ◌++◌, map, length, refl, sym, ap, ◌∙◌, Option, Some, None, nat_lt, slice_get, slice_index}
+use Rattle.std.specs.List.{All, flat_map, list_all}
 use Rattle.std.specs.Option.{option_map, option_map_or}
 use borrow.Author.Tests.{ltb-true}
 use Rattle.tx_code.specs.declared.instr.Instr.{Instr}
 use Rattle.tx_code.specs.declared.instr.Instr.TheVariants.{CallIndirect, TCallIndirect, NewException}
 use Rattle.tx_code.specs.Objects.{ObjectView, BodyView}
-use Rattle.tx_code.specs.WellFormed.{ascends, bytes_lt, is_name, named_by, named_by_row, named_by_body, body_fits, some_fits}
-use Rattle.tx_code.specs.Linked.{name_in, kept_funcs, named_types, types_in_body, types_in_def, types_named, type_number}
+use Rattle.tx_code.specs.WellFormed.{ascends, bytes_lt, is_name, named_by, named_by_row, named_by_body, some_fits}
+use Rattle.tx_code.specs.Linked.{name_in, named_types, types_in_body, types_in_def, types_named, type_number}
 use Rattle.link_faults.specs.Ranks.{Known, is_listed, names_of, rank_of}
 use Rattle.link_faults.specs.Unlisted.{AreMarks}
 use Rattle.link_faults.proofs.Ascending.{and_left, and_right}
@@ -15,8 +15,7 @@ use Rattle.link_faults.proofs.FirstClaims.{inside}
 use Rattle.link_faults.proofs.ListedEntries.{all_of_append}
 use Rattle.link_tables.specs.Homes.{HomeView, homes, start_of}
 use Rattle.link_tables.specs.Found.{FuncRow, func_of_row, funcs_in, kept_rows}
-use Rattle.link_tables.specs.Renamed.{told}
-use Rattle.link_tables.proofs.NamePlaces.{StandsAt, Each, nil, also, name_at_place, get_map, get_there}
+use Rattle.link_tables.proofs.NamePlaces.{Each, also, name_at_place, get_map, get_there}
 use Rattle.link_tables.proofs.ByPlace.{listed_here}
 use Rattle.link_tables.proofs.FoundRows.{IsKnownHome, each_of_all, kept_func_rows}
 use Rattle.link_parts.specs.Types.{marked, number_in, ranks_in_body, ranks_in_some, ranks_in_row, ranks_in_rows}

@@ -1,5 +1,5 @@
 -- Bodies by numberings that agree on the names of an object.
-use Rattle.std.proofs.Common.{Bool, true, false, ◌≡◌, ◌<◌, ℕ, List, [], ◌∷◌, ◌++◌, map, length, refl, sym, ap, ◌∙◌, arith, Option, Some, None, ◌&&◌, nat_eq, nat_lt, cond, if◌then◌else◌}
+use Rattle.std.proofs.Common.{Bool, true, false, ◌≡◌, ◌<◌, ℕ, List, [], ◌∷◌, ◌++◌, map, refl, ap, ◌∙◌, nat_eq, nat_lt, if◌then◌else◌}
 use Rattle.std.specs.List.{list_all, flat_map}
 use borrow.Author.Tests.{ltb-true}
 use Rattle.tx_code.specs.declared.instr.Instr.{Instr}

@@ -1,5 +1,5 @@
 -- The parts of an image by tables of numbers.
-use Rattle.std.specs.Prelude.{Bool, true, ◌≡◌, ℕ, zero, suc, ◌+◌, ◌-◌, ◌%◌, ◌^◌, List, [], ◌∷◌, ◌++◌, map, Option, unwrap_or, length}
+use Rattle.std.specs.Prelude.{Bool, true, ◌≡◌, ℕ, zero, suc, ◌+◌, ◌-◌, ◌%◌, ◌^◌, List, [], ◌∷◌, ◌++◌, map, unwrap_or, length}
 use Rattle.std.specs.Option.{option_map}
 use Rattle.tx_events.specs.declared.GlobalCell.{GlobalCell}
 use Rattle.tx_code.specs.declared.object.ObjCell.{ObjCell}

@@ -1,5 +1,5 @@
 -- Tables that tell what the names of objects stand for.
-use Rattle.std.specs.Prelude.{Bool, true, ◌≡◌, ◌<◌, ℕ, ◌+◌, List, Option, Some, length, slice_get}
+use Rattle.std.specs.Prelude.{true, ◌≡◌, ◌<◌, ℕ, ◌+◌, List, Option, Some, length, slice_get}
 use Rattle.std.specs.List.{list_any}
 use Rattle.std.specs.Str.{bytes_eq}
 use Rattle.tx_code.specs.Objects.{ObjectView}

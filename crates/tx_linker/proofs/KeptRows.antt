@@ -1,5 +1,5 @@
 -- What the rows of definitions keep: their ranks and places are within their tables.
-use Rattle.std.proofs.Common.{Bool, true, false, ◌≡◌, ◌<◌, ◌≤◌, ℕ, suc, zero, ◌+◌, ◌^◌, List, [], ◌∷◌, ◌++◌, map, take, length, refl, sym, ap, ◌∙◌, arith, Option, Some, None, Result, Ok, Err, cond, nat_lt, length-append}
+use Rattle.std.proofs.Common.{Bool, true, false, ◌≡◌, ◌<◌, ◌≤◌, ℕ, suc, ◌+◌, List, [], ◌∷◌, ◌++◌, map, length, refl, sym, ap, ◌∙◌, arith, Result, Ok, Err, nat_lt, length-append}
 use Rattle.std.specs.Prelude.{IfOk}
 use Rattle.std.specs.List.{All, flat_map, list_all}
 use borrow.Author.Tests.{ltb-true}
@@ -11,15 +11,14 @@ use Rattle.tx_code.specs.WellFormed.{IsObject}
 use Rattle.tx_code.specs.Linked.{name_in, rounded}
 use Rattle.link_faults.specs.Ranks.{AreNames, Known, is_listed, names_of, rank_of}
 use Rattle.link_faults.proofs.Ascending.{and_left, and_right}
-use Rattle.link_faults.proofs.ListedEntries.{AllKnown, none, some, all_known, each_known, rank_within}
+use Rattle.link_faults.proofs.ListedEntries.{AllKnown, some, all_known, each_known, rank_within}
 use Rattle.link_tables.specs.declared.homes.Home.{Home}
 use Rattle.link_tables.specs.declared.found.FoundFunc.{FoundFunc}
-use Rattle.link_tables.specs.declared.found.FoundGlobal.{FoundGlobal}
 use Rattle.link_tables.specs.declared.found.FoundClass.{FoundClass}
 use Rattle.link_tables.specs.declared.symbols.Symbol.{Symbol}
 use Rattle.link_tables.specs.declared.symbols.Numbered.{Numbered}
 use Rattle.link_tables.specs.Homes.{HomeView, IsHome, home_view, homes}
-use Rattle.link_tables.specs.Found.{FuncRow, func_row, func_symbol_of, funcs_in, kept_rows, GlobalRow, global_row, globals_in, ClassRow, class_row, class_symbol_of, classes_in, kept_class_rows, numbered, placed}
+use Rattle.link_tables.specs.Found.{FuncRow, func_row, funcs_in, kept_rows, GlobalRow, globals_in, ClassRow, class_row, classes_in, kept_class_rows, numbered, placed}
 use Rattle.link_tables.proofs.NamePlaces.{Each, nil, also, place_within}
 use Rattle.link_tables.proofs.ByPlace.{IsSymbol, IsFuncRow, IsGlobalRow, IsClassRow, listed_here}
 use Rattle.link_tables.proofs.FoundRows.{all_homes, found_func_rows, found_global_rows, found_class_rows, kept_func_rows, kept_class_rows_are}

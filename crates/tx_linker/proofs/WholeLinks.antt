@@ -1,28 +1,26 @@
 -- Objects that can be linked have an image, which is whole.
-use Rattle.std.proofs.Common.{Bool, true, false, ◌≡◌, ◌<◌, ◌≤◌, ℕ, suc, zero, ◌+◌, ◌^◌, List, [], ◌∷◌, ◌++◌, map, length, refl, sym, ap, ◌∙◌, arith, Option, Some, None, ◌&&◌, cond, nat_lt, length-append}
-use Rattle.std.specs.List.{All, flat_map, list_all, position_from, sum_by}
+use Rattle.std.proofs.Common.{Bool, true, false, ◌≡◌, ◌<◌, ◌≤◌, ℕ, ◌+◌, ◌^◌, List, [], ◌∷◌, ◌++◌, map, length, refl, sym, ap, ◌∙◌, arith, Option, None, cond, nat_lt, length-append}
+use Rattle.std.specs.List.{All, flat_map, list_all, position_from}
 use Rattle.std.specs.Global.{Vec}
 use Rattle.std.proofs.lemmas.List.{length-map}
 use Rattle.std.proofs.lemmas.List.Elements.{All-cons}
 use borrow.Author.Tests.{ltb-true}
-use Rattle.tx_code.specs.declared.object.Object.{Object}
-use Rattle.tx_code.specs.Objects.{ObjectView, ClassView, bytes_of, object_view}
+use Rattle.tx_code.specs.Objects.{ObjectView, ClassView, bytes_of}
 use Rattle.tx_code.specs.WellFormed.{IsObject, ascends, ascends_from, class_fits}
 use Rattle.tx_code.specs.Images.{ImageView, IsImage}
 use Rattle.tx_code.specs.Linked.{ImageOf, class_number, end_of, func_number, global_defs, global_number, is_main_def, kept_funcs, type_number, types_named}
 use Rattle.link_faults.specs.Answers.{Links}
-use Rattle.link_faults.specs.Ranks.{AreNames, Known, names_of, rank_of}
+use Rattle.link_faults.specs.Ranks.{names_of, rank_of}
 use Rattle.link_faults.specs.Unlisted.{AreMarks}
 use Rattle.link_faults.proofs.Ascending.{and_left, and_right}
-use Rattle.link_faults.proofs.ListedEntries.{AllKnown, none, some}
+use Rattle.link_faults.proofs.ListedEntries.{AllKnown, some}
 use Rattle.link_tables.specs.declared.homes.Home.{Home}
 use Rattle.link_tables.specs.declared.found.FoundGlobal.{FoundGlobal}
 use Rattle.link_tables.specs.declared.symbols.Numbered.{Numbered}
 use Rattle.link_tables.specs.Symbols.{TellsDefs, comes_again}
-use Rattle.link_tables.specs.Homes.{HomeView, home_view, homes, names_at, start_of}
-use Rattle.link_tables.specs.Renamed.{told}
-use Rattle.link_tables.specs.Found.{FuncRow, func_row, func_of_row, func_symbol_of, funcs_in, kept_rows, global_row, global_of_row, globals_in, ClassRow, class_row, class_of_row, class_symbol_of, row_of_class, classes_in, kept_class_rows, numbered, placed}
-use Rattle.link_tables.proofs.NamePlaces.{Each, nil, also, names_flat}
+use Rattle.link_tables.specs.Homes.{HomeView, home_view, homes, names_at}
+use Rattle.link_tables.specs.Found.{func_row, func_of_row, func_symbol_of, funcs_in, kept_rows, global_row, global_of_row, globals_in, ClassRow, class_row, class_symbol_of, row_of_class, classes_in, kept_class_rows, numbered, placed}
+use Rattle.link_tables.proofs.NamePlaces.{Each, also, names_flat}
 use Rattle.link_tables.proofs.ByPlace.{globals_are_defs}
 use Rattle.link_tables.proofs.FoundRows.{each_of_all, known_at, kept_func_rows, kept_class_rows_are, found_global_rows, all_homes, class_named}
 use Rattle.link_tables.proofs.Told.{func_there, class_there, global_there}
@@ -31,7 +29,7 @@ use Rattle.link_parts.specs.Types.{marked, number_in, ranks_in_rows}
 use Rattle.link_parts.specs.Told.{AreTypes, TellsEach}
 use Rattle.link_parts.proofs.RowParts.{GlobalStands, globals_stand, main_is}
 use Rattle.link_parts.proofs.RowTypes.{numbers_tell, types_are}
-use Rattle.link_laws.proofs.WholeImages.{AllObjects, all_objects, few_kept, few_image, starts_image, slots_image, size_image}
+use Rattle.link_laws.proofs.WholeImages.{all_objects, few_kept, few_image, starts_image, slots_image, size_image}
 use Rattle.link_laws.proofs.WholeCells.{cells_image}
 use Rattle.link_laws.proofs.WholeBases.{bases_image}
 use Rattle.link_laws.proofs.MainThere.{main_there, position_there}

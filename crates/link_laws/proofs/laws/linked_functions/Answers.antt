@@ -1,6 +1,3 @@
-use Rattle.std.proofs.Common.{◌∙◌, ap, arith, length}
-use Rattle.std.proofs.lemmas.List.{length-map}
-use Rattle.tx_code.specs.Linked.{image_func, kept_funcs}
 use Rattle.link_laws.proofs.WholeImages.{all_objects, few_image, starts_image, slots_image}
 use Rattle.link_laws.proofs.laws.linked_functions.Goals as goal
 

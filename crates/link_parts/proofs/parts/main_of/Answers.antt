@@ -1,5 +1,4 @@
-use Rattle.std.proofs.Common.{◌≡◌, ◌+◌, ℕ, Some, arith, sym, ap, ◌∙◌, map, take}
-use Rattle.std.specs.List.{list_any}
+use Rattle.std.proofs.Common.{◌≡◌, ◌+◌, ℕ, Some, arith, sym, ap, ◌∙◌, map}
 use Rattle.link_tables.specs.Found.{func_row}
 use Rattle.link_parts.specs.Parts.{is_main_row}
 use Rattle.link_faults.proofs.KeptDefinitions.{whole}

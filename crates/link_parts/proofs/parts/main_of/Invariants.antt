@@ -1,4 +1,4 @@
-use Rattle.std.proofs.Common.{Bool, true, false, ◌≡◌, map, take}
+use Rattle.std.proofs.Common.{false, ◌≡◌, map, take}
 use Rattle.std.specs.List.{list_any}
 use Rattle.link_tables.specs.Found.{func_row}
 use Rattle.link_parts.specs.Parts.{is_main_row}

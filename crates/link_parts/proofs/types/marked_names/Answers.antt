@@ -1,4 +1,4 @@
-use Rattle.std.proofs.Common.{◌+◌, ap, arith, ◌∙◌}
+use Rattle.std.proofs.Common.{◌+◌, ap, arith}
 use Rattle.link_parts.proofs.PartSteps.{marked_step}
 use Rattle.link_parts.proofs.types.marked_names.Goals as goal
 

@@ -1,4 +1,4 @@
-use Rattle.std.proofs.Common.{◌≡◌, ◌<◌, ◌≤◌, ◌+◌, ◌^◌, ◌∙◌, ℕ, List, [], Some, None, map, length, sym, ap, arith}
+use Rattle.std.proofs.Common.{◌∙◌, map, ap}
 use Rattle.link_tables.specs.Found.{class_row}
 use Rattle.link_parts.specs.Parts.{class_told}
 use Rattle.link_parts.proofs.RowParts.{classes_are}

@@ -1,4 +1,4 @@
-use Rattle.std.proofs.Common.{◌≡◌, ◌<◌, ◌≤◌, ◌+◌, ◌^◌, ◌∙◌, ℕ, List, [], Some, None, map, length, sym, ap, arith}
+use Rattle.std.proofs.Common.{◌∙◌, map, ap, arith}
 use Rattle.link_tables.specs.Found.{global_row}
 use Rattle.link_parts.specs.Parts.{cells_told}
 use Rattle.link_parts.proofs.RowParts.{cells_are}

@@ -1,4 +1,3 @@
-use Rattle.tx_code.specs.Objects.{object_view}
 use Rattle.link_faults.specs.Answers.{Links}
 use Rattle.tx_linker.specs.Kept.{objects_of}
 use Rattle.tx_linker.specs.Parts.{parts_view}

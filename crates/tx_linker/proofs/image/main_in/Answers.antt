@@ -1,4 +1,4 @@
-use Rattle.std.proofs.Common.{◌≡◌, ◌<◌, ◌≤◌, ◌+◌, ◌^◌, ◌∙◌, ℕ, List, [], Some, None, map, length, sym, ap, arith}
+use Rattle.std.proofs.Common.{◌∙◌, map, sym, ap}
 use Rattle.std.specs.List.{position_from}
 use Rattle.link_tables.specs.Found.{func_row}
 use Rattle.link_parts.specs.Parts.{is_main_row}

@@ -1,4 +1,4 @@
-use Rattle.std.proofs.Common.{◌≡◌, ◌<◌, ◌≤◌, ◌+◌, ◌^◌, ◌∙◌, ℕ, List, [], Some, None, map, length, sym, ap, arith}
+use Rattle.std.proofs.Common.{map}
 use Rattle.tx_code.specs.Objects.{bytes_of}
 use Rattle.link_parts.specs.Told.{TellNames}
 use Rattle.tx_linker.specs.Kept.{objects_of}

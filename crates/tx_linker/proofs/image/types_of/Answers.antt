@@ -1,4 +1,4 @@
-use Rattle.std.proofs.Common.{◌≡◌, ◌<◌, ◌≤◌, ◌+◌, ◌^◌, ◌∙◌, ℕ, List, [], Some, None, map, length, sym, ap, arith}
+use Rattle.std.proofs.Common.{◌∙◌, map, length, ap}
 use Rattle.tx_code.specs.Objects.{bytes_of}
 use Rattle.link_parts.specs.Types.{marked}
 use Rattle.tx_linker.proofs.KeptRows.{if_ok}

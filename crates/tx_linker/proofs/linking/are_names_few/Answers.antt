@@ -1,4 +1,4 @@
-use Rattle.std.proofs.Common.{◌≡◌, ◌<◌, ◌≤◌, ◌+◌, ◌∙◌, arith, ap, sym, length, map}
+use Rattle.std.proofs.Common.{◌≡◌, ◌+◌, ◌∙◌, arith, sym, length, map}
 use Rattle.std.specs.List.{flat_map}
 use Rattle.std.proofs.lemmas.Bool.{lt-ltb}
 use Rattle.tx_code.specs.Objects.{object_view}

@@ -1,4 +1,4 @@
-use Rattle.std.proofs.Common.{◌≡◌, ◌<◌, ◌≤◌, ◌+◌, ◌^◌, ◌∙◌, ℕ, List, [], Some, None, map, length, sym, ap, arith}
+use Rattle.std.proofs.Common.{◌∙◌, map, ap}
 use Rattle.link_tables.specs.Found.{class_row, class_symbol_of, numbered}
 use Rattle.tx_linker.proofs.KeptRows.{if_ok}
 use Rattle.tx_linker.proofs.WholeLinks.{classes_few, class_defs_fit, classes_told, ranks_fit}

@@ -1,4 +1,4 @@
-use Rattle.std.proofs.Common.{◌≡◌, ◌<◌, ◌≤◌, ◌+◌, ◌^◌, ◌∙◌, ℕ, List, [], Some, None, map, length, sym, ap, arith}
+use Rattle.std.proofs.Common.{◌∙◌, map, ap}
 use Rattle.link_tables.specs.Found.{func_row, func_symbol_of, numbered}
 use Rattle.tx_linker.proofs.KeptRows.{if_ok}
 use Rattle.tx_linker.proofs.WholeLinks.{funcs_few, func_defs_fit, funcs_told, ranks_fit}

@@ -1,4 +1,4 @@
-use Rattle.std.proofs.Common.{◌≡◌, ◌<◌, ◌≤◌, ◌+◌, ◌^◌, ◌∙◌, ℕ, List, [], Some, None, map, length, sym, ap, arith}
+use Rattle.std.proofs.Common.{◌∙◌, map, ap, arith}
 use Rattle.link_tables.specs.Found.{global_row, placed}
 use Rattle.tx_linker.proofs.KeptRows.{if_ok}
 use Rattle.tx_linker.proofs.WholeLinks.{size_is, global_defs_fit, globals_told, ranks_fit}
