@@ -1,36 +1,5 @@
 -- What the trace gains in a turn is the items of the step that the order gains.
-use Rattle.std.proofs.Common.{
-  ℕ,
-  ℤ,
-  pos,
-  negsuc,
-  zero,
-  suc,
-  ◌≡◌,
-  ◌==◌,
-  ◌+◌,
-  Bool,
-  true,
-  false,
-  cond,
-  refl,
-  ap,
-  sym,
-  ◌∙◌,
-  subst,
-  length,
-  List,
-  [],
-  ◌∷◌,
-  ◌++◌,
-  append_assoc,
-  append-nil,
-  Option,
-  Some,
-  None,
-  is_some,
-  arith,
-}
+use Rattle.std.proofs.Common.{ℕ, ℤ, pos, negsuc, ◌≡◌, ◌==◌, Bool, true, false, cond, refl, ap, sym, ◌∙◌, subst, length, List, [], ◌∷◌, ◌++◌, append_assoc, append-nil, Option, Some, None, is_some, arith}
 use Rattle.std.specs.Prelude.{nat_lt, not, ◌&&◌, ◌||◌}
 use Rattle.std.proofs.lemmas.Bool.{true≢false, false≢true, eq-eqb, ne_eqb}
 use Rattle.choosers.specs.declared.Clash.{Clash}
@@ -60,68 +29,24 @@ use Rattle.tx_events.specs.declared.Event.TheVariants.{
 }
 use Rattle.tx_events.specs.declared.Item.{Item}
 use Rattle.tx_events.specs.declared.What.{What}
-use Rattle.tx_events.specs.declared.What.TheVariants.{Read, Write, Enter, Leave, Spawned, Joined}
+use Rattle.tx_events.specs.declared.What.TheVariants.{Read, Write, Enter, Leave, Spawned}
 use Rattle.tx_events.specs.declared.Reply.TheVariants.{Nothing, Loaded}
 use Rattle.tx_events.specs.declared.TurnKind.TheVariants.{Ran, JoinWait}
-use Rattle.tx_events.specs.Thread.{Thread, Open, Atomic, Sync, atomics, blocks_after, may_come, rest_of, in_sync, is_empty}
+use Rattle.tx_events.specs.Thread.{Thread, Open, Atomic, Sync, atomics, may_come, rest_of, in_sync, is_empty}
 use Rattle.tx_events.specs.Memory.{update, MemoryLayout, can_access, word_of, word_bound, load, store}
-use Rattle.tx_events.specs.Alone.{
-  Inner,
-  inner_by,
-  inner_load,
-  inner_store,
-  leave,
-  raise,
-  newest,
-  begin,
-  BlockStep,
-  Goes,
-  Leaves,
-  Halts,
-  Never,
-  Inside,
-  at_start,
-  goes_on,
-  is_over,
-  Alone,
-  outcome,
-}
-use Rattle.tx_events.specs.World.{World, Alive, alive, Step, EventStep, target, SilentSteps}
+use Rattle.tx_events.specs.Alone.{Inner, inner_by, leave, raise, newest, BlockStep, Leaves, Halts, Inside, at_start, goes_on, is_over, Alone, outcome}
+use Rattle.tx_events.specs.World.{World, Alive, EventStep, target}
 use Rattle.tx_events.proofs.BlockRuns.{update_same}
-use Rattle.tx_events.proofs.OneReplay.{From, at, then, inner_or, same_before, same_outcome, loud}
-use Rattle.tx_serial.specs.Machine.{Machine, Local, Tx, NoTx, OpenTx, GivingUp, Closing, Save, no_save, least, blocker, lock_owner, busy, clash_of, hand, note, forget, is_noted}
-use Rattle.tx_serial.specs.Turn.{
-  Turned,
-  ran,
-  stays,
-  steps,
-  number_of,
-  load_out,
-  store_out,
-  joins,
-  begins,
-  sync_in,
-  sync_idle,
-  halts,
-  clashes,
-  closes,
-  load_in,
-  store_in,
-  outermost,
-  commits,
-  cancels_by,
-  cancels,
-  raises,
-  in_does,
-  out_does,
-}
+use Rattle.tx_events.proofs.OneReplay.{From, at, then, inner_or, same_outcome}
+use Rattle.tx_serial.specs.Machine.{Machine, Local, OpenTx, Save, no_save, least, blocker, lock_owner, busy, clash_of, hand, note, is_noted}
+use Rattle.tx_serial.specs.Turn.{Turned, ran, stays, steps, number_of, load_out, store_out, joins, sync_in, sync_idle, halts, clashes, closes, load_in, store_in, outermost, commits, cancels_by, cancels, raises, in_does, out_does}
 use Rattle.tx_serial.specs.Kinds.{is_ran}
 use Rattle.tx_serial.specs.Run.{is_open}
 use Rattle.tx_serial.specs.Order.{enters_order, open_in}
-use Rattle.tx_serial.specs.Shows.{ShowsThread, ShowsLocal, Even, Began, InBlock}
+use Rattle.tx_serial.specs.Shows.{ShowsThread, Even}
 use Rattle.tx_serial.specs.Trace.{item_if, access_items, inside_items, leave_items, join_items, step_items}
 use Rattle.tx_serial.proofs.WorldAgreement.{Going}
-use Rattle.turn_traces.specs.Keeping.{Kept, named, gained, items_told, block_so_far, whole_block, access_outside}
+use Rattle.turn_traces.specs.Keeping.{Kept, gained, items_told, block_so_far, whole_block, access_outside}
 
 empty_is : (bs : List Open) (n : ℕ) → n ≡ length bs → (n == 0) ≡ is_empty bs
 empty_is [] n e = eq-eqb n 0 e

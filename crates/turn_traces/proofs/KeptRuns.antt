@@ -38,22 +38,20 @@ use Rattle.tx_events.specs.declared.End.{End}
 use Rattle.tx_events.specs.declared.TheConstants.{THREAD_LIMIT}
 use Rattle.tx_events.specs.declared.Event.{Event}
 use Rattle.tx_events.specs.declared.Item.{Item}
-use Rattle.tx_events.specs.declared.TurnKind.{TurnKind}
 use Rattle.tx_events.specs.declared.TurnKind.TheVariants.{Idle}
 use Rattle.tx_events.specs.Thread.{Thread, Lawful, atomics, may_come}
-use Rattle.tx_events.specs.Memory.{update, MemoryLayout}
+use Rattle.tx_events.specs.Memory.{MemoryLayout}
 use Rattle.tx_events.specs.World.{World, Alive, Step, Replays, first_world}
 use Rattle.tx_events.proofs.OneReplay.{same_replays}
-use Rattle.tx_events.proofs.BlockRuns.{update_same, update_elsewhere}
 use Rattle.tx_serial.specs.Machine.{Machine, Local, Tx, NoTx, OpenTx, GivingUp, Closing}
-use Rattle.tx_serial.specs.Turn.{Slot, Turned, stays, turn_in, turn, turns, first_machine, first_thread, bare}
+use Rattle.tx_serial.specs.Turn.{Slot, Turned, stays, turn_in, turn, turns, first_machine, first_thread}
 use Rattle.tx_serial.specs.Kinds.{GoesOn}
 use Rattle.tx_serial.specs.Order.{adds, order_after}
 use Rattle.tx_serial.specs.Run.{state_in}
 use Rattle.tx_serial.specs.Sound.{Sound, SoundTx, SoundLocal, SoundThread}
 use Rattle.tx_serial.specs.Shows.{ShowsThread, ShowsLocal}
 use Rattle.tx_serial.specs.Trace.{step_items, items_of, TraceOf}
-use Rattle.tx_serial.proofs.WorldAgreement.{Agreed, Agrees, Going}
+use Rattle.tx_serial.proofs.WorldAgreement.{Agreed, Going}
 use Rattle.tx_serial.proofs.WorldKept.{turn_kept, start_shown}
 use Rattle.tx_serial.proofs.SoundKept.{turn_sound, start_sound}
 use Rattle.tx_serial.proofs.PutBack.{memory_put_back}

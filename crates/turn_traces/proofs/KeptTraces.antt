@@ -1,45 +1,10 @@
 -- What is kept turn by turn is the trace of the order.
-use Rattle.std.proofs.Common.{
-  ℕ,
-  zero,
-  suc,
-  ◌≡◌,
-  ◌==◌,
-  ◌≤◌,
-  ◌⊎◌,
-  inl,
-  inr,
-  Bool,
-  true,
-  false,
-  cond,
-  refl,
-  ap,
-  sym,
-  ◌∙◌,
-  subst,
-  length,
-  List,
-  [],
-  ◌∷◌,
-  ◌++◌,
-  append_assoc,
-  append-nil,
-  Option,
-  Some,
-  None,
-  is_some,
-  arith,
-}
+use Rattle.std.proofs.Common.{ℕ, zero, suc, ◌≡◌, ◌==◌, ◌≤◌, Bool, true, false, cond, refl, ap, sym, ◌∙◌, subst, length, List, [], ◌∷◌, ◌++◌, append_assoc, Option, Some, None, is_some, arith}
 use Rattle.std.specs.Prelude.{not, ◌&&◌, ◌||◌}
-use Rattle.std.specs.Option.{option_map}
-use Rattle.std.proofs.Math.Path.{fun_ext}
-use Rattle.std.proofs.lemmas.Bool.{true≢false, false≢true, eq-eqb, ne_eqb, eqb-true}
+use Rattle.std.proofs.lemmas.Bool.{true≢false, false≢true, eq-eqb, ne_eqb}
 use Rattle.std.proofs.lemmas.List.{append_cancel_left}
-use Rattle.std.proofs.lemmas.Option.{none-some}
 use Rattle.choosers.specs.declared.Clash.{Clash}
 use Rattle.choosers.specs.declared.Choice.{Choice}
-use Rattle.tx_events.specs.declared.BlockKind.{BlockKind}
 use Rattle.tx_events.specs.declared.End.{End}
 use Rattle.tx_events.specs.declared.TheConstants.{THREAD_LIMIT}
 use Rattle.tx_events.specs.declared.Event.{Event}
@@ -63,52 +28,27 @@ use Rattle.tx_events.specs.declared.Item.{Item}
 use Rattle.tx_events.specs.declared.Reply.TheVariants.{Nothing}
 use Rattle.tx_events.specs.declared.TurnKind.{TurnKind}
 use Rattle.tx_events.specs.declared.TurnKind.TheVariants.{Ran, Waited, BlockWait, JoinWait, Rolled, Undone, Released, Idle}
-use Rattle.tx_events.specs.declared.What.TheVariants.{Enter, Leave}
-use Rattle.tx_events.specs.Thread.{Thread, Lawful, Open, Atomic, Answers, atomics, blocks_after, may_come, is_empty, is_silent}
-use Rattle.tx_events.specs.Memory.{update, MemoryLayout, word_bound}
-use Rattle.tx_events.specs.Alone.{Inner, inner_by, BlockStep, Inside, begin, is_over, Alone, outcome}
-use Rattle.tx_events.specs.World.{World, Alive, alive, Step, Replays, EventStep, SilentSteps, first_world}
-use Rattle.tx_events.proofs.OneReplay.{same_before, same_replays, loud}
-use Rattle.tx_events.proofs.BlockRuns.{update_same, update_elsewhere}
+use Rattle.tx_events.specs.declared.What.TheVariants.{Enter}
+use Rattle.tx_events.specs.Thread.{Thread, Lawful, Open, Answers, atomics, blocks_after, may_come, is_empty, is_silent}
+use Rattle.tx_events.specs.Memory.{MemoryLayout, word_bound}
+use Rattle.tx_events.specs.Alone.{Inner, inner_by, Inside, begin, is_over, Alone, outcome}
+use Rattle.tx_events.specs.World.{World, Alive, Step, EventStep, SilentSteps}
+use Rattle.tx_events.proofs.OneReplay.{same_before, loud}
 use Rattle.tx_serial.specs.Machine.{Machine, Local, Tx, NoTx, OpenTx, GivingUp, Closing, Save, least}
-use Rattle.tx_serial.specs.Turn.{Slot, Turned, stays, out_does, in_does, lets_go, gives_back, turn_in, turn, turns, first_machine, first_thread}
-use Rattle.tx_serial.specs.Kinds.{GoesOn, is_ran}
-use Rattle.tx_serial.specs.Order.{enters_order, open_in, adds, order_after}
-use Rattle.tx_serial.specs.Run.{state_in}
-use Rattle.tx_serial.specs.Sound.{Sound, SoundTx, SoundLocal, SoundThread, is_some_save}
-use Rattle.tx_serial.specs.Shows.{ShowsThread, ShowsLocal, ShowsTx, Even, Began, InBlock, saves_of, put_back_by, put_back}
-use Rattle.tx_serial.specs.Trace.{item_if, inside_items, leave_items, step_items, items_of, TraceOf}
-use Rattle.tx_serial.proofs.WorldAgreement.{Agreed, Going}
-use Rattle.tx_serial.proofs.WorldKept.{turn_kept, start_shown}
-use Rattle.tx_serial.proofs.SoundKept.{turn_sound, start_sound}
-use Rattle.tx_serial.proofs.PutBack.{memory_put_back}
-use Rattle.tx_serial.proofs.OrderGains.{order_grows}
-use Rattle.tx_serial.proofs.OneTrace as one
-use Rattle.tx_serial.proofs.KindConditions.{turn_is, idle_exact}
-use Rattle.tx_serial.proofs.HistoryErased.{erase, erase_tx, erase_local, erase_opt, turns_erased, first_erased}
-use Rattle.turn_traces.specs.Keeping.{
-  Kept,
-  nothing_kept,
-  Keeping,
-  not_kept,
-  named,
-  gained,
-  kept_told,
-  items_told,
-  started_told,
-  block_so_far,
-  shown,
-  told_of,
-  told_at,
-  keep_turn,
-  keep,
-}
-use Rattle.turn_traces.proofs.Notes.{Note, no_note, note_in, noted, Reached, noted_laws, Counts}
-use Rattle.turn_traces.proofs.Rows as rows
-use Rattle.turn_traces.proofs.Rows.{InTx, Back, KeptTx}
-use Rattle.turn_traces.proofs.ReachedWorlds.{replays_reached, start_reached, silents_reached}
+use Rattle.tx_serial.specs.Turn.{Turned, out_does, in_does, lets_go, gives_back, turn_in}
+use Rattle.tx_serial.specs.Kinds.{is_ran}
+use Rattle.tx_serial.specs.Order.{enters_order, open_in, adds}
+use Rattle.tx_serial.specs.Sound.{SoundTx, SoundLocal, is_some_save}
+use Rattle.tx_serial.specs.Shows.{ShowsTx, Even, Began, saves_of, put_back_by, put_back}
+use Rattle.tx_serial.specs.Trace.{item_if, inside_items, leave_items, step_items}
+use Rattle.tx_serial.proofs.WorldAgreement.{Going}
+use Rattle.tx_serial.proofs.HistoryErased.{erase, erase_tx, erase_local, erase_opt}
+use Rattle.turn_traces.specs.Keeping.{Kept, named, gained, items_told, block_so_far}
+use Rattle.turn_traces.proofs.Notes.{Note, noted, Reached, Counts}
+use Rattle.turn_traces.proofs.Rows.{InTx, KeptTx}
+use Rattle.turn_traces.proofs.ReachedWorlds.{silents_reached}
 use Rattle.turn_traces.proofs.BlockAccesses.{Bare, bare_inner, bare_run}
-use Rattle.turn_traces.proofs.Gains.{out_gains, in_gains, By, adds_in, block_items, whole}
+use Rattle.turn_traces.proofs.Gains.{out_gains, in_gains, By, block_items, whole}
 
 -- The machine's memory with the transactions put back is the same without the notes.
 

@@ -1,6 +1,5 @@
 -- A thread with its open blocks and its accesses in its state.
-use Rattle.std.proofs.Common.{ℕ, zero, suc, ◌≡◌, ◌==◌, ◌+◌, ◌-◌, Bool, true, false, cond, refl, ap, sym, ◌∙◌, length, List, [], ◌∷◌, ◌++◌, arith}
-use Rattle.std.proofs.lemmas.Bool.{false≢true}
+use Rattle.std.proofs.Common.{ℕ, suc, ◌≡◌, ◌+◌, ◌-◌, true, refl, ap, sym, ◌∙◌, length, List, [], ◌∷◌, ◌++◌, arith}
 use Rattle.tx_events.specs.declared.Event.{Event}
 use Rattle.tx_events.specs.declared.Event.TheVariants.{
   Silent,
@@ -20,10 +19,10 @@ use Rattle.tx_events.specs.declared.Event.TheVariants.{
 }
 use Rattle.tx_events.specs.declared.What.{What}
 use Rattle.tx_events.specs.declared.What.TheVariants.{Read, Write}
-use Rattle.tx_events.specs.Thread.{Thread, Lawful, Open, Atomic, Sync, atomics, blocks_after, may_come, rest_of, in_atomic, in_sync}
+use Rattle.tx_events.specs.Thread.{Thread, Lawful, Open, atomics, blocks_after, may_come, rest_of, in_atomic}
 use Rattle.tx_serial.specs.Bound.{with_more}
 use Rattle.tx_serial.proofs.OpenBlocks.{rest_sync, rest_atomic, kind_atomic}
-use Rattle.turn_traces.specs.Keeping.{Kept, kept_after, with_access, with_atomic, without_atomic}
+use Rattle.turn_traces.specs.Keeping.{Kept, kept_after, without_atomic}
 
 pub record Note : Type 0 where
   pub blocks : List Open

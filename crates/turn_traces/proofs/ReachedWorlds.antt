@@ -1,5 +1,5 @@
 -- In a world to which an order replays each thread is in a state that threads come to.
-use Rattle.std.proofs.Common.{ℕ, ℤ, pos, zero, suc, ◌≡◌, ◌==◌, ◌+◌, ◌<◌, ◌≤◌, ◌^◌, Bool, true, false, cond, refl, ap, sym, ◌∙◌, subst, List, [], ◌∷◌, Option, Some, None, arith}
+use Rattle.std.proofs.Common.{ℕ, pos, zero, suc, ◌≡◌, ◌==◌, ◌<◌, ◌≤◌, ◌^◌, Bool, true, false, cond, refl, ap, sym, subst, List, [], ◌∷◌, Option, Some, None, arith}
 use Rattle.std.specs.Prelude.{nat_lt}
 use Rattle.std.proofs.lemmas.Bool.{ltb-true}
 use Rattle.std.proofs.lemmas.Option.{none-some}
@@ -7,7 +7,7 @@ use Rattle.tx_events.specs.declared.BlockKind.{BlockKind}
 use Rattle.tx_events.specs.declared.BlockKind.TheVariants.{NoExcept, Commit, Cancel}
 use Rattle.tx_events.specs.declared.End.{End}
 use Rattle.tx_events.specs.declared.End.TheVariants.{Trapped}
-use Rattle.tx_events.specs.declared.Trap.TheVariants.{BadAddress, TooManyThreads}
+use Rattle.tx_events.specs.declared.Trap.TheVariants.{BadAddress}
 use Rattle.tx_events.specs.declared.TheConstants.{THREAD_LIMIT}
 use Rattle.tx_events.specs.declared.Event.{Event}
 use Rattle.tx_events.specs.declared.Event.TheVariants.{
@@ -27,29 +27,11 @@ use Rattle.tx_events.specs.declared.Event.TheVariants.{
   Stop,
 }
 use Rattle.tx_events.specs.declared.Reply.{Reply}
-use Rattle.tx_events.specs.declared.Reply.TheVariants.{Nothing, Loaded, Byte, Id}
+use Rattle.tx_events.specs.declared.Reply.TheVariants.{Nothing, Byte, Id}
 use Rattle.tx_events.specs.Thread.{Thread, Lawful, Answers}
 use Rattle.tx_events.specs.Memory.{update, MemoryLayout, can_access, word_of}
-use Rattle.tx_events.specs.Alone.{
-  Inner,
-  inner_by,
-  inner_load,
-  inner_store,
-  leave,
-  raise,
-  newest,
-  begin,
-  BlockStep,
-  Goes,
-  Leaves,
-  Halts,
-  Never,
-  Inside,
-  at_start,
-  goes_on,
-  outcome,
-}
-use Rattle.tx_events.specs.World.{Alive, alive, World, Step, Replays, EventStep, Joins, BlockEffect, target, byte_of, SilentSteps, none, one_more, first_world, only_first}
+use Rattle.tx_events.specs.Alone.{Inner, inner_by, inner_load, inner_store, leave, raise, newest, BlockStep, Goes, Leaves, Halts, Never, Inside, at_start, goes_on, outcome}
+use Rattle.tx_events.specs.World.{Alive, alive, World, Replays, EventStep, Joins, BlockEffect, target, byte_of, SilentSteps, none, one_more, first_world, only_first}
 use Rattle.tx_events.proofs.WordLemmas.{read_fits, byte_int}
 
 module _ {S : Type 0} (R : S → Type 0) (a : Thread S) (laws : Lawful S R a) (p : MemoryLayout) (small : p.limit ≤ THREAD_LIMIT) where

@@ -2,7 +2,6 @@
 use Rattle.std.proofs.Common.{ℕ, ℤ, pos, negsuc, ◌≡◌, ◌==◌, Bool, true, false, cond, refl, ap, ◌∙◌, Option, Some, None}
 use Rattle.std.specs.Prelude.{not, ◌&&◌, ◌||◌}
 use Rattle.std.proofs.Math.Path.{fun_ext}
-use Rattle.choosers.specs.declared.Clash.{Clash}
 use Rattle.tx_events.specs.World.{target}
 use Rattle.tx_serial.specs.Machine.{
   Machine,
@@ -28,7 +27,7 @@ use Rattle.tx_serial.specs.Machine.{
   waits_at,
   clash_of,
 }
-use Rattle.tx_serial.proofs.HistoryErased.{erase, erase_tx, erase_local, erase_opt}
+use Rattle.tx_serial.proofs.HistoryErased.{erase, erase_tx, erase_opt}
 
 module _ {S X : Type 0} where
   birth_same : (o : Option (Local (S × X))) → birth_of (erase_opt o) ≡ birth_of o

@@ -1,4 +1,4 @@
-use Rattle.std.proofs.Common.{◌≡◌, ◌<◌, ◌∙◌, ap, sym, refl, length, append-nil, arith}
+use Rattle.std.proofs.Common.{◌<◌, ◌∙◌, ap, sym, refl, length, append-nil, arith}
 use Rattle.tx_events.specs.declared.TurnKind.TheVariants.{Rolled}
 use Rattle.tx_events.specs.Memory.{update}
 use Rattle.turn_traces.specs.Keeper.{kept_at}
