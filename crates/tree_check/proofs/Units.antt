@@ -1,5 +1,5 @@
 -- Units and programs, body by body and unit by unit.
-use Rattle.std.proofs.Common.{◌≡◌, ◌∙◌, ◌<◌, ◌≤◌, ◌⊎◌, inl, inr, ◌↔◌, IsTrue, IfOk, ℕ, suc, ◌+◌, Bool, true, false, List, [], ◌∷◌, Option, Some, None, Result, Ok, Err, slice_get, get_or, length, ap, sym, subst, arith, refl}
+use Rattle.std.proofs.Common.{◌≡◌, ◌∙◌, ◌<◌, ◌≤◌, inl, inr, ◌↔◌, IsTrue, IfOk, ℕ, ◌+◌, Bool, true, false, List, Some, None, Result, Ok, Err, slice_get, get_or, length, ap, sym, subst, arith, refl}
 use Rattle.std.specs.declared.alloc.AllocError.{AllocError}
 use Rattle.std.proofs.lemmas.Bool.{cases_lt}
 use Rattle.std.proofs.lemmas.Option.{slice_get_within, slice_get_read}
@@ -9,7 +9,7 @@ use Rattle.cpp_tree.specs.declared.program.TFunc.{TFunc}
 use Rattle.cpp_tree.specs.declared.program.UnitTree.{UnitTree}
 use Rattle.cpp_tree.specs.declared.program.Program.{Program}
 use Rattle.cpp_tree.specs.Arena.{IsOrdered, IsForest, trees_of, tree_at}
-use Rattle.cpp_tree.specs.WellFormed.{WellFormedBody, body_fits, setting_of, HasBody, WellFormedUnit, WellFormed}
+use Rattle.cpp_tree.specs.WellFormed.{body_fits, setting_of, HasBody, WellFormedUnit, WellFormed}
 use Rattle.cpp_tree.proofs.BodyTests.{test_is_body, body_is_test}
 use Rattle.tree_nodes.specs.Lists.{OwnRoots}
 use Rattle.tree_check.specs.Walk.{HaveBodies, HaveUnits}

@@ -1,4 +1,4 @@
-use Rattle.std.proofs.Common.{◌≡◌, ◌∙◌, [], length, map, sym, rules}
+use Rattle.std.proofs.Common.{◌≡◌, ◌∙◌, [], length, sym, rules}
 use Rattle.std.proofs.lemmas.List.{length-map}
 use Rattle.cpp_types.specs.Typ.{typ_of}
 use Rattle.cpp_tree.specs.Units.{func_of}

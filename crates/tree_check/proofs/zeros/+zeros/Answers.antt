@@ -1,10 +1,10 @@
-use Rattle.std.proofs.Common.{◌≡◌, ◌∙◌, Option, Some, true, ap, sym, rules}
+use Rattle.std.proofs.Common.{◌≡◌, ◌∙◌, Some, true, ap, sym, rules}
 use Rattle.std.specs.Prelude.{option_map}
 use Rattle.cpp_types.specs.Typ.{typ_of}
 use Rattle.cpp_types.specs.Class.{classes_of}
 use Rattle.cpp_tree.specs.Arena.{trees_of}
 use Rattle.cpp_tree.specs.Typing.{is_statement_typ}
-use Rattle.cpp_tree.specs.Parts.{Part, part_of}
+use Rattle.cpp_tree.specs.Parts.{part_of}
 use Rattle.cpp_tree.specs.WellFormed.{has_elements, form_to_zero}
 use Rattle.tree_heads.specs.Shown.{part_shown, part_typ}
 use Rattle.tree_check.specs.Walk.{is_zero_piece}
