@@ -7,20 +7,20 @@ ghost use Rattle.cpp_tree.specs.Typing.{unqualified};
 ghost use Rattle.cpp_tree.specs.Arena.{trees_of, tree_at, Adds};
 ghost use Rattle.elab_ctx.specs.Ctx.{ctx_of, work_of};
 ghost use Rattle.elab_ctx.specs.Operands.{operand_in};
-ghost use Rattle.elab_ctx.specs.Says.{Puts, Makes};
+ghost use Rattle.elab_ctx.specs.Says.{Puts};
 ghost use Rattle.elab_rules.specs.Values.{stepped as stepped_of, stored as stored_of, temporary as temporary_of, valued as valued_of};
-ghost use Rattle.elab_rules.specs.Initialising.{bound_by as bound, conversion, initial as initial_of};
+ghost use Rattle.elab_rules.specs.Initialising.{conversion};
 
 use crate::temporaries::temporary;
-use cpp_tree::{ElabFault, TNode, TNodeId};
-use cpp_types::{At, Binding, Conversion, Step, Ty, conversion_between};
+use cpp_tree::{TNode, TNodeId};
+use cpp_types::{At, Conversion, Step, Ty, conversion_between};
 use elab_conv::types::unqualified_type;
 use elab_conv::{stepped, stored, valued};
 use elab_ctx::{Env, Operand, Work, node_at};
 use std::alloc::{AllocError, Global};
 
-// The value of an expression as one of a type, stored.
-fn stored_value(
+/// The value of an expression as one of a type, stored.
+pub fn stored_value(
     alloc: Global,
     nodes: &mut Vec<TNode>,
     step: Step,
@@ -37,8 +37,8 @@ fn stored_value(
     stored(alloc, nodes, at, bare, value)
 }
 
-// A temporary of a type that has the value of an expression.
-fn bound_temporary(
+/// A temporary of a type that has the value of an expression.
+pub fn bound_temporary(
     alloc: Global,
     work: &mut Work,
     step: Step,
@@ -54,23 +54,6 @@ fn bound_temporary(
     temporary(alloc, work, &bare, at, init, &[])
 }
 
-/// What a conversion makes of an expression that initialises an object or a reference of a type.
-pub fn bound_by(
-    alloc: Global,
-    env: &Env,
-    work: &mut Work,
-    binding: Binding,
-    step: Step,
-    ty: &Ty,
-    at: At,
-    id: TNodeId,
-) -> Result<TNodeId, AllocError>
-    requires { id.0 < length (trees_of work.old.nodes.items) }
-    ensures { IfOk result (λ r. Puts (trees_of work.old.nodes.items) (trees_of work.new.nodes.items) (work_of work.new) r (bound (ctx_of env.now) (work_of work.old) binding step (typ_of ty.now) at (tree_at (trees_of work.old.nodes.items) id))) }
-{
-    Err(AllocError)
-}
-
 /// The conversion of an expression that initialises an object or a reference of a type.
 pub fn conversion_of(env: &Env, nodes: &Vec<TNode>, ty: &Ty, o: Operand) -> Option<Conversion>
     requires { o.id.0 < length (trees_of nodes.now.items) }
@@ -78,18 +61,4 @@ pub fn conversion_of(env: &Env, nodes: &Vec<TNode>, ty: &Ty, o: Operand) -> Opti
 {
     let node = node_at(nodes, o.id);
     conversion_between(&node.ty, node.cat, o.zero, ty, &env.classes)
-}
-
-/// A scalar's value, or the object that a reference refers to.
-pub fn initial(
-    alloc: Global,
-    env: &Env,
-    work: &mut Work,
-    ty: &Ty,
-    o: Operand,
-) -> Result<TNodeId, ElabFault>
-    requires { o.id.0 < length (trees_of work.old.nodes.items) }
-    ensures { Makes (trees_of work.old.nodes.items) (trees_of work.new.nodes.items) (work_of work.new) result (initial_of (ctx_of env.now) (work_of work.old) (typ_of ty.now) (operand_in (trees_of work.old.nodes.items) o)) }
-{
-    Err(ElabFault::Memory)
 }

@@ -1,18 +1,17 @@
 // Objects of classes from one expression (C++14 8.5 p17, 12.8).
 
-ghost use Rattle.std.specs.Prelude.{◌≡◌, ◌<◌, IfOk, length};
+ghost use Rattle.std.specs.Prelude.{◌≡◌, IfOk};
 ghost use Rattle.cpp_types.specs.Typ.{typ_of};
 ghost use Rattle.cpp_tree.specs.Trees.{node};
 ghost use Rattle.cpp_tree.specs.Arena.{trees_of, trees_at, Adds};
-ghost use Rattle.elab_ctx.specs.Ctx.{ctx_of, work_of};
-ghost use Rattle.elab_ctx.specs.Operands.{operand_in};
-ghost use Rattle.elab_ctx.specs.Says.{Makes, Tells};
-ghost use Rattle.elab_rules.specs.Initialising.{makeable as makeable_of, class_from as class_from_of};
+ghost use Rattle.elab_ctx.specs.Ctx.{ctx_of};
+ghost use Rattle.elab_ctx.specs.Says.{Tells};
+ghost use Rattle.elab_rules.specs.Initialising.{makeable as makeable_of};
 
 use crate::types::traits_at;
 use cpp_tree::{ElabFault, IllRule, TKind, TNode, TNodeId, add_node};
 use cpp_types::{At, Cat, Ty, copy};
-use elab_ctx::{Env, Operand, Work, completion};
+use elab_ctx::{Env, completion};
 use std::alloc::{AllocError, Global};
 
 /// A fault at a place.
@@ -57,19 +56,4 @@ pub fn construct(
             kids,
         },
     )
-}
-
-/// An object of class type from an expression (C++14 8.5 p17): a prvalue of the class is its own initialiser.
-pub fn class_from(
-    alloc: Global,
-    env: &Env,
-    work: &mut Work,
-    ty: &Ty,
-    at: At,
-    o: Operand,
-) -> Result<TNodeId, ElabFault>
-    requires { o.id.0 < length (trees_of work.old.nodes.items) }
-    ensures { Makes (trees_of work.old.nodes.items) (trees_of work.new.nodes.items) (work_of work.new) result (class_from_of (ctx_of env.now) (work_of work.old) (typ_of ty.now) at (operand_in (trees_of work.old.nodes.items) o)) }
-{
-    Err(ElabFault::Memory)
 }

@@ -5,18 +5,15 @@ ghost use Rattle.cpp_types.specs.Typ.{typ_of};
 ghost use Rattle.cpp_tree.specs.Trees.{node, two, typ_in, cat_of, kids_of};
 ghost use Rattle.cpp_types.specs.Class.{classes_of};
 ghost use Rattle.cpp_tree.specs.Arena.{trees_of, tree_at, Adds};
-ghost use Rattle.elab_ctx.specs.Ctx.{ctx_of, work_of};
-ghost use Rattle.elab_ctx.specs.Operands.{operand_in};
-ghost use Rattle.elab_ctx.specs.Says.{Puts};
 ghost use Rattle.elab_rules.specs.Values.{place_of};
 ghost use Rattle.elab_rules.specs.Objects.{copies as copies_by};
-ghost use Rattle.elab_rules.specs.Initialising.{as_base as as_base_of, as_source as as_source_of, building as building_of, same_number as same_number_of, copied_in_place as copied_in_place_of};
+ghost use Rattle.elab_rules.specs.Initialising.{as_base as as_base_of, as_source as as_source_of, building as building_of, same_number as same_number_of};
 
 use crate::objects::copies;
 use crate::types::class_number;
 use cpp_tree::{TKind, TNode, TNodeId, add_binary, add_node, add_unary};
 use cpp_types::{At, Cat, Shape, Ty, copy};
-use elab_ctx::{Env, Operand, Work, kids_at, node_at};
+use elab_ctx::{Env, kids_at, node_at};
 use std::alloc::{AllocError, Global};
 
 /// Whether a class is the one with a number.
@@ -113,8 +110,8 @@ pub fn building(
     }
 }
 
-// A copy of an object of a class, part by part.
-fn copy_in_place(
+/// A copy of an object of a class, part by part.
+pub fn copy_in_place(
     alloc: Global,
     env: &Env,
     nodes: &mut Vec<TNode>,
@@ -140,20 +137,4 @@ fn copy_in_place(
         source,
         parts,
     )
-}
-
-/// A copy in place, part by part, of an object.
-pub fn copied_in_place(
-    alloc: Global,
-    env: &Env,
-    work: &mut Work,
-    class: u32,
-    ty: &Ty,
-    at: At,
-    o: Operand,
-) -> Result<TNodeId, AllocError>
-    requires { o.id.0 < length (trees_of work.old.nodes.items) }
-    ensures { IfOk result (λ r. Puts (trees_of work.old.nodes.items) (trees_of work.new.nodes.items) (work_of work.new) r (copied_in_place_of (ctx_of env.now) (work_of work.old) class (typ_of ty.now) at (operand_in (trees_of work.old.nodes.items) o))) }
-{
-    Err(AllocError)
 }

@@ -4,16 +4,15 @@ ghost use Rattle.std.specs.Prelude.{◌≡◌, ◌<◌, ◌∷◌, IfOk, length}
 ghost use Rattle.cpp_types.specs.Typ.{typ_of};
 ghost use Rattle.cpp_tree.specs.Trees.{kids_of};
 ghost use Rattle.cpp_tree.specs.Arena.{trees_of, tree_at, trees_at, Adds};
-ghost use Rattle.elab_ctx.specs.Ctx.{ctx_of, work_of};
+ghost use Rattle.elab_ctx.specs.Ctx.{work_of};
 ghost use Rattle.elab_ctx.specs.Says.{Puts};
 ghost use Rattle.elab_rules.specs.Values.{builder as builder_of, only_tree, temporary as temporary_of};
-ghost use Rattle.elab_rules.specs.Initialising.{object_of as object_by, seen_as as seen_as_of};
+ghost use Rattle.elab_rules.specs.Initialising.{seen_as as seen_as_of};
 
-use crate::destructions::destroys;
 use crate::lists::{keep, keep_all};
 use cpp_tree::{TKind, TNode, TNodeId, add_node, add_unary};
 use cpp_types::{At, Cat, Shape, Ty, copy, equal_types};
-use elab_ctx::{Env, Work, add_item, kids_at, node_at};
+use elab_ctx::{Work, add_item, kids_at, node_at};
 use std::alloc::{AllocError, Global};
 
 // The only kid of a node, if it has one kid, else the node.
@@ -56,7 +55,7 @@ pub fn builder(nodes: &Vec<TNode>, id: TNodeId) -> Result<TNodeId, AllocError>
     }
 }
 
-// What builds an object, and its destructions.
+/// What builds an object, and its destructions.
 pub fn object_kids(
     alloc: Global,
     init: TNodeId,
@@ -99,20 +98,6 @@ pub fn temporary(
             kids,
         },
     )
-}
-
-/// The object that a class prvalue stands for, in a temporary; another expression as it is.
-pub fn object_of(
-    alloc: Global,
-    env: &Env,
-    work: &mut Work,
-    at: At,
-    id: TNodeId,
-) -> Result<TNodeId, AllocError>
-    requires { id.0 < length (trees_of work.old.nodes.items) }
-    ensures { IfOk result (λ r. Puts (trees_of work.old.nodes.items) (trees_of work.new.nodes.items) (work_of work.new) r (object_by (ctx_of env.now) (work_of work.old) at (tree_at (trees_of work.old.nodes.items) id))) }
-{
-    Err(AllocError)
 }
 
 /// An object as one of a type with more qualifiers, or of a base.

