@@ -9,8 +9,8 @@ use Rattle.code_asm.specs.Answers.{IsWritten, IsFirstWrong}
 use Rattle.command_io.specs.Writes.{written_of, to_out, to_file}
 use Rattle.tx_answers.specs.declared.answer.Status.TheVariants.{Done, Refused}
 use Rattle.tx_answers.specs.declared.ends.Decision.{Decision}
-use Rattle.tx_answers.specs.Ends.{Refuses, bare}
-use Rattle.text_commands.specs.TextCommands.{Disassembles, prints, spells_nothing, bad_object_line, Assembles, puts, writes_nothing, bad_asm_line}
+use Rattle.tx_answers.specs.Ends.{Refuses, bad_object_line, bare}
+use Rattle.text_commands.specs.TextCommands.{Disassembles, prints, spells_nothing, Assembles, puts, writes_nothing, bad_asm_line}
 
 module _ {E : Type 0} (name : List ℕ) where
   pub disassembles : (bytes : List ℕ) (o : ObjectView) (r : Result Decision E) → Spells o bytes → IfOk r (λ d. d.answer ≡ bare Done) → IfOk r (λ d. map written_of d.writes.items ≡ to_out (text_of o) ∷ [])

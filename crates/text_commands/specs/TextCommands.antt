@@ -9,10 +9,7 @@ use Rattle.code_asm.specs.Answers.{IsFirstWrong}
 use Rattle.command_io.specs.Writes.{Written, to_out, to_file}
 use Rattle.tx_answers.specs.declared.answer.Answer.{Answer}
 use Rattle.tx_answers.specs.declared.answer.Status.TheVariants.{Done, Refused}
-use Rattle.tx_answers.specs.Ends.{Refuses, bare}
-
-abbrev pub bad_object_line : (name : List ℕ) → (at : ℕ) → List ℕ
-bad_object_line name at = name ++ (codes ": BadObject " ++ decimal at)
+use Rattle.tx_answers.specs.Ends.{Refuses, bad_object_line, bare}
 
 abbrev pub bad_asm_line : (name : List ℕ) → (line : ℕ) → List ℕ
 bad_asm_line name line = name ++ (codes ":" ++ (decimal line ++ codes ": BadAsm"))

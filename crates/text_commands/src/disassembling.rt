@@ -8,34 +8,16 @@ ghost use Rattle.command_io.specs.declared.files.FileKind.TheVariants as kind;
 ghost use Rattle.tx_code.specs.Objects.{object_view};
 ghost use Rattle.assembly_text.specs.Lines.{text_of};
 ghost use Rattle.tx_answers.specs.declared.answer.Status.TheVariants as status;
-ghost use Rattle.tx_answers.specs.Ends.{Ends, Refuses, bare, on_one};
-ghost use Rattle.text_commands.specs.TextCommands.{Disassembles, bad_object_line};
+ghost use Rattle.tx_answers.specs.Ends.{Ends, bare, on_one};
+ghost use Rattle.text_commands.specs.TextCommands.{Disassembles};
 
 use code_asm::print;
 use command_io::{FileKind, Write, read_file};
 use object_file::{ObjectFault, read};
 use std::alloc::{AllocError, Global};
-use tx_answers::{Answer, Decision, Status, bare, halt, refusal, settle};
+use tx_answers::{Answer, Decision, Status, bad_object, bare, halt, settle};
 use tx_code::Object;
 use tx_host::Host;
-
-/// The number of the refusal of a file that spells no object.
-const BAD_OBJECT: u8 = 11;
-
-// The line of a file that spells no object.
-fn bad_object_text(alloc: Global, file: &str, at: u64) -> Result<String, AllocError>
-    ensures { IfOk result (λ line. string_bytes line ≡ bad_object_line file.now at) }
-{
-    format!(in alloc; "{file}: BadObject {at}")
-}
-
-// The refusal of a file that spells no object.
-fn bad_object(alloc: Global, file: &str, at: u64) -> Result<Decision, AllocError>
-    ensures { IfOk result (λ d. Refuses 11 (bad_object_line file.now at) status.Refused d.answer (map written_of d.writes.items)) }
-{
-    let line = bad_object_text(alloc, file, at)?;
-    refusal(alloc, BAD_OBJECT, line.into_bytes(), Status::Refused)
-}
 
 // The text of the object is written to the output.
 fn printed(alloc: Global, object: &Object) -> Result<Decision, AllocError>

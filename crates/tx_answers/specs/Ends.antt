@@ -1,5 +1,6 @@
 -- How a command ends, whatever it decides.
-use Rattle.std.specs.Prelude.{◌≡◌, ℕ, List, [], ◌∷◌, ◌++◌, Some, None, codes, map, Result, Ok, Err}
+use Rattle.std.specs.Prelude.{◌≡◌, ℕ, List, [], ◌∷◌, ◌++◌, Some, None, IfSome, codes, map, slice_get, Result, Ok, Err}
+use Rattle.std.specs.Fmt.{decimal}
 use Rattle.std.specs.declared.alloc.AllocError.{AllocError}
 use Rattle.tx_host.specs.Told.{HostState}
 use Rattle.tx_host.specs.declared.faults.WriteFault.TheVariants.{Failed, Memory}
@@ -25,6 +26,10 @@ pub record Refuses (number : ℕ) (line : List ℕ) (status : Status) (a : Answe
   pub number_is : refusal.number ≡ number
   pub line_is : refusal.line.items ≡ line
   pub writes_are : writes ≡ to_err (line ++ codes "\n") ∷ []
+
+-- the line of a file that spells no object: its first wrong field begins at this byte
+abbrev pub bad_object_line : (name : List ℕ) → (at : ℕ) → List ℕ
+bad_object_line name at = name ++ (codes ": BadObject " ++ decimal at)
 
 -- the line of a file that passes its limit
 abbrev pub limit_line : Wanted → List ℕ
@@ -60,6 +65,12 @@ abbrev pub Halts : Wanted → Unread → HostState → HostState → Answer → 
 Halts w (TooLong index) old new a = AtLimit w old new a
 Halts w ReadFailed old new a = (a ≡ bare HostFault) × (new ≡ old)
 Halts w ReadMemory old new a = (a ≡ bare NoMemory) × (new ≡ old)
+
+-- the same, where these files were to be read
+abbrev pub HaltsAmong : List Wanted → Unread → HostState → HostState → Answer → Type 0
+HaltsAmong wants (TooLong index) old new a = IfSome (slice_get wants index) (λ w. AtLimit w old new a)
+HaltsAmong wants ReadFailed old new a = (a ≡ bare HostFault) × (new ≡ old)
+HaltsAmong wants ReadMemory old new a = (a ≡ bare NoMemory) × (new ≡ old)
 
 -- a command of one file: what is decided on its text
 abbrev pub on_one : (List ℕ → Answer → List Written → Type 0) → List (List ℕ) → Answer → List Written → Type 0

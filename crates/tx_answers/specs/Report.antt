@@ -5,7 +5,8 @@ use Rattle.tx_events.specs.declared.Trap.{Trap}
 use Rattle.tx_events.specs.declared.Trap.TheVariants.{Overflow, DivideByZero, ShiftRange, BadAddress, StackOverflow, UnsafeCall, BadCall, BadVirtual, TooManyThreads, BadJoin}
 use Rattle.tx_events.specs.declared.End.{End}
 use Rattle.tx_events.specs.declared.End.TheVariants.{Exit, Abort, Terminate, Trapped, StepsOut}
-use Rattle.tx_answers.specs.declared.answer.Ran.{Ran}
+use Rattle.tx_machine.specs.declared.run.Ran.{Ran}
+use Rattle.vm_thread.specs.declared.thread.Here.{Here}
 use Rattle.tx_answers.specs.declared.answer.Status.{Status}
 use Rattle.tx_answers.specs.declared.answer.Status.TheVariants.{Done, Refused, Usage, Abort as Aborted, Terminate as Terminated, Trapped as TrapStatus, StepsOut as CutShort, HostFault, Memory, Limit, BadSchedule, CostOut}
 
@@ -34,7 +35,7 @@ abbrev pub turn_line : (ran waited rolled idle : ℕ) → List ℕ
 turn_line ran waited rolled idle =
     codes "turns ran " ++ (decimal ran ++ (codes " waited " ++ (decimal waited ++ (codes " rolled " ++ (decimal rolled ++ (codes " idle " ++ (decimal idle ++ codes "\n")))))))
 
-abbrev pub end_lines : Ran → List ℕ
+abbrev pub end_lines : Ran Here → List ℕ
 end_lines r = end_line r.end ++ turn_line r.ran r.waited r.rolled r.idle
 
 abbrev pub status_of : End → Status

@@ -3,24 +3,8 @@
 ghost use Rattle.std.specs.Prelude.{◌≡◌};
 ghost use Rattle.tx_answers.specs.Report.{number_of};
 
-use tx_events::End;
-
-/// A run of a program.
-#[derive(Debug, Drop)]
-pub struct Ran {
-    /// The bytes that the program wrote.
-    pub out: Vec<u8>,
-    pub end: End,
-    /// The thread of each step of the world: an event outside an atomic block, or a whole outermost block.
-    pub order: Vec<u8>,
-    /// The thread of each turn.
-    pub picked: Vec<u8>,
-    /// How many turns did an instruction, waited, gave up a block, and had nothing to do.
-    pub ran: u64,
-    pub waited: u64,
-    pub rolled: u64,
-    pub idle: u64,
-}
+use tx_machine::Ran;
+use vm_thread::Here;
 
 /// How the call ended. The number of a status is its position here, from 0.
 #[derive(Clone, Copy, Debug, PartialEq, Eq)]
@@ -76,9 +60,10 @@ pub struct Refusal {
 }
 
 /// The answer of a call.
-#[derive(Debug, Drop)]
+#[derive(Drop)]
 pub struct Answer {
     pub status: Status,
-    pub ran: Option<Ran>,
+    /// What was run, where a program was run.
+    pub ran: Option<Ran<Here>>,
     pub refusal: Option<Refusal>,
 }

@@ -1,9 +1,12 @@
 //! How a command ends: what it decided is written, and answered.
 
-ghost use Rattle.std.specs.Prelude.{◌≡◌, ◌++◌, map, Err, IfOk, Ok, None, codes, string_bytes};
-ghost use Rattle.command_io.specs.Reads.{wanted};
+ghost use Rattle.std.specs.Prelude.{◌≡◌, ◌++◌, [], ◌∷◌, map, Err, IfOk, Ok, None, codes, string_bytes};
+ghost use Rattle.std.specs.Option.{option_map};
+ghost use Rattle.command_io.specs.Reads.{wanted, wanted_each, wanted_given};
 ghost use Rattle.command_io.specs.Writes.{written_of};
-ghost use Rattle.tx_answers.specs.Ends.{bare, Refuses, limit_line, IsLimited, Finishes, Settles, Halts};
+ghost use Rattle.tx_host.specs.Told.{HostState};
+ghost use Rattle.tx_answers.specs.declared.answer.Status.TheVariants as status;
+ghost use Rattle.tx_answers.specs.Ends.{bare, Refuses, bad_object_line, limit_line, IsLimited, Finishes, Settles, Halts, HaltsAmong};
 
 use crate::answer::{Answer, Refusal, Status};
 use command_io::{FileKind, Unread, Write, write_all};
@@ -13,8 +16,11 @@ use tx_host::{Host, WriteFault};
 /// The number of the refusal of a file that passes its limit.
 const LIMIT: u8 = 7;
 
+/// The number of the refusal of a file that spells no object.
+const BAD_OBJECT: u8 = 11;
+
 /// What a command decided: its answer, and what is written for it.
-#[derive(Debug, Drop)]
+#[derive(Drop)]
 pub struct Decision {
     pub answer: Answer,
     pub writes: Vec<Write>,
@@ -72,6 +78,21 @@ pub fn refusal(
     })
 }
 
+// The line of a file that spells no object.
+fn bad_object_text(alloc: Global, file: &str, at: u64) -> Result<String, AllocError>
+    ensures { IfOk result (λ line. string_bytes line ≡ bad_object_line file.now at) }
+{
+    format!(in alloc; "{file}: BadObject {at}")
+}
+
+/// The refusal of a file that spells no object; its first wrong field begins at this byte.
+pub fn bad_object(alloc: Global, file: &str, at: u64) -> Result<Decision, AllocError>
+    ensures { IfOk result (λ d. Refuses 11 (bad_object_line file.now at) status.Refused d.answer (map written_of d.writes.items)) }
+{
+    let line = bad_object_text(alloc, file, at)?;
+    refusal(alloc, BAD_OBJECT, line.into_bytes(), Status::Refused)
+}
+
 // The line of a file that passes its limit.
 fn limit_text(alloc: Global, name: &str, kind: FileKind) -> Result<String, AllocError>
     ensures { IfOk result (λ line. string_bytes line ≡ limit_line (wanted kind name.now)) }
@@ -113,4 +134,65 @@ pub fn halt<H: Host>(
         Unread::Failed => bare(Status::HostFault),
         Unread::Memory => bare(Status::Memory),
     }
+}
+
+/// Answers where these files were not read to the last.
+pub fn halt_among<H: Host>(
+    alloc: Global,
+    host: &mut H,
+    names: &[String],
+    kind: FileKind,
+    unread: Unread,
+) -> Answer
+    ensures { HaltsAmong (wanted_each kind (map string_bytes names.now)) unread (H.state host.old) (H.state host.new) result }
+{
+    match unread {
+        Unread::TooLong { index } => match names.get(index) {
+            Some(name) => settle(host, over_limit(alloc, name.as_str(), kind)),
+            // No other file was read.
+            None => bare(Status::Memory),
+        },
+        Unread::Failed => bare(Status::HostFault),
+        Unread::Memory => bare(Status::Memory),
+    }
+}
+
+/// Answers where a file that may be named was not read.
+pub fn halt_given<H: Host>(
+    alloc: Global,
+    host: &mut H,
+    name: &Option<String>,
+    kind: FileKind,
+    unread: Unread,
+) -> Answer
+    ensures { HaltsAmong (wanted_given kind (option_map string_bytes name.now)) unread (H.state host.old) (H.state host.new) result }
+{
+    match name {
+        Some(name) => halt_named(alloc, host, name.as_str(), kind, unread),
+        None => halt_none(unread),
+    }
+}
+
+/// Answers where no file was to be read, which never comes.
+pub fn halt_none(unread: Unread) -> Answer
+    ensures { (s : HostState) → HaltsAmong [] unread s s result }
+{
+    match unread {
+        Unread::TooLong { .. } => bare(Status::Memory),
+        Unread::Failed => bare(Status::HostFault),
+        Unread::Memory => bare(Status::Memory),
+    }
+}
+
+/// Answers where the only file of a list was not read.
+pub fn halt_named<H: Host>(
+    alloc: Global,
+    host: &mut H,
+    name: &str,
+    kind: FileKind,
+    unread: Unread,
+) -> Answer
+    ensures { HaltsAmong (wanted kind name.now ∷ []) unread (H.state host.old) (H.state host.new) result }
+{
+    halt(alloc, host, name, kind, unread)
 }

@@ -3,9 +3,11 @@
 ghost use Rattle.std.specs.Prelude.{◌≡◌, IfOk, string_bytes};
 ghost use Rattle.tx_answers.specs.Report.{trap_name, end_line, turn_line, end_lines, status_of};
 
-use crate::answer::{Ran, Status};
+use crate::answer::Status;
 use std::alloc::{AllocError, Global};
 use tx_events::{End, Trap};
+use tx_machine::Ran;
+use vm_thread::Here;
 
 /// The name of a trap.
 pub fn trap_name(trap: Trap) -> &'static str
@@ -55,7 +57,7 @@ pub fn turn_line(
 }
 
 /// The end line and the turn line.
-pub fn end_lines(alloc: Global, ran: &Ran) -> Result<String, AllocError>
+pub fn end_lines(alloc: Global, ran: &Ran<Here>) -> Result<String, AllocError>
     ensures { IfOk result (λ text. string_bytes text ≡ end_lines ran.now) }
 {
     let mut lines = end_line(alloc, ran.end)?;

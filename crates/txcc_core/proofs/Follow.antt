@@ -401,7 +401,7 @@ vec_len_is : (v : Vec ℕ Heap) → vec_len v ≡ length v.items
 vec_len_is v = search rules
 
 -- the answer of a run that ended
-pub run_ended : (s : Source) (bound k : ℕ) (m : Machine) (e : End) (picked : Vec ℕ Heap) → Ended s k (state_of m) e → picked.items ≡ replicate k 0 → k ≤ bound → IsRunOf s bound (record { out = m.out; end = e; order = m.order; picked = picked; ran = vec_len picked; waited = 0; rolled = 0; idle = 0 })
+pub run_ended : (s : Source) (bound k : ℕ) (m : Machine) (e : End) (picked : Vec ℕ Heap) → Ended s k (state_of m) e → picked.items ≡ replicate k 0 → k ≤ bound → IsRunOf s bound (record { out = m.out; end = e; order = m.order; picked = picked; ran = vec_len picked; waited = 0; rolled = 0; idle = 0; place = None })
 run_ended s bound k m e picked h p le =
     let n : vec_len picked ≡ k = vec_len_is picked ∙ ap length p ∙ length-replicate k 0 in
     record {
@@ -409,11 +409,12 @@ run_ended s bound k m e picked h p le =
       world = h.w;
       replay = h.replay;
       out = h.out;
-      stopped = subst (λ o. Stopped bound k h.w o (record { out = m.out; end = e; order = m.order; picked = picked; ran = vec_len picked; waited = 0; rolled = 0; idle = 0 })) (sym h.over) (refl, h.real, n, le);
+      stopped = subst (λ o. Stopped bound k h.w o (record { out = m.out; end = e; order = m.order; picked = picked; ran = vec_len picked; waited = 0; rolled = 0; idle = 0; place = None })) (sym h.over) (refl, h.real, n, le);
       picked = p ∙ ap (λ n. replicate n 0) (sym n);
       waited = refl;
       rolled = refl;
       idle = refl;
+      nowhere = refl;
     }
 
 underway : (b : Bool) (further : ℕ) (w : World) (todo : List Item) (hand memory : List ℤ) → Past b further w todo hand memory → IsUnderway further w
@@ -421,7 +422,7 @@ underway false further w todo hand memory p = out_of_block (thread todo hand) p.
 underway true further w todo hand memory p = in_block (alone todo hand memory) p
 
 -- the answer of a run that was cut short
-pub run_cut : (s : Source) (code : List Instr) (bound : ℕ) (m : Machine) (picked : Vec ℕ Heap) → Reached s code bound (state_of m) → picked.items ≡ replicate bound 0 → IsRunOf s bound (record { out = m.out; end = StepsOut; order = m.order; picked = picked; ran = vec_len picked; waited = 0; rolled = 0; idle = 0 })
+pub run_cut : (s : Source) (code : List Instr) (bound : ℕ) (m : Machine) (picked : Vec ℕ Heap) → Reached s code bound (state_of m) → picked.items ≡ replicate bound 0 → IsRunOf s bound (record { out = m.out; end = StepsOut; order = m.order; picked = picked; ran = vec_len picked; waited = 0; rolled = 0; idle = 0; place = None })
 run_cut s code bound m picked h p =
     let n : vec_len picked ≡ bound = vec_len_is picked ∙ ap length p ∙ length-replicate bound 0 in
     record {
@@ -429,9 +430,10 @@ run_cut s code bound m picked h p =
       world = h.1.w;
       replay = h.1.replay;
       out = h.1.out;
-      stopped = subst (λ o. Stopped bound h.1.steps h.1.w o (record { out = m.out; end = StepsOut; order = m.order; picked = picked; ran = vec_len picked; waited = 0; rolled = 0; idle = 0 })) (sym h.1.going) (refl, n, h.1.further, h.1.total, underway m.inside h.1.further h.1.w h.0 (state_of m).stack m.memory.items h.1.past);
+      stopped = subst (λ o. Stopped bound h.1.steps h.1.w o (record { out = m.out; end = StepsOut; order = m.order; picked = picked; ran = vec_len picked; waited = 0; rolled = 0; idle = 0; place = None })) (sym h.1.going) (refl, n, h.1.further, h.1.total, underway m.inside h.1.further h.1.w h.0 (state_of m).stack m.memory.items h.1.past);
       picked = p ∙ ap (λ n. replicate n 0) (sym n);
       waited = refl;
       rolled = refl;
       idle = refl;
+      nowhere = refl;
     }

@@ -4,3 +4,4 @@ pub mod Follow
 pub mod Steps
 pub mod Says
 pub mod Unique
+pub mod Options

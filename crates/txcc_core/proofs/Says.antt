@@ -4,7 +4,8 @@ use Rattle.std.specs.Prelude.{IfOk, IfNone}
 use Rattle.cpp_lex.specs.Tokens.{Lexeme, IsTokens}
 use Rattle.txcc_core.specs.Syntax.{Source}
 use Rattle.txcc_core.specs.Grammar.{Derives, Accepts}
-use Rattle.tx_answers.specs.declared.answer.Ran.{Ran}
+use Rattle.tx_machine.specs.declared.run.Ran.{Ran}
+use Rattle.vm_thread.specs.declared.thread.Here.{Here}
 use Rattle.tx_answers.specs.declared.ends.Decision.{Decision}
 use Rattle.txcc_core.specs.SourceRun.{IsRunOf}
 use Rattle.tx_answers.specs.Report.{end_lines, status_of}
@@ -21,7 +22,7 @@ map_none (Ok (Some x)) f p = p
 map_none (Err e) f p = p
 
 -- a run that is reported is what was decided
-pub decides_run : {E : Type 0} (r : Result Decision E) (steps : ℕ) (file text : List ℕ) (source : Source) (ran : Ran) → Accepts text source → IsRunOf source steps ran
+pub decides_run : {E : Type 0} (r : Result Decision E) (steps : ℕ) (file text : List ℕ) (source : Source) (ran : Ran Here) → Accepts text source → IsRunOf source steps ran
     → IfOk r (λ d. d.answer ≡ record { status = status_of ran.end; ran = Some ran; refusal = None }) → IfOk r (λ d. map written_of d.writes.items ≡ to_out ran.out.items ∷ to_err (end_lines ran) ∷ [])
     → IfOk r (λ d. Decides steps file text d.answer (map written_of d.writes.items))
 decides_run (Ok d) steps file text source ran accepts run answer writes = executes (record { source = source; ran = ran; accepts = accepts; run = run; answer = answer; writes_are = writes })

@@ -6,7 +6,8 @@ use Rattle.command_io.specs.declared.files.FileKind.TheVariants.{Source as Sourc
 use Rattle.tx_words.specs.declared.command.Run.{Run}
 use Rattle.tx_words.specs.declared.command.PickerName.TheVariants.{Round}
 use Rattle.tx_words.specs.declared.command.PolicyName.TheVariants.{Older}
-use Rattle.tx_answers.specs.declared.answer.Ran.{Ran}
+use Rattle.tx_machine.specs.declared.run.Ran.{Ran}
+use Rattle.vm_thread.specs.declared.thread.Here.{Here}
 use Rattle.tx_answers.specs.declared.answer.Answer.{Answer}
 use Rattle.tx_answers.specs.declared.answer.Status.TheVariants.{Refused}
 use Rattle.txcc_core.specs.Syntax.{Source}
@@ -32,7 +33,7 @@ wants_of file = wanted SourceFile file ∷ []
 -- the text is a program, and this is a run of it: the output and then its end lines are written
 pub record Executes (steps : ℕ) (text : List ℕ) (a : Answer) (writes : List Written) : Type 0 where
   pub source : Source
-  pub ran : Ran
+  pub ran : Ran Here
   pub accepts : Accepts text source
   pub run : IsRunOf source steps ran
   pub answer : a ≡ record { status = status_of ran.end; ran = Some ran; refusal = None }

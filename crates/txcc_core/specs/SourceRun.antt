@@ -9,7 +9,8 @@ use Rattle.tx_ints.specs.Integers.{apply_of}
 use Rattle.tx_events.specs.declared.Trap.TheVariants.{Overflow}
 use Rattle.tx_events.specs.declared.End.{End}
 use Rattle.tx_events.specs.declared.End.TheVariants.{Exit, Abort, Terminate, Trapped, StepsOut}
-use Rattle.tx_answers.specs.declared.answer.Ran.{Ran}
+use Rattle.tx_machine.specs.declared.run.Ran.{Ran}
+use Rattle.vm_thread.specs.declared.thread.Here.{Here}
 use Rattle.txcc_core.specs.declared.tree.Sign.{Sign}
 use Rattle.txcc_core.specs.declared.tree.Sign.TheVariants.{Plus, Minus}
 use Rattle.txcc_core.specs.declared.tree.Signed.{Signed}
@@ -209,12 +210,12 @@ IsProgramEnd Terminate = ⊥
 IsProgramEnd StepsOut = ⊥
 
 -- how a run stopped: at the program's end, or exactly after `bound` turns in the middle of the program. Each turn is one step of the thread
-abbrev pub Stopped : ℕ → ℕ → World → Option End → Ran → Type 0
+abbrev pub Stopped : ℕ → ℕ → World → Option End → Ran Here → Type 0
 Stopped bound steps w None ran = (ran.end ≡ StepsOut) × (ran.ran ≡ bound) × (further : ℕ) × (bound ≡ steps + further) × IsUnderway further w
 Stopped bound steps w (Some e) ran = (ran.end ≡ e) × IsProgramEnd e × (ran.ran ≡ steps) × (steps ≤ bound)
 
 -- a run of the program in at most `bound` turns: what it wrote and how it ended are those of the world to which the returned order leads
-pub record IsRunOf (s : Source) (bound : ℕ) (ran : Ran) : Type 0 where
+pub record IsRunOf (s : Source) (bound : ℕ) (ran : Ran Here) : Type 0 where
   pub steps : ℕ
   pub world : World
   pub replay : Replays steps (start s) ran.order.items world
@@ -224,3 +225,4 @@ pub record IsRunOf (s : Source) (bound : ℕ) (ran : Ran) : Type 0 where
   pub waited : ran.waited ≡ 0
   pub rolled : ran.rolled ≡ 0
   pub idle : ran.idle ≡ 0
+  pub nowhere : ran.place ≡ None

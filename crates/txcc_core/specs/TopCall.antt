@@ -13,6 +13,7 @@ use Rattle.tx_answers.specs.declared.answer.Status.TheVariants.{Usage, Memory}
 use Rattle.txcc_core.specs.FirstPath.{IsFirstPath, DecidesOn, wants_of}
 use Rattle.tx_answers.specs.Ends.{Ends, bare, on_one}
 use Rattle.text_commands.specs.TextCommands.{Disassembles, Assembles}
+use Rattle.exec_command.specs.Exec.{CanRun, Executes}
 
 -- the words say no command
 abbrev pub SaysNothing : List (List ℕ) → Type 0
@@ -37,11 +38,23 @@ Does (command.Run r) old new a = Runs r old new a
 Does (command.Check sources) old new a = Ends no_files DecidesUsage old new a
 Does (command.Selftest n) old new a = Ends no_files DecidesUsage old new a
 Does (command.Build b) old new a = Ends no_files DecidesUsage old new a
-Does (command.Exec e) old new a = Ends no_files DecidesUsage old new a
+Does (command.Exec e) old new a = Executes e old new a
 Does (command.Replay r) old new a = Ends no_files DecidesUsage old new a
 Does (command.Dis object) old new a = Ends (wanted kind.Object (string_bytes object) ∷ []) (on_one (Disassembles (string_bytes object))) old new a
 Does (command.Asm m) old new a = Ends (wanted kind.Text (string_bytes m.text) ∷ []) (on_one (Assembles (string_bytes m.text) (string_bytes m.object_file))) old new a
 Does (command.Races r) old new a = Ends no_files DecidesUsage old new a
+
+-- a command whose options are such as the words can say
+abbrev pub CanDo : Command → Type 0
+CanDo (command.Run r) = Unit {0}
+CanDo (command.Check sources) = Unit {0}
+CanDo (command.Selftest n) = Unit {0}
+CanDo (command.Build b) = Unit {0}
+CanDo (command.Exec e) = CanRun e.options
+CanDo (command.Replay r) = Unit {0}
+CanDo (command.Dis object) = Unit {0}
+CanDo (command.Asm m) = Unit {0}
+CanDo (command.Races r) = Unit {0}
 
 pub data Answers (words : List (List ℕ)) (old new : HostState) (a : Answer) : Type 0 where
   -- the words say this command

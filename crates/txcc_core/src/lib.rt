@@ -16,5 +16,6 @@ mod tree;
 
 pub use laws::{one_replay, one_tree};
 pub use top::txcc;
-pub use tx_answers::{Answer, Ran, Refusal, Status};
+pub use tx_answers::{Answer, Refusal, Status};
 pub use tx_events::{End, Trap};
+pub use tx_machine::Ran;

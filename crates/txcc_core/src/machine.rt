@@ -11,9 +11,10 @@ ghost use Rattle.txcc_core.specs.Machine.{State, state_of, noted, ticked, pushed
 use crate::code::Instr;
 use crate::tree::Program;
 use std::alloc::{AllocError, Global};
-use tx_answers::Ran;
 use tx_events::{End, Trap};
 use tx_ints::{ArithTrap, BinOp, IntKind, apply};
+use tx_machine::Ran;
+use vm_thread::Here;
 
 // The operator's value on two ints, or the trap.
 fn combine(op: BinOp, left: i32, right: i32) -> Result<i32, ArithTrap>
@@ -51,8 +52,8 @@ impl Machine {
     }
 
     // What the machine ran, after these turns.
-    fn into_ran(self, end: End, picked: Vec<u8>) -> Ran
-        ensures { result ≡ record { out = self.out; end = end; order = self.order; picked = picked; ran = vec_len picked; waited = 0; rolled = 0; idle = 0 } }
+    fn into_ran(self, end: End, picked: Vec<u8>) -> Ran<Here>
+        ensures { result ≡ record { out = self.out; end = end; order = self.order; picked = picked; ran = vec_len picked; waited = 0; rolled = 0; idle = 0; place = None } }
     {
         let ran = picked.len() as u64;
         Ran {
@@ -64,6 +65,7 @@ impl Machine {
             waited: 0,
             rolled: 0,
             idle: 0,
+            place: None,
         }
     }
 
@@ -193,7 +195,12 @@ impl Machine {
 }
 
 /// The run of a program's instructions, of at most `bound` turns.
-pub fn run(alloc: Global, program: &Program, code: &[Instr], bound: u32) -> Result<Ran, AllocError>
+pub fn run(
+    alloc: Global,
+    program: &Program,
+    code: &[Instr],
+    bound: u32,
+) -> Result<Ran<Here>, AllocError>
     requires well { IsWell (source_of program.now) }
     requires code { code.now ≡ source_code (source_of program.now) }
     ensures { IfOk result (λ ran. IsRunOf (source_of program.now) bound ran) }

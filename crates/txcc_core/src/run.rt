@@ -18,9 +18,11 @@ use crate::tree::Program;
 use command_io::{FileKind, Write, read_file};
 use cpp_lex::{LexFault, lex, one_reading};
 use std::alloc::{AllocError, Global};
-use tx_answers::{Answer, Decision, Ran, Status, end_lines, halt, refusal, settle, status_of};
+use tx_answers::{Answer, Decision, Status, end_lines, halt, refusal, settle, status_of};
 use tx_host::Host;
+use tx_machine::Ran;
 use tx_words::{PickerName, PolicyName, Run};
+use vm_thread::Here;
 
 /// The number of the refusal of a text that is no program.
 const NOT_BUILT: u8 = 12;
@@ -82,7 +84,7 @@ fn program_of(alloc: Global, text: &[u8]) -> Result<Option<Program>, AllocError>
 }
 
 // The run of a program.
-fn execute(alloc: Global, program: &Program, steps: u32) -> Result<Ran, AllocError>
+fn execute(alloc: Global, program: &Program, steps: u32) -> Result<Ran<Here>, AllocError>
     requires { IsWell (source_of program.now) }
     ensures { IfOk result (λ ran. IsRunOf (source_of program.now) steps ran) }
 {
@@ -106,7 +108,7 @@ fn not_built(alloc: Global, file: &str) -> Result<Decision, AllocError>
 }
 
 // What is answered and written of a run.
-fn reported(alloc: Global, ran: Ran) -> Result<Decision, AllocError>
+fn reported(alloc: Global, ran: Ran<Here>) -> Result<Decision, AllocError>
     ensures answer { IfOk result (λ d. d.answer ≡ record { status = status_of ran.end; ran = Some ran; refusal = None }) }
     ensures writes { IfOk result (λ d. map written_of d.writes.items ≡ to_out ran.out.items ∷ to_err (end_lines ran) ∷ []) }
 {

@@ -3,10 +3,11 @@
 ghost use Rattle.std.specs.Prelude.{◌≡◌, ◌≤◌, [], map, length, IfOk, codes, string_bytes, ℕ, List};
 ghost use Rattle.command_io.specs.Writes.{written_of};
 ghost use Rattle.tx_answers.specs.Ends.{Ends, bare};
-ghost use Rattle.txcc_core.specs.TopCall.{Answers, Does, Runs, DecidesUsage, no_files};
+ghost use Rattle.txcc_core.specs.TopCall.{Answers, CanDo, Does, Runs, DecidesUsage, no_files};
 
 use crate::run::{form_of, run_file};
 use command_io::Write;
+use exec_command::exec;
 use std::alloc::{AllocError, Global};
 use text_commands::{asm, dis};
 use tx_answers::{Answer, Decision, Status, bare, settle};
@@ -44,6 +45,7 @@ fn run<H: Host>(alloc: Global, run: &Run, host: &mut H) -> Answer
 
 // Does a command.
 fn execute<H: Host>(alloc: Global, command: &Command, host: &mut H) -> Answer
+    requires { CanDo command.now }
     ensures { Does command.now (H.state host.old) (H.state host.new) result }
 {
     match command {
@@ -55,10 +57,10 @@ fn execute<H: Host>(alloc: Global, command: &Command, host: &mut H) -> Answer
             options.object_file.as_str(),
             host,
         ),
+        Command::Exec(options) => exec(alloc, options, host),
         Command::Check(_)
         | Command::Selftest(_)
         | Command::Build(_)
-        | Command::Exec(_)
         | Command::Replay(_)
         | Command::Races(_) => usage(alloc, host),
     }

@@ -1,6 +1,7 @@
 use Rattle.std.proofs.Common.{rules, arith, ◌≡◌, ◌∙◌, sym, ap, subst, replicate, length, pos, [], false, Vec, ℕ, Global, ◌+◌}
 use Rattle.std.proofs.lemmas.List.{length-map}
-use Rattle.tx_answers.specs.declared.answer.Ran.{Ran}
+use Rattle.tx_machine.specs.declared.run.Ran.{Ran}
+use Rattle.vm_thread.specs.declared.thread.Here.{Here}
 use Rattle.txcc_core.specs.Syntax.{source_of}
 use Rattle.txcc_core.specs.SourceRun.{IsRunOf}
 use Rattle.txcc_core.specs.Machine.{state_of}
@@ -31,7 +32,7 @@ returns-in-Some c =
     let a = turned s c.args.code.now c.loop.counter (state_of c.loop.machine) (state_of c.turn.new.self) _ c.loop.invariant.reached c.in_ok-end.ensures in
     let e : Ended s (c.loop.counter + 1) (state_of c.turn.new.self) c.in-Some.end = subst (After s c.args.code.now (c.loop.counter + 1) (state_of c.turn.new.self)) c.in-Some.is a in
     let p = picked_more _ _ _ c.loop.invariant.turns c.in_ok-put.ensures in
-    subst (λ (r : Ran). IsRunOf s c.args.bound r) (sym c.into_ran.ensures) (run_ended _ _ _ c.turn.new.self c.in-Some.end c.put.new.bytes e p (omega (arith, c.loop-test.true)))
+    subst (λ (r : Ran Here). IsRunOf s c.args.bound r) (sym c.into_ran.ensures) (run_ended _ _ _ c.turn.new.self c.in-Some.end c.put.new.bytes e p (omega (arith, c.loop-test.true)))
 
 pub loop-preserved : goal.loop-preserved
 loop-preserved c =
@@ -47,4 +48,4 @@ returns c =
     let s = source_of c.args.program.now in
     let e : c.loop.counter ≡ c.args.bound = omega arith in
     let r = subst (λ k. Reached s c.args.code.now k (state_of c.loop.machine)) e c.loop.invariant.reached in
-    subst (λ (r : Ran). IsRunOf s c.args.bound r) (sym c.into_ran-2.ensures) (run_cut s c.args.code.now c.args.bound c.loop.machine c.loop.picked r (c.loop.invariant.turns ∙ ap (λ n. replicate n 0) e))
+    subst (λ (r : Ran Here). IsRunOf s c.args.bound r) (sym c.into_ran-2.ensures) (run_cut s c.args.code.now c.args.bound c.loop.machine c.loop.picked r (c.loop.invariant.turns ∙ ap (λ n. replicate n 0) e))

@@ -4,7 +4,7 @@ use Rattle.command_io.specs.declared.files.FileKind.TheVariants.{Object, Text}
 use Rattle.tx_words.specs.declared.command.Command.{Command}
 use Rattle.tx_answers.specs.Ends.{Ends, on_one}
 use Rattle.text_commands.specs.TextCommands.{Disassembles, Assembles}
-use Rattle.txcc_core.specs.TopCall.{Does}
+use Rattle.txcc_core.specs.TopCall.{CanDo, Does}
 use Rattle.txcc_core.proofs.top.execute.Goals as goal
 
 pub returns-in-Run : goal.returns-in-Run
@@ -25,6 +25,12 @@ returns-in-Asm g c =
     (subst (λ (n : List ℕ). Ends (wanted Text n ∷ []) (on_one (Assembles n (string_bytes c.in-Asm.options.object_file))) before after c.asm.result) c.as_str-in-Asm.ensures.value
     (subst (λ (t : List ℕ). Ends (wanted Text c.as_str-in-Asm.result.now ∷ []) (on_one (Assembles c.as_str-in-Asm.result.now t)) before after c.asm.result) c.as_str-in-Asm-2.ensures.value c.asm.ensures))
 
+pub exec-requires : goal.exec-requires
+exec-requires g c = subst CanDo c.in-Exec.is c.requires
+
+pub returns-in-Exec : goal.returns-in-Exec
+returns-in-Exec g c = subst (λ k. Does k (g.H.Host.state c.args.host.now) (g.H.Host.state c.exec.new.host) c.exec.result) (sym c.in-Exec.is) c.exec.ensures
+
 -- none of the other commands is there yet
 pub returns-in-Check : goal.returns-in-Check
 returns-in-Check g c =
@@ -36,11 +42,8 @@ returns-in-Check g c =
         | inr others ↦ elim others [
           | inl build ↦ subst Ending (sym build.1) c.usage.ensures
           | inr others ↦ elim others [
-            | inl exec ↦ subst Ending (sym exec.1) c.usage.ensures
-            | inr others ↦ elim others [
-              | inl replay ↦ subst Ending (sym replay.1) c.usage.ensures
-              | inr races ↦ subst Ending (sym races.1) c.usage.ensures
-            ]
+            | inl replay ↦ subst Ending (sym replay.1) c.usage.ensures
+            | inr races ↦ subst Ending (sym races.1) c.usage.ensures
           ]
         ]
       ]

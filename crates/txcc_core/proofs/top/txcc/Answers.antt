@@ -1,7 +1,11 @@
 use Rattle.std.proofs.Common.{subst, sym, Ok, ◌∙◌, ap}
 use Rattle.std.specs.Prelude.{IfSome}
 use Rattle.txcc_core.specs.TopCall.{Answers, says, usage}
+use Rattle.txcc_core.proofs.Options.{can_do}
 use Rattle.txcc_core.proofs.top.txcc.Goals as goal
+
+pub execute-requires : goal.execute-requires
+execute-requires g c = can_do _ c.in-Ok-Some.command (rw c.in-Ok-Some.field-0-is at c.in-Ok-Some.ensures.says)
 
 pub returns-in-Ok-Some : goal.returns-in-Ok-Some
 returns-in-Ok-Some g c = record {

@@ -1,0 +1,7 @@
+//! The command `exec` over hosts in memory: each answer once, each call of the host refused in turn, and one past a limit.
+#![tactic(auto)]
+
+#[cfg(test)]
+mod hosts;
+#[cfg(test)]
+mod rows;

@@ -1,0 +1,4 @@
+pub mod Policies
+pub mod Pickers
+pub mod EqualReplay
+pub mod Entries
