@@ -1,2 +1,6 @@
 pub mod OneList
 pub mod Closed
+pub mod Numbers
+pub mod AheadSteps
+pub mod Meetings
+pub mod RowSteps
