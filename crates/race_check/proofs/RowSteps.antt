@@ -35,7 +35,7 @@ from_end items i j (blocks t u lt d e m) = record { item = _; at = d }
 
 pub chains_join : (items : List Item) (i j k : ℕ) → Ordered items i j → Ordered items j k → Ordered items i k
 chains_join items i j k o (at_once s) = and_then o s
-chains_join items i j k o (and_then {m} p s) = and_then (chains_join items i j m o p) s
+chains_join items i j k o (and_then {j = m} p s) = and_then (chains_join items i j m o p) s
 
 pub nothing_built : (items : List Item) (row : List ℕ) (j : ℕ) → ((s : ℕ) → slice_index row s ≡ 0) → Building items row j j
 nothing_built items row j zero = record {
@@ -68,6 +68,26 @@ pub record Sum (row other new : List ℕ) (t p : ℕ) : Type 0 where
   pub gained : (s : ℕ) → slice_index other s ≤ slice_index new s
   pub itself : p < slice_index new t
   pub only : (s k : ℕ) → k < slice_index new s → (k < slice_index row s) ⊎ ((k < slice_index other s) ⊎ ((s ≡ t) × (k ≤ p)))
+
+pub sum_of : (row other mid new : List ℕ) (t p : ℕ) → ((s : ℕ) → slice_index row s ≤ slice_index mid s) → ((s : ℕ) → slice_index other s ≤ slice_index mid s)
+    → ((s : ℕ) → (slice_index mid s ≡ slice_index row s) ⊎ (slice_index mid s ≡ slice_index other s)) → ((s : ℕ) → slice_index mid s ≤ slice_index new s)
+    → p < slice_index new t → ((s : ℕ) → (slice_index new s ≡ slice_index mid s) ⊎ ((s ≡ t) × (slice_index new s ≡ p + 1))) → Sum row other new t p
+sum_of row other mid new t p kept gained either more itself last = record {
+  kept = λ s. let a = kept s in let b = more s in omega (arith, a, b);
+  gained = λ s. let a = gained s in let b = more s in omega (arith, a, b);
+  itself = itself;
+  only = λ s k lt. by_last s k lt (last s);
+}
+  where
+    by_either : (s k : ℕ) → k < slice_index mid s → (slice_index mid s ≡ slice_index row s) ⊎ (slice_index mid s ≡ slice_index other s)
+        → (k < slice_index row s) ⊎ ((k < slice_index other s) ⊎ ((s ≡ t) × (k ≤ p)))
+    by_either s k lt (inl e) = inl (omega (arith, lt, e))
+    by_either s k lt (inr e) = inr (inl (omega (arith, lt, e)))
+
+    by_last : (s k : ℕ) → k < slice_index new s → (slice_index new s ≡ slice_index mid s) ⊎ ((s ≡ t) × (slice_index new s ≡ p + 1))
+        → (k < slice_index row s) ⊎ ((k < slice_index other s) ⊎ ((s ≡ t) × (k ≤ p)))
+    by_last s k lt (inl e) = by_either s k (omega (arith, lt, e)) (either s)
+    by_last s k lt (inr e) = let f = e.1 in inr (inr (e.0, omega (arith, lt, f)))
 
 pub taken_in : (items : List Item) → Regular items → (row other new : List ℕ) (j n : ℕ) (a : Item) → Building items row j (n + 1) → slice_get items n ≡ Some a
     → Right items other n → Leads items n j → Sum row other new a.t n → Building items new j n
@@ -119,6 +139,6 @@ built items r row j n e h = record { sound = h.sound; whole = λ k a f o. whole 
   where
     whole : (k : ℕ) (a : Item) → slice_get items k ≡ Some a → Ordered items k j → counts row a.t k
     whole k a f (at_once s) = h.taken k a (omega (arith, e)) (forward items r k j s) f s
-    whole k a f (and_then {m} o s) =
+    whole k a f (and_then {j = m} o s) =
         let it = from_end items m j s in
         h.closed k m a it.item f it.at (h.taken m it.item (omega (arith, e)) (forward items r m j s) it.at s) o

@@ -1,5 +1,5 @@
 //! The row of an item: for each thread, a counter above its items that are ordered before.
-ghost use Rattle.std.specs.Prelude.{◌≡◌, ℕ, ◌<◌, ◌≤◌, ◌+◌, ◌⊎◌, length, slice_index, vec_len};
+ghost use Rattle.std.specs.Prelude.{◌≡◌, ℕ, ◌<◌, ◌≤◌, ◌+◌, ◌⊎◌, ◌^◌, length, slice_index, vec_len};
 ghost use Rattle.race_check.specs.Regular.{Regular};
 ghost use Rattle.race_check.specs.Rows.{AllRight, Building, Right};
 
@@ -14,6 +14,13 @@ const THREADS: usize = 64;
 #[derive(Clone, Copy)]
 pub(crate) struct Row {
     pub(crate) latest: [usize; THREADS],
+}
+
+// The row that counts nothing.
+fn empty_row() -> Row
+    ensures { (s : ℕ) → slice_index result.latest s ≡ 0 }
+{
+    Row { latest: [0; THREADS] }
 }
 
 // What either counts.
@@ -75,7 +82,7 @@ pub(crate) fn row_of(items: &[Item], rows: &[Row], j: usize) -> Row
     requires right { AllRight items.now rows.now }
     ensures { Right items.now result.latest j }
 {
-    let mut row = Row { latest: [0; THREADS] };
+    let mut row = empty_row();
     let mut p = j;
     'earlier: while 0 < p {
         p -= 1;
