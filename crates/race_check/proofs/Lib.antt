@@ -4,3 +4,5 @@ pub mod Numbers
 pub mod AheadSteps
 pub mod Meetings
 pub mod RowSteps
+pub mod WordSteps
+pub mod PairSteps

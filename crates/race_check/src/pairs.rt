@@ -25,7 +25,8 @@ fn add_pair(items: &[Item], row: &Row, i: usize, j: usize, words: &mut Vec<u64>)
         return Ok(());
     }
     let bytes = shared(one, item_at(items, j));
-    add_bytes(words, bytes.from, bytes.to)
+    add_bytes(words, bytes.from, bytes.to)?;
+    Ok(())
 }
 
 // Adds the words of the races of item j with the items before it.
