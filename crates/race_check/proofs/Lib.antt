@@ -6,3 +6,4 @@ pub mod Meetings
 pub mod RowSteps
 pub mod WordSteps
 pub mod PairSteps
+pub mod RegularSteps

@@ -19,3 +19,23 @@ pub record Regular (items : List Item) : Type 0 where
   pub threads : (i : ℕ) (a : Item) → slice_get items i ≡ Some a → a.t < 64
   pub bytes : (i : ℕ) (a : Item) → slice_get items i ≡ Some a → end_of a.what < 2 ^ 64
   pub starts : (i j t child : ℕ) (b : What) → Does items i t (Spawned child) → Does items j child b → i < j
+
+-- a thread that has an item before index n
+pub record HasItem (items : List Item) (n t : ℕ) : Type 0 where
+  pub at : ℕ
+  pub item : Item
+  pub there : slice_get items at ≡ Some item
+  pub before : at < n
+  pub owner : item.t ≡ t
+
+-- it starts a thread that has an item before index n
+pub record StartsLate (items : List Item) (what : What) (n : ℕ) : Type 0 where
+  pub child : ℕ
+  pub is : what ≡ Spawned child
+  pub item : HasItem items n child
+
+-- the first n items are regular
+pub record RegularTo (items : List Item) (n : ℕ) : Type 0 where
+  pub threads : (i : ℕ) (a : Item) → i < n → slice_get items i ≡ Some a → a.t < 64
+  pub bytes : (i : ℕ) (a : Item) → i < n → slice_get items i ≡ Some a → end_of a.what < 2 ^ 64
+  pub starts : (i : ℕ) (a : Item) → i < n → slice_get items i ≡ Some a → StartsLate items a.what (i + 1) → ⊥

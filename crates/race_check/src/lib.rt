@@ -6,11 +6,13 @@
 
 mod items;
 mod pairs;
+mod regular;
 mod rows;
 mod walks;
 mod words;
 
 pub use pairs::races;
+pub use regular::is_regular;
 
 ghost use Rattle.std.specs.Prelude.{◌≡◌, ℕ, Bool, true, List, [], ◌∷◌, Some, slice_get};
 ghost use Rattle.tx_events.specs.declared.Item.{Item};

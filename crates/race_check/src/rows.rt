@@ -8,7 +8,7 @@ use crate::walks::leads;
 use tx_events::Item;
 
 /// How many threads a trace can have.
-const THREADS: usize = 64;
+pub(crate) const THREADS: usize = 64;
 
 /// For each thread, one more than the index of the latest counted item, 0 where none is counted.
 #[derive(Clone, Copy)]
