@@ -8,6 +8,8 @@ mod items;
 mod pairs;
 mod regular;
 mod rows;
+#[cfg(test)]
+mod tests;
 mod walks;
 mod words;
 
