@@ -1,2 +1,7 @@
 pub mod Races
 pub mod Examples
+pub mod Regular
+pub mod Steps
+pub mod Walks
+pub mod Rows
+pub mod Words

@@ -1,8 +1,20 @@
 //! Accesses of a trace that nothing orders.
 //!
 //! The definition stands in `specs/Races`: conflicting accesses, the steps of order, chains of them, and the words of a
-//! trace's races. No function here does anything: its clause is the law.
+//! trace's races. `races` finds them; each function of `laws` does nothing, and its clause is the law.
 #![tactic(auto)]
+
+mod items;
+mod pairs;
+mod regular;
+mod rows;
+#[cfg(test)]
+mod tests;
+mod walks;
+mod words;
+
+pub use pairs::races;
+pub use regular::is_regular;
 
 ghost use Rattle.std.specs.Prelude.{◌≡◌, ℕ, Bool, true, List, [], ◌∷◌, Some, slice_get};
 ghost use Rattle.tx_events.specs.declared.Item.{Item};

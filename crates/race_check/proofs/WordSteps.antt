@@ -1,0 +1,111 @@
+-- An ascending list with one word more.
+use Rattle.std.proofs.Common.{ℕ, zero, suc, ◌≡◌, ◌<◌, ◌≤◌, ◌+◌, ◌⊎◌, inl, inr, refl, ap, sym, ◌∙◌, subst, List, [], ◌∷◌, ◌++◌, length, take, drop, arith}
+use Rattle.std.specs.Prelude.{slice_index}
+use Rattle.std.proofs.lemmas.Bool.{cases_lt}
+use Rattle.std.specs.List.{insert}
+use Rattle.tx_events.specs.declared.Item.{Item}
+use Rattle.race_check.specs.Races.{Stands, first, later, Ascends, Ascending, word_of_byte}
+use Rattle.race_check.specs.Words.{Gap, OneMore, BytesMore}
+
+-- a word more at an index, by recursion
+abbrev put : ℕ → List ℕ → ℕ → List ℕ
+put w ws zero = w ∷ ws
+put w [] (suc at) = w ∷ []
+put w (v ∷ vs) (suc at) = v ∷ put w vs at
+
+weaken : (n m : ℕ) (zs : List ℕ) → n < m → Ascends m zs → Ascends n zs
+weaken n m [] lt h = tt
+weaken n m (z ∷ zs) lt h = let a = h.0 in (omega (arith, lt, a), h.1)
+
+pub there_in : (w : ℕ) (ws : List ℕ) (at : ℕ) → Stands w (put w ws at)
+there_in w ws zero = first
+there_in w [] (suc at) = first
+there_in w (v ∷ vs) (suc at) = later (there_in w vs at)
+
+pub kept_in : (w : ℕ) (ws : List ℕ) (at v : ℕ) → Stands v ws → Stands v (put w ws at)
+kept_in w ws zero v s = later s
+kept_in w [] (suc at) v s = elim s [ ]
+kept_in w (u ∷ us) (suc at) v first = first
+kept_in w (u ∷ us) (suc at) v (later s) = later (kept_in w us at v s)
+
+pub only_in : (w : ℕ) (ws : List ℕ) (at v : ℕ) → Stands v (put w ws at) → (v ≡ w) ⊎ Stands v ws
+only_in w ws zero v first = inl refl
+only_in w ws zero v (later s) = inr s
+only_in w [] (suc at) v first = inl refl
+only_in w [] (suc at) v (later s) = elim s [ ]
+only_in w (u ∷ us) (suc at) v first = inr first
+only_in w (u ∷ us) (suc at) v (later s) = by (only_in w us at v s)
+  where
+    by : (v ≡ w) ⊎ Stands v us → (v ≡ w) ⊎ Stands v (u ∷ us)
+    by (inl e) = inl e
+    by (inr t) = inr (later t)
+
+gap_of_rest : (w v : ℕ) (vs : List ℕ) (at : ℕ) → Gap w (v ∷ vs) (suc at) → Gap w vs at
+gap_of_rest w v vs at g = record {
+  within = let h = g.within in omega (arith, h);
+  below = λ k lt. g.below (suc k) (omega (arith, lt));
+  above = λ lt. g.above (omega (arith, lt));
+}
+
+put_above : (n w : ℕ) (ws : List ℕ) (at : ℕ) → n < w → Ascends n ws → Gap w ws at → Ascends n (put w ws at)
+put_above n w [] zero lt h g = (lt, tt)
+put_above n w (v ∷ vs) zero lt h g = let up : w < v = g.above (omega arith) in (lt, (up, h.1))
+put_above n w [] (suc at) lt h g = (lt, tt)
+put_above n w (v ∷ vs) (suc at) lt h g =
+    let low : v < w = g.below 0 (omega arith) in
+    (h.0, put_above v w vs at low h.1 (gap_of_rest w v vs at g))
+
+put_ascends : (w : ℕ) (ws : List ℕ) (at : ℕ) → Ascending ws → Gap w ws at → Ascending (put w ws at)
+put_ascends w [] zero h g = tt
+put_ascends w (v ∷ vs) zero h g = let up : w < v = g.above (omega arith) in (up, h)
+put_ascends w [] (suc at) h g = tt
+put_ascends w (v ∷ vs) (suc at) h g =
+    let low : v < w = g.below 0 (omega arith) in
+    put_above v w vs at low h (gap_of_rest w v vs at g)
+
+insert_is : (w : ℕ) (ws : List ℕ) (at : ℕ) → at ≤ length ws → insert ws at w ≡ put w ws at
+insert_is w ws zero h = refl
+insert_is w [] (suc at) h = absurd (omega (arith, h))
+insert_is w (v ∷ vs) (suc at) h = ap (λ z. v ∷ z) (insert_is w vs at (omega (arith, h)))
+
+pub one_more : (w : ℕ) (ws new : List ℕ) (at : ℕ) → Ascending ws → Gap w ws at → new ≡ insert ws at w → OneMore w ws new
+one_more w ws new at h g e =
+    let same : put w ws at ≡ new = sym (e ∙ insert_is w ws at g.within) in
+    subst (λ z. OneMore w ws z) same (record {
+      ascending = put_ascends w ws at h g;
+      kept = kept_in w ws at;
+      there = there_in w ws at;
+      only = only_in w ws at;
+    })
+
+pub stands_at : (w : ℕ) (ws : List ℕ) (at : ℕ) → at < length ws → slice_index ws at ≡ w → Stands w ws
+stands_at w [] at lt e = absurd (omega (arith, lt))
+stands_at w (v ∷ vs) zero lt e = subst (λ z. Stands z (v ∷ vs)) e first
+stands_at w (v ∷ vs) (suc at) lt e = later (stands_at w vs at (omega (arith, lt)) e)
+
+pub no_more : (w : ℕ) (ws : List ℕ) → Ascending ws → Stands w ws → OneMore w ws ws
+no_more w ws h s = record { ascending = h; kept = λ v t. t; there = s; only = λ v t. inr t }
+
+pub no_bytes : (from : ℕ) (ws : List ℕ) → Ascending ws → BytesMore from from ws ws
+no_bytes from ws h = record {
+  ascending = h;
+  kept = λ v s. s;
+  there = λ x le lt. absurd (omega (arith, le, lt));
+  only = λ v s. inr s;
+}
+
+pub bytes_end : (from to n : ℕ) (ws new : List ℕ) → to ≤ n → (from ≤ to → n ≤ to) → (to ≤ from → n ≡ from) → BytesMore from n ws new → BytesMore from to ws new
+bytes_end from to n ws new past most none h = record {
+  ascending = h.ascending;
+  kept = h.kept;
+  there = λ x le lt. h.there x le (omega (arith, lt, past));
+  only = λ v s. by v (h.only v s);
+}
+  where
+    below : (x : ℕ) → from ≤ x → x < n → (from < to) ⊎ (to ≤ from) → x < to
+    below x le lt (inl p) = let q = most (omega (arith, p)) in omega (arith, lt, q)
+    below x le lt (inr p) = let q = none p in absurd (omega (arith, le, lt, q))
+
+    by : (v : ℕ) → ((x : ℕ) × (from ≤ x) × (x < n) × (word_of_byte x ≡ v)) ⊎ Stands v ws → ((x : ℕ) × (from ≤ x) × (x < to) × (word_of_byte x ≡ v)) ⊎ Stands v ws
+    by v (inl (x, le, lt, e)) = inl (x, le, below x le lt (cases_lt from to), e)
+    by v (inr s) = inr s
