@@ -26,7 +26,7 @@ returns-in-Asm g c =
     (subst (λ (t : List ℕ). Ends (wanted Text c.as_str-in-Asm.result.now ∷ []) (on_one (Assembles c.as_str-in-Asm.result.now t)) before after c.asm.result) c.as_str-in-Asm-2.ensures.value c.asm.ensures))
 
 pub exec-requires : goal.exec-requires
-exec-requires g c = record { options = subst CanDo c.in-Exec.is c.requires; }
+exec-requires g c = record { options = subst CanDo c.in-Exec.is c.requires }
 
 pub returns-in-Exec : goal.returns-in-Exec
 returns-in-Exec g c = subst (λ k. Does k (g.H.Host.state c.args.host.now) (g.H.Host.state c.exec.new.host) c.exec.result) (sym c.in-Exec.is) c.exec.ensures
