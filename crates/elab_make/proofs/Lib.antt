@@ -1,0 +1,6 @@
+pub mod Calling
+pub mod Constructing
+pub mod Fielding
+pub mod Nodes
+pub mod Putting
+pub mod Wording

@@ -1,0 +1,4 @@
+pub mod Each
+pub mod Fields
+pub mod Others
+pub mod Passing

@@ -1,16 +1,29 @@
-// Copies of objects of classes (C++14 8.5 p17, 12.8).
+// Objects of classes from one expression (C++14 8.5 p17, 12.8).
 
-ghost use Rattle.std.specs.Prelude.{◌<◌, IfOk, length};
-ghost use Rattle.cpp_types.specs.Typ.{typ_of};
-ghost use Rattle.cpp_tree.specs.Arena.{trees_of};
-ghost use Rattle.elab_ctx.specs.Ctx.{ctx_of, work_of};
+ghost use Rattle.std.specs.Prelude.{◌≡◌, ◌<◌, IfOk, Ok, length, slice_get};
+ghost use Rattle.cpp_types.specs.Typ.{typ_of, typs_of, tx_ex, typ, closure, class as class_form};
+ghost use Rattle.cpp_types.specs.Class.{classes_of};
+ghost use Rattle.cpp_tree.specs.Trees.{node, one, two};
+ghost use Rattle.cpp_tree.specs.Arena.{trees_of, tree_at, Adds};
+ghost use Rattle.elab_ctx.specs.Ctx.{ctx_of, work_of, special_of};
 ghost use Rattle.elab_ctx.specs.Operands.{operand_in};
-ghost use Rattle.elab_ctx.specs.Says.{Puts, Makes};
-ghost use Rattle.elab_rules.specs.Initialising.{class_from as class_from_of, copied_in_place as copied_in_place_of};
+ghost use Rattle.elab_ctx.specs.Steps.{and_then, Made};
+ghost use Rattle.elab_ctx.specs.Says.{Makes, MakesAll, Puts};
+ghost use Rattle.elab_rules.specs.Objects.{copies as copies_by};
+ghost use Rattle.elab_rules.specs.Initialising.{initial as initial_of, has_copy as has_copy_of, reference_word as reference_word_of, constructed_copy as constructed_copy_of, copied_object as copied_object_of, class_from as class_from_of, copied_in_place as copied_in_place_of};
 
-use cpp_tree::{ElabFault, TNodeId};
-use cpp_types::{At, Ty};
-use elab_ctx::{Env, Operand, Work};
+use crate::binding::initial;
+use crate::closures::closure_copy;
+use crate::lists::one_of;
+use crate::objects::object_of;
+use cpp_tree::{ElabFault, IllRule, TKind, TNode, TNodeId, add_binary};
+use cpp_types::{At, Cat, Shape, Ty, copy, equal_shapes};
+use elab_ctx::{Env, Operand, Special, Work, node_at};
+use elab_init::{
+    builder, building, class_number, construct, constructors, copies, copy_in_place, ill,
+    is_class_prvalue, is_prvalue_of_class, is_same_or_base, makeable, makers, meant, parameters_at,
+    same_number, traits_at,
+};
 use std::alloc::{AllocError, Global};
 
 /// A copy in place, part by part, of an object.
@@ -26,7 +39,241 @@ pub fn copied_in_place(
     requires { o.id.0 < length (trees_of work.old.nodes.items) }
     ensures { IfOk result (λ r. Puts (trees_of work.old.nodes.items) (trees_of work.new.nodes.items) (work_of work.new) r (copied_in_place_of (ctx_of env.now) (work_of work.old) class (typ_of ty.now) at (operand_in (trees_of work.old.nodes.items) o))) }
 {
-    Err(AllocError)
+    let object = object_of(alloc, env, work, o.at, o.id)?;
+    copy_in_place(alloc, env, &mut work.nodes, class, ty, at, o.at, object)
+}
+
+// The word of a constructor that copies.
+fn one_word(
+    alloc: Global,
+    env: &Env,
+    work: &mut Work,
+    param: &Ty,
+    o: Operand,
+) -> Result<Vec<TNodeId>, ElabFault>
+    requires { o.id.0 < length (trees_of work.old.nodes.items) }
+    ensures { MakesAll (trees_of work.old.nodes.items) (trees_of work.new.nodes.items) (work_of work.new) result (and_then (initial_of (ctx_of env.now) (work_of work.old) (typ_of param.now) (operand_in (trees_of work.old.nodes.items) o)) (λ (m : Made). Ok (record { trees = one m.tree; work = m.work }))) }
+{
+    let word = initial(alloc, env, work, param, o)?;
+    let words = one_of(alloc, word)?;
+    Ok(words)
+}
+
+// The same of a constructor with one parameter.
+fn reference_word(
+    alloc: Global,
+    env: &Env,
+    work: &mut Work,
+    params: &[Ty],
+    o: Operand,
+) -> Result<Vec<TNodeId>, ElabFault>
+    requires { o.id.0 < length (trees_of work.old.nodes.items) }
+    ensures { MakesAll (trees_of work.old.nodes.items) (trees_of work.new.nodes.items) (work_of work.new) result (reference_word_of (ctx_of env.now) (work_of work.old) (typs_of params.now) (operand_in (trees_of work.old.nodes.items) o)) }
+{
+    if params.len() == 1 {
+        one_word(alloc, env, work, &params[0], o)
+    } else {
+        Err(ill(o.at, IllRule::OutOfProfile))
+    }
+}
+
+// A copy of an object by a constructor, or in place.
+fn constructed_copy(
+    alloc: Global,
+    env: &Env,
+    work: &mut Work,
+    class: u32,
+    ty: &Ty,
+    at: At,
+    o: Operand,
+    maker: Option<u32>,
+) -> Result<TNodeId, ElabFault>
+    requires { o.id.0 < length (trees_of work.old.nodes.items) }
+    ensures { Makes (trees_of work.old.nodes.items) (trees_of work.new.nodes.items) (work_of work.new) result (constructed_copy_of (ctx_of env.now) (work_of work.old) class (typ_of ty.now) at (operand_in (trees_of work.old.nodes.items) o) maker) }
+{
+    match maker {
+        None => {
+            let made = copied_in_place(alloc, env, work, class, ty, at, o)?;
+            Ok(made)
+        }
+        Some(func) => {
+            let params = parameters_at(env, func)?;
+            let words = reference_word(alloc, env, work, params, o)?;
+            let made = construct(alloc, &mut work.nodes, func, ty, at, words)?;
+            Ok(made)
+        }
+    }
+}
+
+fn has_copy(copy: Special) -> bool
+    ensures { result ≡ has_copy_of (special_of copy) }
+{
+    match copy {
+        Special::Absent => false,
+        Special::Trivial | Special::Function(_) => true,
+    }
+}
+
+// A copy of an object of the class or of a class that is derived from it.
+fn copied_object(
+    alloc: Global,
+    env: &Env,
+    work: &mut Work,
+    class: u32,
+    ty: &Ty,
+    at: At,
+    o: Operand,
+) -> Result<TNodeId, ElabFault>
+    requires { o.id.0 < length (trees_of work.old.nodes.items) }
+    ensures { Makes (trees_of work.old.nodes.items) (trees_of work.new.nodes.items) (work_of work.new) result (copied_object_of (ctx_of env.now) (work_of work.old) class (typ_of ty.now) at (operand_in (trees_of work.old.nodes.items) o)) }
+{
+    if node_at(&work.nodes, o.id).ty.is_volatile || !has_copy(traits_at(env, class).copy) {
+        return Err(ill(o.at, IllRule::NoCopy));
+    }
+    let places = constructors(alloc, env, class)?;
+    let cands = makers(alloc, env, class, &places)?;
+    let i = meant(alloc, env, &work.nodes, at, &cands, &[o])?;
+    let maker = place_at(&places, i);
+    constructed_copy(alloc, env, work, class, ty, at, o, maker)
+}
+
+/// The place with an index.
+pub fn place_at(places: &[u32], i: u32) -> Option<u32>
+    ensures { result ≡ slice_get places.now i }
+{
+    let place = places.get(i as usize)?;
+    Some(*place)
+}
+
+// A lambda's object from an expression.
+fn closure_from(
+    alloc: Global,
+    env: &Env,
+    work: &mut Work,
+    class: u32,
+    is_const: bool,
+    is_volatile: bool,
+    at: At,
+    o: Operand,
+) -> Result<TNodeId, ElabFault>
+    requires { o.id.0 < length (trees_of work.old.nodes.items) }
+    ensures { Makes (trees_of work.old.nodes.items) (trees_of work.new.nodes.items) (work_of work.new) result (class_from_of (ctx_of env.now) (work_of work.old) (typ (closure class) is_const is_volatile) at (operand_in (trees_of work.old.nodes.items) o)) }
+{
+    if is_prvalue_of_class(&work.nodes, class, o.id) {
+        return Ok(o.id);
+    }
+    if !same_number(class, class_number(&node_at(&work.nodes, o.id).ty)) {
+        return Err(ill(o.at, IllRule::NoConversion));
+    }
+    let ty = Ty {
+        shape: Shape::Closure(class),
+        is_const,
+        is_volatile,
+    };
+    let made = closure_copy(alloc, env, &mut work.nodes, class, &ty, at, o.id)?;
+    Ok(made)
+}
+
+// An object of a class with a name from an expression.
+fn object_from(
+    alloc: Global,
+    env: &Env,
+    work: &mut Work,
+    class: u32,
+    is_const: bool,
+    is_volatile: bool,
+    at: At,
+    o: Operand,
+) -> Result<TNodeId, ElabFault>
+    requires { o.id.0 < length (trees_of work.old.nodes.items) }
+    ensures { Makes (trees_of work.old.nodes.items) (trees_of work.new.nodes.items) (work_of work.new) result (class_from_of (ctx_of env.now) (work_of work.old) (typ (class_form class) is_const is_volatile) at (operand_in (trees_of work.old.nodes.items) o)) }
+{
+    let _number = makeable(env, at, class)?;
+    let ty = Ty {
+        shape: Shape::Class(class),
+        is_const,
+        is_volatile,
+    };
+    if is_prvalue_of_class(&work.nodes, class, o.id) {
+        let made = building(alloc, &mut work.nodes, &ty, o.id)?;
+        return Ok(made);
+    }
+    let found = class_number(&node_at(&work.nodes, o.id).ty);
+    if !is_same_or_base(env, found, Some(class)) {
+        return Err(ill(o.at, IllRule::NoConversion));
+    }
+    copied_object(alloc, env, work, class, &ty, at, o)
+}
+
+// `std::tx_exception` of a type.
+fn exception_type(
+    alloc: Global,
+    value: &Ty,
+    is_const: bool,
+    is_volatile: bool,
+) -> Result<Ty, AllocError>
+    ensures { IfOk result (λ t. typ_of t ≡ typ (tx_ex (typ_of value.now)) is_const is_volatile) }
+{
+    let value = Box::new(alloc, copy(alloc, value)?)?;
+    Ok(Ty {
+        shape: Shape::TxEx(value),
+        is_const,
+        is_volatile,
+    })
+}
+
+// A copy of the value in a `std::tx_exception`.
+fn exception_copy(
+    alloc: Global,
+    env: &Env,
+    nodes: &mut Vec<TNode>,
+    ty: &Ty,
+    value: &Ty,
+    at: At,
+    id: TNodeId,
+) -> Result<TNodeId, AllocError>
+    requires { id.0 < length (trees_of nodes.old.items) }
+    ensures { IfOk result (λ r. Adds (trees_of nodes.old.items) (trees_of nodes.new.items) r (node TKind.CopyFrom (typ_of ty.now) Cat.Prvalue at (two (tree_at (trees_of nodes.old.items) id) (copies_by (classes_of env.now.classes.items) at (typ_of value.now))))) }
+{
+    let parts = copies(alloc, env, nodes, at, value)?;
+    let ty = copy(alloc, ty)?;
+    add_binary(
+        alloc,
+        nodes,
+        TKind::CopyFrom,
+        ty,
+        Cat::Prvalue,
+        at,
+        id,
+        parts,
+    )
+}
+
+// A `std::tx_exception` from an expression.
+fn exception_from(
+    alloc: Global,
+    env: &Env,
+    work: &mut Work,
+    value: &Ty,
+    is_const: bool,
+    is_volatile: bool,
+    at: At,
+    o: Operand,
+) -> Result<TNodeId, ElabFault>
+    requires { o.id.0 < length (trees_of work.old.nodes.items) }
+    ensures { Makes (trees_of work.old.nodes.items) (trees_of work.new.nodes.items) (work_of work.new) result (class_from_of (ctx_of env.now) (work_of work.old) (typ (tx_ex (typ_of value.now)) is_const is_volatile) at (operand_in (trees_of work.old.nodes.items) o)) }
+{
+    let ty = exception_type(alloc, value, is_const, is_volatile)?;
+    let node = node_at(&work.nodes, o.id);
+    if !equal_shapes(&node.ty.shape, &ty.shape) {
+        return Err(ill(o.at, IllRule::NoConversion));
+    }
+    if is_class_prvalue(&node.ty, node.cat) {
+        let made = builder(&work.nodes, o.id)?;
+        return Ok(made);
+    }
+    let made = exception_copy(alloc, env, &mut work.nodes, &ty, value, at, o.id)?;
+    Ok(made)
 }
 
 /// An object of class type from an expression (C++14 8.5 p17): a prvalue of the class is its own initialiser.
@@ -41,5 +288,21 @@ pub fn class_from(
     requires { o.id.0 < length (trees_of work.old.nodes.items) }
     ensures { Makes (trees_of work.old.nodes.items) (trees_of work.new.nodes.items) (work_of work.new) result (class_from_of (ctx_of env.now) (work_of work.old) (typ_of ty.now) at (operand_in (trees_of work.old.nodes.items) o)) }
 {
-    Err(ElabFault::Memory)
+    let is_const = ty.is_const;
+    let is_volatile = ty.is_volatile;
+    match &ty.shape {
+        Shape::Closure(class) => {
+            closure_from(alloc, env, work, *class, is_const, is_volatile, at, o)
+        }
+        Shape::Class(class) => object_from(alloc, env, work, *class, is_const, is_volatile, at, o),
+        Shape::TxEx(value) => exception_from(alloc, env, work, value, is_const, is_volatile, at, o),
+        Shape::Void
+        | Shape::Int(_)
+        | Shape::Enum { .. }
+        | Shape::Null
+        | Shape::Ptr(_)
+        | Shape::Ref(_)
+        | Shape::Array(_, _)
+        | Shape::Func(_) => Err(ill(o.at, IllRule::NoConversion)),
+    }
 }

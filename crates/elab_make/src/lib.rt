@@ -3,8 +3,11 @@
 
 pub mod binding;
 pub mod call_words;
+mod closures;
 pub mod copying;
 pub mod destructions;
+pub mod each;
+pub mod lists;
 pub mod nothing;
 pub mod objects;
 pub mod scalar_fields;
@@ -12,8 +15,10 @@ pub mod values;
 
 pub use binding::{bound_by, initial};
 pub use call_words::{passed, words};
-pub use copying::{class_from, copied_in_place};
-pub use destructions::destroys;
+pub use copying::{class_from, copied_in_place, place_at};
+pub use destructions::{count_of, destroys};
+pub use each::each_by;
+pub use lists::one_of;
 pub use nothing::{default_by, from_nothing};
 pub use objects::object_of;
 pub use scalar_fields::fields;

@@ -1,15 +1,37 @@
 // The objects that expressions stand for (C++14 12.2).
 
 ghost use Rattle.std.specs.Prelude.{◌<◌, IfOk, length};
+ghost use Rattle.cpp_types.specs.Typ.{typ_of};
 ghost use Rattle.cpp_tree.specs.Arena.{trees_of, tree_at};
 ghost use Rattle.elab_ctx.specs.Ctx.{ctx_of, work_of};
 ghost use Rattle.elab_ctx.specs.Says.{Puts};
+ghost use Rattle.elab_rules.specs.Values.{builder as builder_of, temporary as temporary_of};
+ghost use Rattle.elab_rules.specs.Objects.{destroys as destroys_by};
 ghost use Rattle.elab_rules.specs.Initialising.{object_of as object_by};
 
+use crate::destructions::destroys;
 use cpp_tree::TNodeId;
-use cpp_types::At;
-use elab_ctx::{Env, Work};
+use cpp_types::{At, Ty, copy};
+use elab_ctx::{Env, Work, node_at};
+use elab_init::{builder, is_class_prvalue, temporary};
 use std::alloc::{AllocError, Global};
+
+// The object that a class prvalue of a type stands for, in a temporary.
+fn built_object(
+    alloc: Global,
+    env: &Env,
+    work: &mut Work,
+    ty: &Ty,
+    at: At,
+    id: TNodeId,
+) -> Result<TNodeId, AllocError>
+    requires { id.0 < length (trees_of work.old.nodes.items) }
+    ensures { IfOk result (λ r. Puts (trees_of work.old.nodes.items) (trees_of work.new.nodes.items) (work_of work.new) r (temporary_of (work_of work.old) (typ_of ty.now) at (builder_of (tree_at (trees_of work.old.nodes.items) id)) (destroys_by (ctx_of env.now) at (typ_of ty.now)))) }
+{
+    let init = builder(&work.nodes, id)?;
+    let ends = destroys(alloc, env, &mut work.nodes, at, ty)?;
+    temporary(alloc, work, ty, at, init, &ends)
+}
 
 /// The object that a class prvalue stands for, in a temporary; another expression as it is.
 pub fn object_of(
@@ -22,5 +44,10 @@ pub fn object_of(
     requires { id.0 < length (trees_of work.old.nodes.items) }
     ensures { IfOk result (λ r. Puts (trees_of work.old.nodes.items) (trees_of work.new.nodes.items) (work_of work.new) r (object_by (ctx_of env.now) (work_of work.old) at (tree_at (trees_of work.old.nodes.items) id))) }
 {
-    Err(AllocError)
+    let node = node_at(&work.nodes, id);
+    if !is_class_prvalue(&node.ty, node.cat) {
+        return Ok(id);
+    }
+    let ty = copy(alloc, &node.ty)?;
+    built_object(alloc, env, work, &ty, at, id)
 }

@@ -1,0 +1,10 @@
+use Rattle.std.proofs.Common.{drop, map}
+use Rattle.cpp_tree.specs.Arena.{trees_of}
+use Rattle.elab_ctx.specs.Ctx.{ctx_of}
+use Rattle.elab_rules.specs.Initialising.{closure_pieces}
+use Rattle.elab_init.specs.Parts.{part_of}
+use Rattle.elab_init.proofs.Listing.{Adding}
+use Rattle.elab_make.proofs.closures.closure_pieces.Given as goal
+
+abbrev pub invariant-loop-part : goal.invariant-loop-part
+invariant-loop-part l = Adding (trees_of l.fn.nodes.items) (trees_of l.nodes.items) l.kids.items (closure_pieces (ctx_of l.env) l.at (map part_of (drop l.part-index l.parts))) (closure_pieces (ctx_of l.env) l.at (map part_of l.parts))
