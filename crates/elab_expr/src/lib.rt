@@ -1,0 +1,8 @@
+//! The recursion over expressions, type-ids and declarators.
+#![tactic(auto)]
+
+pub mod declarators;
+pub mod expressions;
+
+pub use declarators::{declared, parameter, parameters, type_id, type_of_specifiers};
+pub use expressions::{chosen_expression, expression, operands};

@@ -1,0 +1,2 @@
+//! The typed forms of expressions, each from its operands.
+#![tactic(auto)]
