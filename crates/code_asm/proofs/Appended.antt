@@ -33,11 +33,11 @@ count_more xs x h =
 
 -- ---- order
 
-last_from : {A : Type 0} → A → List A → A
+unfoldable pub last_from : {A : Type 0} → A → List A → A
 last_from x [] = x
 last_from x (y ∷ ys) = last_from y ys
 
-last_is : {A : Type 0} (x : A) (xs : List A) → last_of (x ∷ xs) ≡ Some (last_from x xs)
+pub last_is : {A : Type 0} (x : A) (xs : List A) → last_of (x ∷ xs) ≡ Some (last_from x xs)
 unfolding last_from
 last_is x [] = refl
 last_is x (y ∷ ys) =
@@ -55,7 +55,7 @@ pub ascends_more : {A : Type 0} (below : A → A → Bool) (xs : List A) (x : A)
 ascends_more below [] x h k = refl
 ascends_more below (a ∷ xs) x h k = from_more below a xs x h (subst (λ o. above below o x ≡ true) (last_is a xs) k)
 
-above_key : {A : Type 0} (key : A → ℕ) (o : Option A) (x : A) → above nat_lt (option_map key o) (key x) ≡ above (λ a b. nat_lt (key a) (key b)) o x
+pub above_key : {A : Type 0} (key : A → ℕ) (o : Option A) (x : A) → above nat_lt (option_map key o) (key x) ≡ above (λ a b. nat_lt (key a) (key b)) o x
 above_key key None x = refl
 above_key key (Some a) x = refl
 

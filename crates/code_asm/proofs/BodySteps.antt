@@ -12,11 +12,12 @@ use Rattle.tx_code.specs.WellFormed.{is_name, is_count, named_by, named_by_row, 
 use Rattle.object_bytes.specs.Spelling.{instr_is_wide, row_is_wide, line_is_wide, body_is_wide}
 use Rattle.object_bytes.specs.Fields.{above}
 use Rattle.object_bytes.proofs.Parts.{parts3, parts4}
-use Rattle.code_asm.specs.declared.line.Record.{Record}
-use Rattle.code_asm.specs.declared.line.Record.TheVariants as kind
-use Rattle.code_asm.specs.Lines.{Line, Of, code_line, row_line, number_line, body_lines, record_is_wide}
-use Rattle.code_asm.specs.Steps.{given, is_nil, has_room, last_of, no_body, body_step}
-use Rattle.code_asm.proofs.RecordLaws.{was_given}
+use Rattle.assembly_text.specs.declared.line.Record.{Record}
+use Rattle.assembly_text.specs.declared.line.Record.TheVariants as kind
+use Rattle.assembly_text.specs.Lines.{Line, Of, code_line, row_line, number_line, body_lines, record_is_wide}
+use Rattle.code_asm.specs.Steps.{is_nil, has_room, last_of, no_body, body_step}
+use Rattle.assembly_text.specs.Options.{given}
+use Rattle.assembly_text.proofs.RecordLaws.{was_given}
 use Rattle.code_asm.proofs.Appended.{nil_is, all_more, all_flat_more, map_more, count_more, ascends_more}
 
 -- the line of a record: that of the instruction `end` is the record of that name

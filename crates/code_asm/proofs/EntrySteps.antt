@@ -11,11 +11,12 @@ use Rattle.tx_code.specs.WellFormed.{is_name, is_name_or_none, is_count, ascends
 use Rattle.object_bytes.specs.Spelling.{is_u8, is_u32, member_is_wide, class_is_wide, cell_is_wide, global_is_wide, some_is_wide, func_is_wide}
 use Rattle.object_bytes.specs.Fields.{above}
 use Rattle.object_bytes.proofs.Parts.{parts3, parts4}
-use Rattle.code_asm.specs.declared.line.Record.{Record}
-use Rattle.code_asm.specs.declared.line.Record.TheVariants as kind
-use Rattle.code_asm.specs.Lines.{Line, Of, body_lines, some_lines, class_lines, global_lines, func_lines}
-use Rattle.code_asm.specs.Steps.{given, is_nil, has_room, last_of, no_body, body_step, class_step, global_step, with_bodies, in_body, func_step, has_bodies}
-use Rattle.code_asm.proofs.RecordLaws.{was_given}
+use Rattle.assembly_text.specs.declared.line.Record.{Record}
+use Rattle.assembly_text.specs.declared.line.Record.TheVariants as kind
+use Rattle.assembly_text.specs.Lines.{Line, Of, body_lines, some_lines, class_lines, global_lines, func_lines}
+use Rattle.code_asm.specs.Steps.{is_nil, has_room, last_of, no_body, body_step, class_step, global_step, with_bodies, in_body, func_step, has_bodies}
+use Rattle.assembly_text.specs.Options.{given}
+use Rattle.assembly_text.proofs.RecordLaws.{was_given}
 use Rattle.code_asm.proofs.Appended.{nil_is, all_more, map_more, count_more, ascends_more}
 use Rattle.code_asm.proofs.BodySteps.{line_of, has_width, BodyParts, body_fits_by, body_wide_by, no_body_parts, or_left, body_steps}
 

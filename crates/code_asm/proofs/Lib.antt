@@ -1,12 +1,11 @@
-pub mod RecordLaws
-pub mod RecordsAgain
-pub mod FieldLaws
-pub mod NameLaws
-pub mod LineLaws
 pub mod Appended
 pub mod BodySteps
 pub mod EntrySteps
 pub mod StateLaws
-pub mod PrintLaws
 pub mod RunLaws
 pub mod OneOutcome
+pub mod Leads
+pub mod BodyLeads
+pub mod EntryLeads
+pub mod FuncLeads
+pub mod Complete

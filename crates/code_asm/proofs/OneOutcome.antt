@@ -2,10 +2,11 @@
 use Rattle.std.proofs.Common.{◌≡◌, ℕ, ◌<◌, ◌≤◌, List, [], Option, Some, None, refl, sym, ap, subst, ◌∙◌, inl, inr, arith}
 use Rattle.std.proofs.lemmas.Bool.{cases_lt}
 use Rattle.tx_code.specs.Objects.{ObjectView}
-use Rattle.code_asm.specs.Lines.{Line}
+use Rattle.assembly_text.specs.Lines.{Line}
 use Rattle.code_asm.specs.Steps.{State, Ended, step, is_nil}
-use Rattle.code_asm.specs.Answers.{LineHere, Reaches, begins, goes_on, IsFirstWrong}
-use Rattle.code_asm.proofs.LineLaws.{same_lines, shorter}
+use Rattle.code_asm.specs.Answers.{Reaches, begins, goes_on, IsFirstWrong}
+use Rattle.assembly_text.specs.Front.{LineHere}
+use Rattle.assembly_text.proofs.LineLaws.{same_lines, shorter}
 
 some_is : (s t : State) → Path (Option State) (Some s) (Some t) → s ≡ t
 some_is s t e = cc

@@ -13,15 +13,17 @@ use Rattle.object_bytes.specs.Fields.{above}
 use Rattle.object_bytes.specs.Objects.{source_of, is_whole}
 use Rattle.object_bytes.proofs.Parts.{parts3, parts5, parts7, parts8}
 use Rattle.object_bytes.proofs.ObjectLaws.{FieldsFit, numbered, source_fits_is}
-use Rattle.code_asm.specs.declared.line.ClassHead.{ClassHead}
-use Rattle.code_asm.specs.declared.line.GlobalHead.{GlobalHead}
-use Rattle.code_asm.specs.declared.line.FuncHead.{FuncHead}
-use Rattle.code_asm.specs.declared.line.Record.{Record}
-use Rattle.code_asm.specs.declared.line.Record.TheVariants as kind
-use Rattle.code_asm.specs.Lines.{Line, Name, Of, line_text, code_line, not_end, record_is_wide, source_lines, class_lines, global_lines, func_lines, lines_of, text_of}
-use Rattle.code_asm.specs.Steps.{Place, Start, Names, Between, InClass, InGlobal, InFunc, Ended, State, given, and_then, has_room, is_nil, last_of, class_step, global_step, func_step, has_bodies, func_of, with_class, with_global, with_func, closed, begun, named, sourced, begin_class, begin_global, begin_func, inner, ended, place_takes_code, end_step, record_step, step, IsSorted}
-use Rattle.code_asm.specs.Answers.{line_is_wide, Reaches, begins, goes_on, IsWritten}
-use Rattle.code_asm.proofs.RecordLaws.{was_given, bound}
+use Rattle.assembly_text.specs.declared.line.ClassHead.{ClassHead}
+use Rattle.assembly_text.specs.declared.line.GlobalHead.{GlobalHead}
+use Rattle.assembly_text.specs.declared.line.FuncHead.{FuncHead}
+use Rattle.assembly_text.specs.declared.line.Record.{Record}
+use Rattle.assembly_text.specs.declared.line.Record.TheVariants as kind
+use Rattle.assembly_text.specs.Lines.{Line, Name, Of, line_text, code_line, not_end, record_is_wide, source_lines, class_lines, global_lines, func_lines, lines_of, text_of}
+use Rattle.code_asm.specs.Steps.{Place, Start, Names, Between, InClass, InGlobal, InFunc, Ended, State, has_room, is_nil, last_of, class_step, global_step, func_step, has_bodies, func_of, with_class, with_global, with_func, closed, begun, named, sourced, begin_class, begin_global, begin_func, inner, ended, place_takes_code, end_step, record_step, step, IsSorted}
+use Rattle.assembly_text.specs.Options.{given, and_then}
+use Rattle.code_asm.specs.Answers.{Reaches, begins, goes_on, IsWritten}
+use Rattle.assembly_text.specs.Front.{line_is_wide}
+use Rattle.assembly_text.proofs.RecordLaws.{was_given, bound}
 use Rattle.code_asm.proofs.Appended.{nil_is, all_more, flat_more, map_more, count_more, ascends_more, ascends_key}
 use Rattle.code_asm.proofs.BodySteps.{line_of, has_width}
 use Rattle.code_asm.proofs.EntrySteps.{ClassParts, class_fits_by, class_wide_by, class_steps, GlobalParts, global_fits_by, global_wide_by, global_steps, FuncParts, func_fits_by, func_wide_by, func_steps}

@@ -1,32 +1,24 @@
 -- What assembling a text answers.
-use Rattle.std.specs.Prelude.{◌≡◌, Bool, true, ℕ, ◌+◌, List, [], ◌++◌, Some, None, Result, Ok, Err}
-use Rattle.std.specs.List.{list_all}
+use Rattle.std.specs.Prelude.{◌≡◌, true, ℕ, ◌+◌, List, [], Some, None, Result, Ok, Err}
 use Rattle.tx_code.specs.declared.object.Object.{Object}
-use Rattle.tx_code.specs.Objects.{ObjectView}
+use Rattle.tx_code.specs.Objects.{ObjectView, object_view}
 use Rattle.tx_code.specs.WellFormed.{IsObject}
-use Rattle.object_bytes.specs.Spelling.{is_u8, is_wide}
+use Rattle.object_bytes.specs.Spelling.{is_wide}
 use Rattle.code_asm.specs.declared.fault.AsmFault.{AsmFault}
 use Rattle.code_asm.specs.declared.fault.AsmFault.TheVariants.{BadAsm, Memory}
-use Rattle.code_asm.specs.Lines.{Line, Name, Of, line_text, record_is_wide, Writes}
+use Rattle.assembly_text.specs.Lines.{Line, Writes}
+use Rattle.assembly_text.specs.Front.{LineHere}
 use Rattle.code_asm.specs.Steps.{State, start, step, Ended, is_nil}
-
--- its numbers are those that the fields of the line can hold
-abbrev pub line_is_wide : Line → Bool
-line_is_wide (Name name) = list_all is_u8 name
-line_is_wide (Of r) = record_is_wide r
-
--- the line stands at the front of the text
-pub record LineHere (text : List ℕ) (l : Line) (rest : List ℕ) : Type 0 where
-  pub wide : line_is_wide l ≡ true
-  pub written : text ≡ line_text l ++ rest
-
-abbrev pub NoLineHere : List ℕ → Type 0
-NoLineHere text = (l : Line) (rest : List ℕ) → LineHere text l rest → ⊥
 
 -- Behind the lines before the line of this number the state is reached, and the rest is left.
 pub data Reaches (text : List ℕ) : (number : ℕ) → State → (rest : List ℕ) → Type 0 where
   begins : Reaches text 1 start text
   goes_on : {number : ℕ} {s t : State} {left rest : List ℕ} (l : Line) → Reaches text number s left → LineHere left l rest → step s l (is_nil rest) ≡ Some t → Reaches text (number + 1) t rest
+
+-- the text leads to the end of the object
+pub record LeadsTo (text : List ℕ) (o : ObjectView) : Type 0 where
+  pub number : ℕ
+  pub reached : Reaches text number (record { object = o; place = Ended }) []
 
 -- no line that may stand here begins the rest
 abbrev pub NoLine : State → List ℕ → Type 0
@@ -46,6 +38,12 @@ pub record IsWritten (o : ObjectView) (text : List ℕ) : Type 0 where
   pub writes : Writes o text
   pub object : IsObject o
   pub wide : is_wide o ≡ true
+
+-- no answer but this object
+abbrev pub IsThat : Result Object AsmFault → ObjectView → Type 0
+IsThat (Ok object) o = object_view object ≡ o
+IsThat (Err (BadAsm line)) o = ⊥
+IsThat (Err Memory) o = Unit {0}
 
 -- a fault names the first wrong line
 abbrev pub IsFault : Result Object AsmFault → List ℕ → Type 0

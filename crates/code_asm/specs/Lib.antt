@@ -1,9 +1,4 @@
-pub mod Words
-pub mod Keys
-pub mod Lines
-pub mod Reading
 pub mod Steps
 pub mod Answers
 pub mod Views
-pub mod Front
 pub mod Runs

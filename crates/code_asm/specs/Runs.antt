@@ -1,5 +1,5 @@
 -- What the loop over the lines of a text gives.
-use Rattle.std.specs.Prelude.{◌≡◌, ℕ, List, [], Some, Result, Ok, Err}
+use Rattle.std.specs.Prelude.{◌≡◌, ℕ, List, Some, Result, Ok, Err}
 use Rattle.tx_code.specs.declared.object.Object.{Object}
 use Rattle.tx_code.specs.Objects.{object_view}
 use Rattle.code_asm.specs.declared.fault.Stop.{Stop}
@@ -7,10 +7,11 @@ use Rattle.code_asm.specs.declared.fault.Stop.TheVariants as stop
 use Rattle.code_asm.specs.declared.fault.AsmFault.{AsmFault}
 use Rattle.code_asm.specs.declared.fault.AsmFault.TheVariants.{BadAsm, Memory}
 use Rattle.code_asm.specs.declared.assembling.Behind.{Behind}
-use Rattle.code_asm.specs.Lines.{Line}
-use Rattle.code_asm.specs.Steps.{State, Ended, step, is_nil}
+use Rattle.assembly_text.specs.Lines.{Line}
+use Rattle.code_asm.specs.Steps.{State, step, is_nil}
 use Rattle.code_asm.specs.Views.{state_of}
-use Rattle.code_asm.specs.Answers.{LineHere, NoLine, Reaches, IsFirstWrong}
+use Rattle.code_asm.specs.Answers.{NoLine, LeadsTo, IsFirstWrong}
+use Rattle.assembly_text.specs.Front.{LineHere}
 
 -- a line was taken
 pub record OneLine (s : State) (text : List ℕ) (t : State) (rest : List ℕ) : Type 0 where
@@ -23,11 +24,7 @@ TookLine s text (Ok b) = OneLine s text (state_of b.assembly) b.rest.now
 TookLine s text (Err stop.Wrong) = NoLine s text
 TookLine s text (Err stop.Memory) = Unit {0}
 
-pub record ReachesEnd (text : List ℕ) (object : Object) : Type 0 where
-  pub number : ℕ
-  pub reached : Reaches text number (record { object = object_view object; place = Ended }) []
-
 abbrev pub IsRun : List ℕ → Result Object AsmFault → Type 0
-IsRun text (Ok object) = ReachesEnd text object
+IsRun text (Ok object) = LeadsTo text (object_view object)
 IsRun text (Err (BadAsm line)) = IsFirstWrong text line
 IsRun text (Err Memory) = Unit {0}

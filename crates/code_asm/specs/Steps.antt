@@ -7,12 +7,13 @@ use Rattle.tx_code.specs.Objects.{BodyView, ClassView, GlobalView, FuncView, Obj
 use Rattle.tx_code.specs.WellFormed.{bytes_lt, is_name, is_name_or_none, is_length, named_by, named_by_row, line_after, member_fits, cell_fits, cell_after, bit, same, flags_fit, text_fits, ascends_by}
 use Rattle.object_bytes.specs.Fields.{above}
 use Rattle.object_bytes.specs.Objects.{source_of, is_whole}
-use Rattle.code_asm.specs.declared.line.ClassHead.{ClassHead}
-use Rattle.code_asm.specs.declared.line.GlobalHead.{GlobalHead}
-use Rattle.code_asm.specs.declared.line.FuncHead.{FuncHead}
-use Rattle.code_asm.specs.declared.line.Record.{Record}
-use Rattle.code_asm.specs.declared.line.Record.TheVariants as kind
-use Rattle.code_asm.specs.Lines.{Line, Name, Of}
+use Rattle.assembly_text.specs.declared.line.ClassHead.{ClassHead}
+use Rattle.assembly_text.specs.declared.line.GlobalHead.{GlobalHead}
+use Rattle.assembly_text.specs.declared.line.FuncHead.{FuncHead}
+use Rattle.assembly_text.specs.declared.line.Record.{Record}
+use Rattle.assembly_text.specs.declared.line.Record.TheVariants as kind
+use Rattle.assembly_text.specs.Options.{given, and_then}
+use Rattle.assembly_text.specs.Lines.{Line, Name, Of}
 
 -- ---- states
 
@@ -36,13 +37,6 @@ empty_object version = record { version = version; names = []; source = None; cl
 
 abbrev pub start : State
 start = record { object = empty_object 0; place = Start }
-
-abbrev pub and_then : {A B : Type 0} → Option A → (A → Option B) → Option B
-and_then (Some x) next = next x
-and_then None next = None
-
-abbrev pub given : {A : Type 0} → Bool → A → Option A
-given b x = if b then Some x else None
 
 -- ---- lists
 

@@ -6,9 +6,6 @@ use Rattle.code_asm.specs.declared.fault.Stop.TheVariants.{Memory, Wrong}
 use Rattle.code_asm.specs.declared.assembly.Place.{Place as Places}
 use Rattle.code_asm.specs.declared.assembly.Place.TheVariants as held
 use Rattle.code_asm.specs.declared.assembly.Assembly.{Assembly}
-use Rattle.code_asm.specs.declared.line.Line.{Line as Lines}
-use Rattle.code_asm.specs.declared.line.Line.TheVariants as read
-use Rattle.code_asm.specs.Lines.{Line, Name, Of}
 use Rattle.code_asm.specs.Steps.{Place, Start, Names, Between, InClass, InGlobal, InFunc, Ended, State}
 
 abbrev pub place_of : Places → Place
@@ -22,10 +19,6 @@ place_of held.Ended = Ended
 
 abbrev pub state_of : Assembly → State
 state_of a = record { object = object_view a.object; place = place_of a.place }
-
-abbrev pub line_view : Lines → Line
-line_view (read.Name name) = Name name.items
-line_view (read.Of r) = Of r
 
 -- What a step returned, seen by view, is what the line adds, unless memory ran out.
 abbrev pub Stops : {Y : Type 0} → Stop → Option Y → Type 0

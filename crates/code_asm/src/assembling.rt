@@ -1,14 +1,14 @@
 //! Assembling: the object of a text.
 ghost use Rattle.std.specs.Prelude.{[], ℕ, List, IfOk};
-ghost use Rattle.tx_code.specs.Objects.{object_view};
+ghost use Rattle.tx_code.specs.Objects.{ObjectView, object_view};
 ghost use Rattle.code_asm.specs.Steps.{IsSorted};
 ghost use Rattle.code_asm.specs.Views.{state_of, place_of};
-ghost use Rattle.code_asm.specs.Answers.{Reaches, IsWritten, IsFault};
+ghost use Rattle.code_asm.specs.Answers.{Reaches, IsWritten, IsThat, IsFault};
 ghost use Rattle.code_asm.specs.Runs.{TookLine, IsRun};
 
 use crate::assembly::{Assembly, Place, add_line, start};
 use crate::fault::{AsmFault, Stop};
-use crate::reader::{Read, line_at};
+use assembly_text::{Read, line_at};
 use std::alloc::Global;
 use tx_code::Object;
 
@@ -80,6 +80,8 @@ fn run(alloc: Global, text: &[u8]) -> Result<Object, AsmFault>
 pub fn assemble(alloc: Global, text: &[u8]) -> Result<Object, AsmFault>
     // The text writes what is answered, and some bytes spell it.
     ensures object { IfOk result (λ object. IsWritten (object_view object) text.now) }
+    // A text that writes an object is answered with that object: `BadAsm` only where it writes none.
+    ensures only { (o : ObjectView) → IsWritten o text.now → IsThat result o }
     // A fault names the first wrong line.
     ensures fault { IsFault result text.now }
 {

@@ -5,14 +5,15 @@ ghost use Rattle.tx_code.specs.Objects.{ClassView, GlobalView, FuncView, bytes_o
 ghost use Rattle.tx_code.specs.WellFormed.{bytes_lt, is_length, flags_fit, text_fits, ascends_by};
 ghost use Rattle.object_bytes.specs.Fields.{above};
 ghost use Rattle.code_asm.specs.Steps as spec;
-ghost use Rattle.code_asm.specs.Views.{Stepped, state_of, place_of, line_view};
+ghost use Rattle.code_asm.specs.Views.{Stepped, state_of, place_of};
+ghost use Rattle.assembly_text.specs.Views.{line_view};
 
 use crate::bodies::has_room;
 use crate::entries::{
     add_to_class, add_to_func, add_to_global, func_takes_code, has_bit, has_bodies,
 };
 use crate::fault::Stop;
-use crate::line::{ClassHead, FuncHead, GlobalHead, Line, Record};
+use assembly_text::{ClassHead, FuncHead, GlobalHead, Line, Record};
 use object_bytes::{is_whole, source_name};
 use std::alloc::Global;
 use tx_code::{Instr, ObjClass, ObjFunc, ObjGlobal, Object};

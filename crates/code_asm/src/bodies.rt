@@ -4,12 +4,12 @@ ghost use Rattle.std.specs.List.{list_all};
 ghost use Rattle.tx_code.specs.Objects.{body_view};
 ghost use Rattle.tx_code.specs.WellFormed.{is_name, named_by, named_by_row, line_after};
 ghost use Rattle.object_bytes.specs.Fields.{above};
-ghost use Rattle.code_asm.specs.declared.line.Record.TheVariants as kind;
+ghost use Rattle.assembly_text.specs.declared.line.Record.TheVariants as kind;
 ghost use Rattle.code_asm.specs.Steps.{is_nil, has_room, last_of, takes_code, body_step};
 ghost use Rattle.code_asm.specs.Views.{Stepped};
 
 use crate::fault::Stop;
-use crate::line::Record;
+use assembly_text::Record;
 use object_bytes::instr_name;
 use tx_code::{Body, Instr, LineRow, Row};
 

@@ -4,13 +4,13 @@ ghost use Rattle.std.specs.Option.{option_map};
 ghost use Rattle.tx_code.specs.Objects.{body_view, class_view, global_view, func_view};
 ghost use Rattle.tx_code.specs.WellFormed.{is_name_or_none, member_fits, cell_fits, cell_kind_fits, is_cell_size, is_multiple, cell_after, bit};
 ghost use Rattle.object_bytes.specs.Fields.{above};
-ghost use Rattle.code_asm.specs.declared.line.Record.TheVariants as kind;
+ghost use Rattle.assembly_text.specs.declared.line.Record.TheVariants as kind;
 ghost use Rattle.code_asm.specs.Steps.{is_nil, has_room, last_of, no_body, class_step, global_step, func_step, in_body, has_bodies, func_takes_code};
 ghost use Rattle.code_asm.specs.Views.{Stepped};
 
 use crate::bodies::{add_to_body, has_room, takes_code};
 use crate::fault::Stop;
-use crate::line::Record;
+use assembly_text::Record;
 use std::alloc::Global;
 use tx_code::{Body, ObjCell, ObjClass, ObjFunc, ObjGlobal, ObjMember};
 

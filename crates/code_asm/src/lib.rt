@@ -1,20 +1,15 @@
 //! Objects as text.
 #![tactic(auto)]
 
+mod again;
 mod assembling;
 mod assembly;
 mod bodies;
 mod entries;
 mod fault;
-mod key;
 pub mod laws;
-mod line;
-mod making;
-mod names;
-mod printing;
-mod reader;
-mod words;
 
+pub use again::printed_again;
 pub use assembling::assemble;
+pub use assembly_text::print;
 pub use fault::AsmFault;
-pub use printing::print;

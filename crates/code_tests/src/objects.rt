@@ -194,6 +194,8 @@ fn objects_and_faults(rt: HostRuntime) -> Result<(), Fail> {
     assert_eq!(rt; answer_to(alloc, &spare), Outcome::Wrong(24));
     let second = changed(alloc, &EMPTY, 4, 2)?;
     assert_eq!(rt; answer_to(alloc, &second), Outcome::Wrong(24));
+    let more = changed(alloc, &EMPTY_SOURCE, 36, 0)?;
+    assert_eq!(rt; answer_to(alloc, &more), Outcome::Wrong(36));
     let third = changed(alloc, &EMPTY_SOURCE, 4, 3)?;
     assert_eq!(rt; answer_to(alloc, &third), Outcome::Wrong(4));
     Ok(())

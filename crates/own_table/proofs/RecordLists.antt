@@ -1,7 +1,7 @@
 -- Lists of records, after a write, a push and a filter.
 use Rattle.std.proofs.Common.{ℕ, ◌≡◌, ◌==◌, ◌<◌, ◌≤◌, suc, zero, Bool, true, false, not, cond, Option, Some, None, List, [], ◌∷◌, ◌++◌, length, get_or, refl, ap, sym, ◌∙◌, inl, inr, arith}
 use Rattle.std.proofs.Math.ListN.{set}
-use Rattle.std.specs.List.{filter, list_all, position, position_or_len}
+use Rattle.std.specs.List.{filter, list_all, position, position_or_len, remove}
 use Rattle.std.proofs.lemmas.Bool.{eqb-true, eqb-false, eq-eqb, ne_eqb, cases_eq, cases_Bool, cases_lt, and_parts, and_from}
 use Rattle.std.proofs.lemmas.List.Sums.{sum_by-cons, sum_by_push, sum_by-set, get_or-le-sum_by}
 use Rattle.std.proofs.lemmas.List.Filters.{sum_by-filter_both}
@@ -52,6 +52,19 @@ record_of-nowhere xs word e =
       | inr g ↦ g
     ])
 
+found_here : (xs : List HoldRec) (i word : ℕ) (d : HoldRec) → i < length xs → ((get_or xs i d).word == word) ≡ true → ((k : ℕ) → k < i → ((get_or xs k d).word == word) ≡ false) → record_of xs word ≡ Some (get_or xs i d)
+found_here [] i word d l at before = absurd (omega arith)
+found_here (x ∷ xs) zero word d l at before = ap (λ b. cond b (Some x) (record_of xs word)) at
+found_here (x ∷ xs) (suc i) word d l at before =
+    let other : (x.word == word) ≡ false = before zero (omega arith) in
+    ap (λ b. cond b (Some x) (record_of xs word)) other ∙ found_here xs i word d (omega arith) at (λ k m. before (suc k) (omega arith))
+
+-- the record at the index of the word is its record
+pub record_at : (xs : List HoldRec) (i word : ℕ) (r : HoldRec) → position (λ r. r.word == word) xs ≡ Some i → r ≡ get_or xs i r → record_of xs word ≡ Some r
+record_at xs i word r e g =
+    let at = position-Some (λ (r : HoldRec). r.word == word) xs i r e in
+    found_here xs i word r at.0 at.1 at.2 ∙ ap Some (sym g)
+
 -- a push where there was none
 pub record_of-push : (xs : List HoldRec) (h : HoldRec) → record_of xs h.word ≡ None → (w : ℕ) → record_of (xs ++ h ∷ []) w ≡ cond (h.word == w) (Some h) (record_of xs w)
 record_of-push [] h e w = refl
@@ -77,6 +90,34 @@ record_of-filter (x ∷ xs) word w = elim (cases_Bool (x.word == word)) [
       ∙ (ap (λ r. cond (x.word == w) (Some x) r) (record_of-filter xs word w) ∙ swapped x.word word w (Some x) None (record_of xs w) e)
 ]
 
+abbrev is_of : ℕ → HoldRec → ℕ
+is_of w r = one (r.word == w)
+
+none_left : (xs : List HoldRec) (word : ℕ) → records_of xs word ≡ 0 → filter (is_other word) xs ≡ xs
+none_left [] word e = refl
+none_left (x ∷ xs) word e =
+    let both = sum_by-cons (is_of word) x xs in
+    elim (cases_Bool (x.word == word)) [
+      | inl q ↦ let here : is_of word x ≡ 1 = ap one q in absurd (omega (arith, both, e, here))
+      | inr q ↦ ap (λ b. cond (not b) (x ∷ filter (is_other word) xs) (filter (is_other word) xs)) q ∙ ap (λ rs. x ∷ rs) (none_left xs word (omega (arith, both, e)))
+    ]
+
+one_left : (xs : List HoldRec) (i word : ℕ) (d : HoldRec) → i < length xs → ((get_or xs i d).word == word) ≡ true → ((k : ℕ) → k < i → ((get_or xs k d).word == word) ≡ false) → records_of xs word ≤ 1 → filter (is_other word) xs ≡ remove xs i
+one_left [] i word d l at before few = absurd (omega arith)
+one_left (x ∷ xs) zero word d l at before few =
+    let here : is_of word x ≡ 1 = ap one at in
+    ap (λ b. cond (not b) (x ∷ filter (is_other word) xs) (filter (is_other word) xs)) at ∙ none_left xs word (omega (arith, sum_by-cons (is_of word) x xs, few, here))
+one_left (x ∷ xs) (suc i) word d l at before few =
+    let other : (x.word == word) ≡ false = before zero (omega arith) in
+    ap (λ b. cond (not b) (x ∷ filter (is_other word) xs) (filter (is_other word) xs)) other
+    ∙ ap (λ rs. x ∷ rs) (one_left xs i word d (omega arith) at (λ k m. before (suc k) (omega arith)) (omega (arith, sum_by-cons (is_of word) x xs, few)))
+
+-- where each word has one record at most, the others are those without the one at its index
+pub others_are : (xs : List HoldRec) (i word : ℕ) (d : HoldRec) → position (λ r. r.word == word) xs ≡ Some i → records_of xs word ≤ 1 → remove xs i ≡ filter (λ r. not (r.word == word)) xs
+others_are xs i word d e few =
+    let at = position-Some (λ (r : HoldRec). r.word == word) xs i d e in
+    sym (one_left xs i word d at.0 at.1 at.2 few)
+
 pub list_all-filter : (p q : HoldRec → Bool) (xs : List HoldRec) → list_all p xs ≡ true → list_all p (filter q xs) ≡ true
 list_all-filter p q [] h = refl
 list_all-filter p q (x ∷ xs) h =
@@ -91,9 +132,6 @@ list_all-set p xs i h all here = and_set (list_all p) p refl (λ x ys. refl) xs 
 
 pub list_all-push : (p : HoldRec → Bool) (xs : List HoldRec) (h : HoldRec) → list_all p xs ≡ true → p h ≡ true → list_all p (xs ++ h ∷ []) ≡ true
 list_all-push p xs h all here = and_push (list_all p) p refl (λ x ys. refl) xs h ∙ and_from (list_all p xs) (p h) all here
-
-abbrev is_of : ℕ → HoldRec → ℕ
-is_of w r = one (r.word == w)
 
 pub records_of-set : (xs : List HoldRec) (i : ℕ) (h : HoldRec) (w : ℕ) → position (λ r. r.word == h.word) xs ≡ Some i → records_of (set xs i h) w ≡ records_of xs w
 records_of-set xs i h w e =

@@ -82,6 +82,17 @@ placed-set xs word v l placed here s =
       | inr e ↦ ap (λ b. all s (cond b v.records.items (records_at xs s))) e ∙ placed s
     ]
 
+-- the stripe and the words that were borrowed are those of the table
+pub stripe_there : (xs : List Stripe) (i s : ℕ) (v : Stripe) → i ≡ s → i < length xs → v ≡ get_or xs i v → records_at xs s ≡ v.records.items
+stripe_there xs i s v e l here = ap (records_at xs) (sym e) ∙ ap records_in (slice_get_read xs (length xs) i v refl l here)
+
+-- the same of the stripe at an index, whose records were those of the word's stripe before
+pub placed_at : (xs : List Stripe) (word i : ℕ) (before v : Stripe) → length xs ≡ 256 → i ≡ stripe_of word → before ≡ get_or xs i before → IsPlaced xs → (list_all (λ r. stripe_of r.word == stripe_of word) before.records.items ≡ true → list_all (λ r. stripe_of r.word == stripe_of word) v.records.items ≡ true) → IsPlaced (set xs i v)
+placed_at xs word i before v l e here placed kept =
+    let p : HoldRec → Bool = λ r. stripe_of r.word == stripe_of word in
+    let was : list_all p before.records.items ≡ true = ap (list_all p) (sym (stripe_there xs i (stripe_of word) before e (omega arith) here)) ∙ placed (stripe_of word) in
+    rw e (placed-set xs word v l placed (kept was))
+
 abbrev mode_by : Bool → Bool → Option Mode
 mode_by w b = cond w (Some Write) (cond b (Some Read) None)
 
@@ -123,10 +134,6 @@ each_get-push P [] v none here all zero = here
 each_get-push P [] v none here all (suc s) = none
 each_get-push P (x ∷ xs) v none here all zero = all zero
 each_get-push P (x ∷ xs) v none here all (suc s) = each_get-push P xs v none here (λ k. all (suc k)) s
-
--- the stripe and the words that were borrowed are those of the table
-pub stripe_there : (xs : List Stripe) (i s : ℕ) (v : Stripe) → i ≡ s → i < length xs → v ≡ get_or xs i v → records_at xs s ≡ v.records.items
-stripe_there xs i s v e l here = ap (records_at xs) (sym e) ∙ ap records_in (slice_get_read xs (length xs) i v refl l here)
 
 pub words_there : (xs : List HeldWords) (t : ℕ) (v : HeldWords) → t < length xs → v ≡ get_or xs t v → words_at xs t ≡ words_in (Some v)
 words_there xs t v l here = ap words_in (slice_get_read xs (length xs) t v refl l here)

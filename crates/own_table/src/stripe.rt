@@ -34,20 +34,21 @@ impl Stripe {
     }
 
     /// The index of the record of the word.
-    fn index_of(&self, word: u64) -> Option<usize>
+    pub(crate) fn index_of(&self, word: u64) -> Option<usize>
         ensures { result ≡ position (λ r. r.word == word) self.now.records.items }
     {
         self.records.iter().position(|r| r.word == word)
     }
 
-    /// The record of the word, or the record of a word that no thread holds.
-    pub(crate) fn holds_of(&self, word: u64) -> HoldRec
+    /// The record of the word, or the record of a word that no thread holds, by the index of its record.
+    pub(crate) fn holds_at(&self, index: Option<usize>, word: u64) -> HoldRec
+        requires { index ≡ position (λ r. r.word == word) self.now.records.items }
         ensures word { result.word ≡ word }
         ensures reads { writer_reads result ≡ true }
         ensures modes { (u : ℕ) → mode_of result u ≡ mode_in (record_of self.now.records.items word) u }
     {
-        match self.find(word) {
-            Some(holds) => holds,
+        match index {
+            Some(at) => self.records[at],
             None => HoldRec::free(word),
         }
     }
@@ -60,31 +61,32 @@ impl Stripe {
         self.records.reserve(1)
     }
 
-    /// Puts the record where that of its word is, or beside the others where there is none.
-    pub(crate) fn put(&mut self, holds: HoldRec)
+    /// Puts the record at the index of its word's record, or beside the others where there is none.
+    pub(crate) fn put_at(&mut self, index: Option<usize>, holds: HoldRec)
+        requires index { index ≡ position (λ r. r.word == holds.word) self.old.records.items }
         requires sound { is_sound holds ≡ true }
-        requires capacity { IsNone (record_of self.old.records.items holds.word)
-            → vec_len self.old.records < vec_capacity self.old.records }
+        requires capacity { IsNone index → vec_len self.old.records < vec_capacity self.old.records }
         ensures found { (w : ℕ) → record_of self.new.records.items w
             ≡ (if holds.word == w then Some holds else record_of self.old.records.items w) }
         ensures kept { (p : HoldRec → Bool) → list_all p self.old.records.items ≡ true → p holds ≡ true
             → list_all p self.new.records.items ≡ true }
     {
-        match self.index_of(holds.word) {
-            Some(index) => self.records[index] = holds,
+        match index {
+            Some(at) => self.records[at] = holds,
             None => {
                 let _ = self.records.push(holds);
             }
         }
     }
 
-    /// Takes out the record of the word.
-    pub(crate) fn remove(&mut self, word: u64)
+    /// Takes out the record of the word, which stands at this index.
+    pub(crate) fn remove_at(&mut self, index: usize, word: u64)
+        requires { position (λ r. r.word == word) self.old.records.items ≡ Some index }
         ensures found { (w : ℕ) → record_of self.new.records.items w
             ≡ (if word == w then None else record_of self.old.records.items w) }
         ensures kept { (p : HoldRec → Bool) → list_all p self.old.records.items ≡ true
             → list_all p self.new.records.items ≡ true }
     {
-        self.records.retain(|r| r.word != word);
+        let _taken = self.records.remove(index);
     }
 }

@@ -56,8 +56,9 @@ pub(crate) fn take_record(stripes: &mut Vec<Stripe>, word: u64, t: u8, mode: Mod
     ensures is_new { result ≡ is_none (hold_at stripes.old.items t word) }
 {
     let stripe = &mut stripes[stripe_index(word)];
-    let holds = stripe.holds_of(word);
-    stripe.put(holds.with_hold(t, mode));
+    let index = stripe.index_of(word);
+    let holds = stripe.holds_at(index, word);
+    stripe.put_at(index, holds.with_hold(t, mode));
     holds.mode_of(t).is_none()
 }
 
@@ -72,15 +73,13 @@ pub(crate) fn release_record(stripes: &mut Vec<Stripe>, word: u64, t: u8)
         ≡ (if u == t && word == w then None else hold_at stripes.old.items u w) }
 {
     let stripe = &mut stripes[stripe_index(word)];
-    match stripe.find(word) {
-        Some(holds) => {
-            let left = holds.without_hold(t);
-            if left.is_free() {
-                stripe.remove(word);
-            } else {
-                stripe.put(left);
-            }
-        }
-        None => {}
+    let Some(index) = stripe.index_of(word) else {
+        return;
+    };
+    let left = stripe.holds_at(Some(index), word).without_hold(t);
+    if left.is_free() {
+        stripe.remove_at(index, word);
+    } else {
+        stripe.put_at(Some(index), left);
     }
 }

@@ -4,7 +4,7 @@ use Rattle.std.specs.Prelude.{IfOk}
 use Rattle.tx_code.specs.Objects.{ObjectView}
 use Rattle.object_bytes.specs.Spelling.{Spells, object_bytes}
 use Rattle.object_bytes.specs.Objects.{decoded}
-use Rattle.code_asm.specs.Lines.{text_of}
+use Rattle.assembly_text.specs.Lines.{Writes, text_of}
 use Rattle.code_asm.specs.Answers.{IsWritten, IsFirstWrong}
 use Rattle.command_io.specs.Writes.{written_of, to_out, to_file}
 use Rattle.tx_answers.specs.declared.answer.Status.TheVariants.{Done, Refused}
@@ -29,7 +29,8 @@ module _ {E : Type 0} (name : List ℕ) where
       puts o (record { bytes = object_bytes o; of_text = is.writes; spells = record { object = is.object; wide = is.wide; bytes_are = refl }; answer = answer; writes_are = writes })
   assembles to text o (Err e) is answer writes = tt
 
-  pub assembles_none : (to text : List ℕ) (line : ℕ) (r : Result Decision E) → IsFirstWrong text line → IfOk r (λ d. Refuses 14 (bad_asm_line name line) Refused d.answer (map written_of d.writes.items))
+  pub assembles_none : (to text : List ℕ) (line : ℕ) (r : Result Decision E) → ((o : ObjectView) → IsWritten o text → ⊥) → IsFirstWrong text line → IfOk r (λ d. Refuses 14 (bad_asm_line name line) Refused d.answer (map written_of d.writes.items))
       → IfOk r (λ d. Assembles name to text d.answer (map written_of d.writes.items))
-  assembles_none to text line (Ok d) first refuses = writes_nothing line (record { first = first; refuses = refuses })
-  assembles_none to text line (Err e) first refuses = tt
+  assembles_none to text line (Ok d) none first refuses =
+      writes_nothing line (record { none = λ o bytes writes spells. none o (record { writes = writes; object = spells.object; wide = spells.wide }); first = first; refuses = refuses })
+  assembles_none to text line (Err e) none first refuses = tt

@@ -4,7 +4,7 @@ use Rattle.std.specs.Fmt.{decimal}
 use Rattle.tx_code.specs.Objects.{ObjectView}
 use Rattle.object_bytes.specs.Spelling.{Spells}
 use Rattle.object_bytes.specs.Objects.{decoded}
-use Rattle.code_asm.specs.Lines.{Writes, text_of}
+use Rattle.assembly_text.specs.Lines.{Writes, text_of}
 use Rattle.code_asm.specs.Answers.{IsFirstWrong}
 use Rattle.command_io.specs.Writes.{Written, to_out, to_file}
 use Rattle.tx_answers.specs.declared.answer.Answer.{Answer}
@@ -45,8 +45,9 @@ pub record Puts (to text : List ℕ) (o : ObjectView) (a : Answer) (writes : Lis
   pub answer : a ≡ bare Done
   pub writes_are : writes ≡ to_file to bytes ∷ []
 
--- this line of the text is the first that is wrong
+-- the text writes no object that some bytes spell, and this line of it is the first that is wrong
 pub record WritesNothing (name text : List ℕ) (line : ℕ) (a : Answer) (writes : List Written) : Type 0 where
+  pub none : (o : ObjectView) (bytes : List ℕ) → Writes o text → Spells o bytes → ⊥
   pub first : IsFirstWrong text line
   pub refuses : Refuses 14 (bad_asm_line name line) Refused a writes
 

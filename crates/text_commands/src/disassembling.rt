@@ -6,7 +6,7 @@ ghost use Rattle.command_io.specs.Reads.{wanted};
 ghost use Rattle.command_io.specs.Writes.{written_of, to_out};
 ghost use Rattle.command_io.specs.declared.files.FileKind.TheVariants as kind;
 ghost use Rattle.tx_code.specs.Objects.{object_view};
-ghost use Rattle.code_asm.specs.Lines.{text_of};
+ghost use Rattle.assembly_text.specs.Lines.{text_of};
 ghost use Rattle.tx_answers.specs.declared.answer.Status.TheVariants as status;
 ghost use Rattle.tx_answers.specs.Ends.{Ends, Refuses, bare, on_one};
 ghost use Rattle.text_commands.specs.TextCommands.{Disassembles, bad_object_line};

@@ -1,6 +1,6 @@
 use Rattle.std.proofs.Common.{arith}
 use Rattle.code_asm.specs.Answers.{begins, goes_on}
-use Rattle.code_asm.proofs.LineLaws.{shorter}
+use Rattle.assembly_text.proofs.LineLaws.{shorter}
 use Rattle.code_asm.proofs.StateLaws.{sorted}
 use Rattle.code_asm.proofs.assembling.run.Goals as goal
 

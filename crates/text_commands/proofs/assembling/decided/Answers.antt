@@ -6,4 +6,5 @@ returns-in-Ok c = assembles c.args.file.now c.args.to.now c.args.text.now _ c.wr
 
 pub returns-in-Err-BadAsm : goal.returns-in-Err-BadAsm
 returns-in-Err-BadAsm c =
-    assembles_none c.args.file.now c.args.to.now c.args.text.now c.in-Err-BadAsm.line c.bad_asm.result (rw c.in-Err-BadAsm.field-0-is at c.in-Err-BadAsm.ensures.fault) c.bad_asm.ensures
+    assembles_none c.args.file.now c.args.to.now c.args.text.now c.in-Err-BadAsm.line c.bad_asm.result (rw c.in-Err-BadAsm.field-0-is at c.in-Err-BadAsm.ensures.only) (rw c.in-Err-BadAsm.field-0-is at c.in-Err-BadAsm.ensures.fault)
+    c.bad_asm.ensures

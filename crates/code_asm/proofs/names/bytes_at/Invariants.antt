@@ -1,9 +1,0 @@
-use Rattle.std.proofs.Common.{length}
-use Rattle.code_asm.specs.Front.{Bytes}
-use Rattle.code_asm.proofs.names.bytes_at.Given as goal
-
-abbrev pub invariant-bytes : goal.invariant-bytes
-invariant-bytes l = Bytes l.name.items l.text l.rest
-
-abbrev pub decreases-bytes : goal.decreases-bytes
-decreases-bytes l = length l.rest

@@ -1,9 +1,0 @@
-use Rattle.std.proofs.Common.{length}
-use Rattle.code_asm.specs.Front.{Fields}
-use Rattle.code_asm.proofs.words.numbers_at.Given as goal
-
-abbrev pub invariant-fields : goal.invariant-fields
-invariant-fields l = Fields l.numbers.items l.text l.rest
-
-abbrev pub decreases-fields : goal.decreases-fields
-decreases-fields l = length l.rest

@@ -1,0 +1,4 @@
+//! Laws of linked images.
+#![tactic(auto)]
+
+pub mod laws;

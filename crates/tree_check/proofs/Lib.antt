@@ -1,0 +1,4 @@
+pub mod FreePlaces
+pub mod Regrouped
+pub mod Units
+pub mod ZeroKinds

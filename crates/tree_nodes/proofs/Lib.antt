@@ -1,0 +1,4 @@
+pub mod KidByKid
+pub mod Lists
+pub mod Marking
+pub mod Ordered

@@ -1,0 +1,3 @@
+pub mod Kids
+pub mod Lists
+pub mod Order

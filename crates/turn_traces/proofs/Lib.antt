@@ -1,0 +1,9 @@
+pub mod Notes
+pub mod Searches
+pub mod Rows
+pub mod ReachedWorlds
+pub mod BlockAccesses
+pub mod Gains
+pub mod KeptTraces
+pub mod KeptRuns
+pub mod Keepers

@@ -1,0 +1,4 @@
+txob 2
+name "e.cc"
+source 1
+end

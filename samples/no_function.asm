@@ -1,0 +1,4 @@
+txob 1
+name "int()"
+name "main()"
+end
