@@ -1,0 +1,7 @@
+use Rattle.std.proofs.Common.{◌≡◌, map, drop}
+use Rattle.cpp_tree.specs.Units.{slot_of}
+use Rattle.elab_rules.specs.Calls.{slot_from}
+use Rattle.elab_call.proofs.slots.slot_at.Given as goal
+
+abbrev pub invariant-loop-i : goal.invariant-loop-i
+invariant-loop-i l = slot_from 0 l.class l.index (map slot_of l.slots) ≡ slot_from l.i l.class l.index (map slot_of (drop l.i l.slots))
