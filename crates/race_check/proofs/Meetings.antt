@@ -48,8 +48,10 @@ meet_of items l t u j d e c =
       inside = record { enters = c.enters; later = b.behind; still_open = λ m p q f. c.still_open m p (omega (arith, q, before)) f };
       before = b.before;
       there = record { enters = e; later = a.later; still_open = a.still_open };
-      threads = ((b.item.what, does items b.one b.item t b.item.what b.there b.owner refl),
-                 (a.item.what, does items a.other a.item u a.item.what a.there a.owner refl));
+      threads = (
+        (b.item.what, does items b.one b.item t b.item.what b.there b.owner refl),
+        (a.item.what, does items a.other a.item u a.item.what a.there a.owner refl),
+      );
       clash = conflict_of items b.one a.other a.byte b.item a.item b.there a.there a.clash;
     }
 

@@ -4,8 +4,9 @@
 //! trace's races. `races` finds them; each function of `laws` does nothing, and its clause is the law.
 #![tactic(auto)]
 
+mod found;
 mod items;
-mod pairs;
+mod marks;
 mod regular;
 mod rows;
 #[cfg(test)]
@@ -13,13 +14,13 @@ mod tests;
 mod walks;
 mod words;
 
-pub use pairs::races;
-pub use regular::is_regular;
-
 ghost use Rattle.std.specs.Prelude.{◌≡◌, ℕ, Bool, true, List, [], ◌∷◌, Some, slice_get};
 ghost use Rattle.tx_events.specs.declared.Item.{Item};
 ghost use Rattle.race_check.specs.Races.{Leads, Ordered, Races};
 ghost use Rattle.race_check.specs.Examples.{two_counters};
+
+pub use found::races;
+pub use regular::is_regular;
 
 /// A trace has at most one list of races.
 pub fn one_list()
