@@ -1,15 +1,14 @@
 -- How the row of an item is built.
-use Rattle.std.proofs.Common.{ℕ, ◌≡◌, ◌<◌, ◌≤◌, ◌+◌, ◌⊎◌, inl, inr, refl, sym, ◌∙◌, subst, List, Some, length, arith}
+use Rattle.std.proofs.Common.{ℕ, ◌≡◌, ◌<◌, ◌≤◌, ◌+◌, ◌⊎◌, inl, inr, refl, sym, ◌∙◌, subst, List, Some, arith}
 use Rattle.std.specs.Prelude.{slice_get, slice_index}
-use Rattle.std.proofs.lemmas.Bool.{cases_order, cases_lt}
+use Rattle.std.proofs.lemmas.Bool.{cases_lt}
 use Rattle.std.proofs.lemmas.Option.{same_Some}
 use Rattle.tx_events.specs.declared.Item.{Item}
-use Rattle.tx_events.specs.declared.What.{What}
 use Rattle.tx_events.specs.declared.What.TheVariants.{Enter, Joined}
-use Rattle.race_check.specs.Races.{Does, Leads, same_thread, starts, joins, blocks, Ordered, at_once, and_then}
+use Rattle.race_check.specs.Races.{Leads, same_thread, starts, joins, blocks, Ordered, at_once, and_then}
 use Rattle.race_check.specs.Regular.{Regular}
 use Rattle.race_check.specs.Rows.{counts, Right, Building}
-use Rattle.race_check.proofs.Numbers.{at_or_above, below_or_at}
+use Rattle.race_check.proofs.Numbers.{at_or_above}
 use Rattle.race_check.proofs.AheadSteps.{does, same_thread_of, same_what_of}
 
 -- the steps go forward in a regular trace

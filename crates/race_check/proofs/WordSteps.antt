@@ -1,8 +1,7 @@
 -- An ascending list with one word more.
-use Rattle.std.proofs.Common.{ℕ, zero, suc, ◌≡◌, ◌<◌, ◌≤◌, ◌+◌, ◌⊎◌, inl, inr, refl, ap, sym, ◌∙◌, subst, List, [], ◌∷◌, ◌++◌, length, take, drop, arith}
+use Rattle.std.proofs.Common.{ℕ, zero, suc, ◌≡◌, ◌<◌, ◌≤◌, ◌+◌, ◌⊎◌, inl, inr, refl, ap, sym, ◌∙◌, subst, List, [], ◌∷◌, length, arith}
 use Rattle.std.specs.Prelude.{slice_index}
 use Rattle.std.specs.List.{insert}
-use Rattle.tx_events.specs.declared.Item.{Item}
 use Rattle.race_check.specs.Races.{Stands, first, later, Ascends, Ascending, word_of_byte}
 use Rattle.race_check.specs.Words.{Gap, OneMore, WordsOf}
 use Rattle.race_check.proofs.Numbers.{below_or_at}

@@ -3,7 +3,6 @@ use Rattle.std.specs.Prelude.{ℕ, ◌≡◌, ◌<◌, ◌+◌, ◌⊎◌, Bool,
 use Rattle.std.specs.BTreeMap.{get}
 use Rattle.std.specs.Ordering.{nat_cmp}
 use Rattle.tx_events.specs.declared.Item.{Item}
-use Rattle.tx_events.specs.declared.What.{What}
 use Rattle.race_check.specs.Races.{touches, writes}
 use Rattle.race_check.specs.declared.rows.Row.{Row}
 use Rattle.race_check.specs.declared.marks.Marks.{Marks}

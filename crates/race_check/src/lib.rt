@@ -1,7 +1,8 @@
 //! Accesses of a trace that nothing orders.
 //!
 //! The definition stands in `specs/Races`: conflicting accesses, the steps of order, chains of them, and the words of a
-//! trace's races. `races` finds them; each function of `laws` does nothing, and its clause is the law.
+//! trace's races. `races` finds them, for a trace that `is_regular`. The functions of this file do nothing: the clause of
+//! each is a law.
 #![tactic(auto)]
 
 mod found;

@@ -1,4 +1,4 @@
-use Rattle.std.proofs.Common.{◌<◌, ◌≤◌, ◌-◌, arith}
+use Rattle.std.proofs.Common.{◌<◌, ◌-◌, arith}
 use Rattle.race_check.proofs.RowSteps.{nothing_built, built, built_early}
 use Rattle.race_check.proofs.rows.row_of.Goals as goal
 

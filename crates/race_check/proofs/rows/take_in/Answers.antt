@@ -1,5 +1,4 @@
-use Rattle.std.proofs.Common.{ℕ, ◌≡◌, ◌<◌, ◌≤◌, ◌+◌, ◌⊎◌, subst, sym, arith, length, get_or, []}
-use Rattle.std.specs.Prelude.{slice_index}
+use Rattle.std.proofs.Common.{◌≡◌, ◌<◌, subst, arith, length, get_or, []}
 use Rattle.std.proofs.lemmas.Option.{slice_get-get_or}
 use Rattle.race_check.specs.declared.rows.Row.{Row}
 use Rattle.race_check.specs.Rows.{counts}

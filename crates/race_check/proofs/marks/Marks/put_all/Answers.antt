@@ -1,4 +1,4 @@
-use Rattle.std.proofs.Common.{ℕ, ◌≡◌, ◌<◌, ◌≤◌, arith}
+use Rattle.std.proofs.Common.{arith}
 use Rattle.race_check.proofs.MarkSteps.{end_bound}
 use Rattle.race_check.proofs.marks.Marks.put_all.Goals as goal
 
