@@ -1,12 +1,12 @@
 -- A walk over the items of a block that a thread entered.
-use Rattle.std.proofs.Common.{ℕ, ◌≡◌, ◌==◌, ◌<◌, ◌≤◌, ◌+◌, ◌⊎◌, inl, inr, true, false, Bool, refl, ap, sym, ◌∙◌, subst, List, Some, length, arith}
-use Rattle.std.specs.Prelude.{slice_get, not, ◌&&◌, ◌||◌}
+use Rattle.std.proofs.Common.{ℕ, ◌≡◌, ◌<◌, ◌≤◌, ◌+◌, ◌⊎◌, inl, inr, true, ap, sym, ◌∙◌, subst, List, Some, length, arith}
+use Rattle.std.specs.Prelude.{slice_get, ◌&&◌}
 use Rattle.std.proofs.lemmas.Bool.{true≢false, and_parts, cases_order}
 use Rattle.std.proofs.lemmas.Option.{same_Some}
 use Rattle.tx_events.specs.declared.Item.{Item}
 use Rattle.tx_events.specs.declared.What.{What}
 use Rattle.tx_events.specs.declared.What.TheVariants.{Enter, Leave}
-use Rattle.race_check.specs.Races.{Does, touches, writes}
+use Rattle.race_check.specs.Races.{Does, touches}
 use Rattle.race_check.specs.Walks.{clash_at, Ahead, Between, Clashes}
 use Rattle.race_check.proofs.Numbers.{below_or_at, at_or_above, index_within}
 

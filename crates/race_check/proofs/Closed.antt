@@ -7,24 +7,9 @@ use Rattle.tx_events.specs.declared.Item.{Item}
 use Rattle.tx_events.specs.declared.What.{What}
 use Rattle.tx_events.specs.declared.What.TheVariants.{Read, Write, Enter, Leave, Spawned, Joined}
 use Rattle.race_check.specs.Races.{Leads, same_thread, starts, joins, blocks, Race, Stands, first, later, Races, touches, word_of_byte}
+use Rattle.race_check.specs.Steps.{starts_it, joins_it}
 use Rattle.race_check.specs.Examples.{two_counters}
 use Rattle.race_check.proofs.OneList.{stays_inside}
-
-abbrev starts_it : What → ℕ → Bool
-starts_it (Spawned child) n = child == n
-starts_it (Joined child) n = false
-starts_it (Read addr size) n = false
-starts_it (Write addr size) n = false
-starts_it Enter n = false
-starts_it Leave n = false
-
-abbrev joins_it : What → ℕ → Bool
-joins_it (Joined child) n = child == n
-joins_it (Spawned child) n = false
-joins_it (Read addr size) n = false
-joins_it (Write addr size) n = false
-joins_it Enter n = false
-joins_it Leave n = false
 
 abbrev leaves : What → Bool
 leaves Leave = true

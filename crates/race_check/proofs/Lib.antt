@@ -5,5 +5,6 @@ pub mod AheadSteps
 pub mod Meetings
 pub mod RowSteps
 pub mod WordSteps
-pub mod PairSteps
+pub mod FoundSteps
 pub mod RegularSteps
+pub mod MarkSteps

@@ -1,14 +1,14 @@
 -- Which items lead to one another at once.
-use Rattle.std.proofs.Common.{ℕ, ◌≡◌, ◌==◌, ◌<◌, ◌≤◌, ◌+◌, ◌⊎◌, inl, inr, true, false, Bool, refl, ap, sym, ◌∙◌, subst, List, Some, length, arith}
+use Rattle.std.proofs.Common.{ℕ, ◌≡◌, ◌==◌, ◌<◌, true, false, refl, ap, sym, ◌∙◌, subst, List, Some, arith}
 use Rattle.std.specs.Prelude.{slice_get, not, ◌&&◌, ◌||◌}
 use Rattle.std.proofs.lemmas.Bool.{true≢false, false≢true, and_parts, and_from, eq-eqb, eqb-true, not-true, not_from_false}
 use Rattle.std.proofs.lemmas.Option.{same_Some}
 use Rattle.tx_events.specs.declared.Item.{Item}
 use Rattle.tx_events.specs.declared.What.{What}
 use Rattle.tx_events.specs.declared.What.TheVariants.{Read, Write, Enter, Leave, Spawned, Joined}
-use Rattle.race_check.specs.Races.{Does, Leads, same_thread, starts, joins, blocks, Meet, InBlock, Conflict, touches, writes}
+use Rattle.race_check.specs.Races.{Does, Leads, same_thread, starts, joins, blocks, Meet, Conflict, touches, writes}
 use Rattle.race_check.specs.Steps.{starts_it, joins_it}
-use Rattle.race_check.specs.Walks.{clash_at, Ahead, Between, Clashes}
+use Rattle.race_check.specs.Walks.{clash_at, Clashes}
 use Rattle.race_check.proofs.AheadSteps.{does, same_thread_of, same_what_of}
 
 pub conflict_of : (items : List Item) (i j x : ℕ) (a b : Item) → slice_get items i ≡ Some a → slice_get items j ≡ Some b → clash_at a b x ≡ true → Conflict items i j x
@@ -48,8 +48,10 @@ meet_of items l t u j d e c =
       inside = record { enters = c.enters; later = b.behind; still_open = λ m p q f. c.still_open m p (omega (arith, q, before)) f };
       before = b.before;
       there = record { enters = e; later = a.later; still_open = a.still_open };
-      threads = ((b.item.what, does items b.one b.item t b.item.what b.there b.owner refl),
-                 (a.item.what, does items a.other a.item u a.item.what a.there a.owner refl));
+      threads = (
+        (b.item.what, does items b.one b.item t b.item.what b.there b.owner refl),
+        (a.item.what, does items a.other a.item u a.item.what a.there a.owner refl),
+      );
       clash = conflict_of items b.one a.other a.byte b.item a.item b.there a.there a.clash;
     }
 

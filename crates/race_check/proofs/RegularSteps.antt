@@ -1,13 +1,13 @@
 -- The test of a list of items.
-use Rattle.std.proofs.Common.{ℕ, ◌≡◌, ◌<◌, ◌≤◌, ◌+◌, ◌^◌, ◌⊎◌, inl, inr, refl, ap, sym, ◌∙◌, subst, List, Some, length, arith}
+use Rattle.std.proofs.Common.{ℕ, ◌≡◌, ◌<◌, ◌≤◌, ◌+◌, ◌^◌, ◌⊎◌, inl, inr, refl, sym, ◌∙◌, subst, List, Some, length, arith}
 use Rattle.std.specs.Prelude.{slice_get}
 use Rattle.std.proofs.lemmas.Bool.{cases_lt}
 use Rattle.std.proofs.lemmas.Option.{same_Some}
 use Rattle.tx_events.specs.declared.Item.{Item}
 use Rattle.tx_events.specs.declared.What.{What}
-use Rattle.tx_events.specs.declared.What.TheVariants.{Read, Write, Enter, Leave, Spawned, Joined}
+use Rattle.tx_events.specs.declared.What.TheVariants.{Spawned}
 use Rattle.race_check.specs.Races.{Does}
-use Rattle.race_check.specs.Regular.{end_of, Regular, HasItem, StartsLate, RegularTo}
+use Rattle.race_check.specs.Regular.{end_of, Regular, StartsLate, RegularTo}
 use Rattle.race_check.proofs.Numbers.{below_or_at, index_within}
 
 pub regular_further : (items : List Item) (n : ℕ) (a : Item) → RegularTo items n → slice_get items n ≡ Some a → a.t < 64 → end_of a.what < 2 ^ 64

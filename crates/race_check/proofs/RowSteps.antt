@@ -1,15 +1,15 @@
 -- How the row of an item is built.
-use Rattle.std.proofs.Common.{ℕ, ◌≡◌, ◌<◌, ◌≤◌, ◌+◌, ◌⊎◌, inl, inr, refl, sym, ◌∙◌, subst, List, Some, length, arith}
+use Rattle.std.proofs.Common.{ℕ, ◌≡◌, ◌<◌, ◌≤◌, ◌+◌, ◌⊎◌, inl, inr, refl, sym, ◌∙◌, subst, List, Some, arith}
 use Rattle.std.specs.Prelude.{slice_get, slice_index}
-use Rattle.std.proofs.lemmas.Bool.{cases_order, cases_lt}
+use Rattle.std.proofs.lemmas.Bool.{cases_lt}
 use Rattle.std.proofs.lemmas.Option.{same_Some}
 use Rattle.tx_events.specs.declared.Item.{Item}
-use Rattle.tx_events.specs.declared.What.{What}
-use Rattle.race_check.specs.Races.{Does, Leads, same_thread, starts, joins, blocks, Ordered, at_once, and_then}
+use Rattle.tx_events.specs.declared.What.TheVariants.{Enter, Joined}
+use Rattle.race_check.specs.Races.{Leads, same_thread, starts, joins, blocks, Ordered, at_once, and_then}
 use Rattle.race_check.specs.Regular.{Regular}
 use Rattle.race_check.specs.Rows.{counts, Right, Building}
-use Rattle.race_check.proofs.Numbers.{at_or_above, below_or_at}
-use Rattle.race_check.proofs.AheadSteps.{does}
+use Rattle.race_check.proofs.Numbers.{at_or_above}
+use Rattle.race_check.proofs.AheadSteps.{does, same_thread_of, same_what_of}
 
 -- the steps go forward in a regular trace
 
@@ -142,3 +142,29 @@ built items r row j n e h = record { sound = h.sound; whole = λ k a f o. whole 
     whole k a f (and_then {j = m} o s) =
         let it = from_end items m j s in
         h.closed k m a it.item f it.at (h.taken m it.item (omega (arith, e)) (forward items r m j s) it.at s) o
+
+-- nothing before an item of j's thread leads to j that is not ordered before that item, unless j enters a block or joins
+pub built_early : (items : List Item) → Regular items → (row : List ℕ) (j n : ℕ) (a b : Item) → n < j → slice_get items n ≡ Some a → slice_get items j ≡ Some b
+    → a.t ≡ b.t → (b.what ≡ Enter → ⊥) → ((child : ℕ) → b.what ≡ Joined child → ⊥) → Building items row j n → Right items row j
+built_early items r row j n a b lt f g e enter join h = record { sound = h.sound; whole = λ k c d o. whole k c d o }
+  where
+    counted : counts row a.t n
+    counted = h.taken n a (omega arith) lt f (same_thread b.t a.what b.what lt (does items n a b.t a.what f e refl) g)
+
+    before_n : (k : ℕ) (c : Item) → slice_get items k ≡ Some c → Leads items k j → k < n → Ordered items k n
+    before_n k c d (same_thread t x y p q s) le =
+        at_once (same_thread t x a.what le q (does items n a t a.what f (e ∙ same_thread_of items j b t y g s) refl))
+    before_n k c d (starts t child y q s) le =
+        at_once (starts t child a.what q (does items n a child a.what f (e ∙ same_thread_of items j b child y g s) refl))
+    before_n k c d (joins t child x p q s) le = absurd (join child (same_what_of items j b t (Joined child) g s))
+    before_n k c d (blocks t u p q s m) le = absurd (enter (same_what_of items j b u Enter g s))
+
+    step : (k : ℕ) (c : Item) → slice_get items k ≡ Some c → Leads items k j → (k < n) ⊎ (n ≤ k) → counts row c.t k
+    step k c d s (inl le) = h.closed k n c a d f counted (before_n k c d s le)
+    step k c d s (inr ge) = h.taken k c ge (forward items r k j s) d s
+
+    whole : (k : ℕ) (c : Item) → slice_get items k ≡ Some c → Ordered items k j → counts row c.t k
+    whole k c d (at_once s) = step k c d s (cases_lt k n)
+    whole k c d (and_then {j = m} o s) =
+        let it = from_end items m j s in
+        h.closed k m c it.item d it.at (step m it.item it.at s (cases_lt m n)) o

@@ -1,11 +1,10 @@
 -- An ascending list with one word more.
-use Rattle.std.proofs.Common.{ℕ, zero, suc, ◌≡◌, ◌<◌, ◌≤◌, ◌+◌, ◌⊎◌, inl, inr, refl, ap, sym, ◌∙◌, subst, List, [], ◌∷◌, ◌++◌, length, take, drop, arith}
+use Rattle.std.proofs.Common.{ℕ, zero, suc, ◌≡◌, ◌<◌, ◌≤◌, ◌+◌, ◌⊎◌, inl, inr, refl, ap, sym, ◌∙◌, subst, List, [], ◌∷◌, length, arith}
 use Rattle.std.specs.Prelude.{slice_index}
-use Rattle.std.proofs.lemmas.Bool.{cases_lt}
 use Rattle.std.specs.List.{insert}
-use Rattle.tx_events.specs.declared.Item.{Item}
 use Rattle.race_check.specs.Races.{Stands, first, later, Ascends, Ascending, word_of_byte}
-use Rattle.race_check.specs.Words.{Gap, OneMore, BytesMore}
+use Rattle.race_check.specs.Words.{Gap, OneMore, WordsOf}
+use Rattle.race_check.proofs.Numbers.{below_or_at}
 
 -- a word more at an index, by recursion
 abbrev put : ℕ → List ℕ → ℕ → List ℕ
@@ -86,26 +85,63 @@ stands_at w (v ∷ vs) (suc at) lt e = later (stands_at w vs at (omega (arith, l
 pub no_more : (w : ℕ) (ws : List ℕ) → Ascending ws → Stands w ws → OneMore w ws ws
 no_more w ws h s = record { ascending = h; kept = λ v t. t; there = s; only = λ v t. inr t }
 
-pub no_bytes : (from : ℕ) (ws : List ℕ) → Ascending ws → BytesMore from from ws ws
-no_bytes from ws h = record {
-  ascending = h;
-  kept = λ v s. s;
-  there = λ x le lt. absurd (omega (arith, le, lt));
-  only = λ v s. inr s;
-}
+-- the words of bytes
 
-pub bytes_end : (from to n : ℕ) (ws new : List ℕ) → to ≤ n → (from ≤ to → n ≤ to) → (to ≤ from → n ≡ from) → BytesMore from n ws new → BytesMore from to ws new
-bytes_end from to n ws new past most none h = record {
+pub words_none : (P : ℕ → Type 0) (ws : List ℕ) → Ascending ws → ((x : ℕ) → P x → ⊥) → WordsOf P ws ws
+words_none P ws h none = record { ascending = h; kept = λ v s. s; there = λ x p. absurd (none x p); only = λ v s. inr s }
+
+pub words_one : (P : ℕ → Type 0) (ws new : List ℕ) (x : ℕ) → OneMore (word_of_byte x) ws new → P x → ((y : ℕ) → P y → y ≡ x) → WordsOf P ws new
+words_one P ws new x h p same = record {
   ascending = h.ascending;
   kept = h.kept;
-  there = λ x le lt. h.there x le (omega (arith, lt, past));
+  there = λ y q. subst (λ z. Stands (word_of_byte z) new) (sym (same y q)) h.there;
   only = λ v s. by v (h.only v s);
 }
   where
-    below : (x : ℕ) → from ≤ x → x < n → (from < to) ⊎ (to ≤ from) → x < to
-    below x le lt (inl p) = let q = most (omega (arith, p)) in omega (arith, lt, q)
-    below x le lt (inr p) = let q = none p in absurd (omega (arith, le, lt, q))
-
-    by : (v : ℕ) → ((x : ℕ) × (from ≤ x) × (x < n) × (word_of_byte x ≡ v)) ⊎ Stands v ws → ((x : ℕ) × (from ≤ x) × (x < to) × (word_of_byte x ≡ v)) ⊎ Stands v ws
-    by v (inl (x, le, lt, e)) = inl (x, le, below x le lt (cases_lt from to), e)
+    by : (v : ℕ) → (v ≡ word_of_byte x) ⊎ Stands v ws → ((y : ℕ) × P y × (word_of_byte y ≡ v)) ⊎ Stands v ws
+    by v (inl e) = inl (x, p, sym e)
     by v (inr s) = inr s
+
+pub words_both : (P Q R : ℕ → Type 0) (ws mid new : List ℕ) → WordsOf P ws mid → WordsOf Q mid new → ((x : ℕ) → R x → P x ⊎ Q x) → ((x : ℕ) → P x → R x)
+    → ((x : ℕ) → Q x → R x) → WordsOf R ws new
+words_both P Q R ws mid new g h split left right = record {
+  ascending = h.ascending;
+  kept = λ v s. h.kept v (g.kept v s);
+  there = λ x r. there x (split x r);
+  only = λ v s. by v (h.only v s);
+}
+  where
+    there : (x : ℕ) → P x ⊎ Q x → Stands (word_of_byte x) new
+    there x (inl p) = h.kept (word_of_byte x) (g.there x p)
+    there x (inr q) = h.there x q
+
+    before : (v : ℕ) → ((x : ℕ) × P x × (word_of_byte x ≡ v)) ⊎ Stands v ws → ((x : ℕ) × R x × (word_of_byte x ≡ v)) ⊎ Stands v ws
+    before v (inl (x, p, e)) = inl (x, left x p, e)
+    before v (inr s) = inr s
+
+    by : (v : ℕ) → ((x : ℕ) × Q x × (word_of_byte x ≡ v)) ⊎ Stands v mid → ((x : ℕ) × R x × (word_of_byte x ≡ v)) ⊎ Stands v ws
+    by v (inl (x, q, e)) = inl (x, right x q, e)
+    by v (inr s) = before v (g.only v s)
+
+pub words_same : (P R : ℕ → Type 0) (ws new : List ℕ) → WordsOf P ws new → ((x : ℕ) → R x → P x) → ((x : ℕ) → P x → R x) → WordsOf R ws new
+words_same P R ws new h back on = record {
+  ascending = h.ascending;
+  kept = h.kept;
+  there = λ x r. h.there x (back x r);
+  only = λ v s. by v (h.only v s);
+}
+  where
+    by : (v : ℕ) → ((x : ℕ) × P x × (word_of_byte x ≡ v)) ⊎ Stands v ws → ((x : ℕ) × R x × (word_of_byte x ≡ v)) ⊎ Stands v ws
+    by v (inl (x, p, e)) = inl (x, on x p, e)
+    by v (inr s) = inr s
+
+pub words_further : (D : ℕ → Type 0) (from n : ℕ) (ws mid new : List ℕ) → from ≤ n → WordsOf (λ x. (from ≤ x) × (x < n) × D x) ws mid
+    → WordsOf (λ x. (x ≡ n) × D x) mid new → WordsOf (λ x. (from ≤ x) × (x < n + 1) × D x) ws new
+words_further D from n ws mid new le g h =
+    words_both (λ x. (from ≤ x) × (x < n) × D x) (λ x. (x ≡ n) × D x) (λ x. (from ≤ x) × (x < n + 1) × D x) ws mid new g h
+    (λ x r. split x r.0 r.2 (below_or_at x n r.1)) (λ x p. let lt = p.1 in (p.0, omega (arith, lt), p.2))
+    (λ x q. let e = q.0 in (omega (arith, le, e), omega (arith, e), q.1))
+  where
+    split : (x : ℕ) → from ≤ x → D x → (x < n) ⊎ (x ≡ n) → ((from ≤ x) × (x < n) × D x) ⊎ ((x ≡ n) × D x)
+    split x le d (inl lt) = inl (le, lt, d)
+    split x le d (inr e) = inr (e, d)

@@ -5,3 +5,4 @@ pub mod Steps
 pub mod Walks
 pub mod Rows
 pub mod Words
+pub mod Marks

@@ -1,7 +1,6 @@
 -- What the walks over a trace look for.
-use Rattle.std.specs.Prelude.{ℕ, ◌≡◌, ◌==◌, ◌<◌, ◌+◌, Bool, true, not, ◌&&◌, ◌||◌, List, Some, slice_get}
+use Rattle.std.specs.Prelude.{ℕ, ◌≡◌, ◌==◌, ◌<◌, Bool, true, not, ◌&&◌, ◌||◌, List, Some, slice_get}
 use Rattle.tx_events.specs.declared.Item.{Item}
-use Rattle.tx_events.specs.declared.What.{What}
 use Rattle.tx_events.specs.declared.What.TheVariants.{Enter, Leave}
 use Rattle.race_check.specs.Races.{Does, touches, writes}
 

@@ -16,19 +16,15 @@ pub record OneMore (w : ℕ) (old new : List ℕ) : Type 0 where
   pub there : Stands w new
   pub only : (v : ℕ) → Stands v new → (v ≡ w) ⊎ Stands v old
 
--- the words of these bytes more
-pub record BytesMore (from to : ℕ) (old new : List ℕ) : Type 0 where
+-- the words of the bytes that P holds of more
+pub record WordsOf (P : ℕ → Type 0) (old new : List ℕ) : Type 0 where
   pub ascending : Ascending new
   pub kept : (v : ℕ) → Stands v old → Stands v new
-  pub there : (x : ℕ) → from ≤ x → x < to → Stands (word_of_byte x) new
-  pub only : (v : ℕ) → Stands v new → ((x : ℕ) × (from ≤ x) × (x < to) × (word_of_byte x ≡ v)) ⊎ Stands v old
+  pub there : (x : ℕ) → P x → Stands (word_of_byte x) new
+  pub only : (v : ℕ) → Stands v new → ((x : ℕ) × P x × (word_of_byte x ≡ v)) ⊎ Stands v old
 
--- the pair m, k was looked at before the pair i, j
-abbrev pub Passed : ℕ → ℕ → ℕ → ℕ → Type 0
-Passed m k i j = (k < j) ⊎ ((k ≡ j) × (m < i))
-
--- the words of the races of all pairs before the pair i, j
-pub record Listed (items : List Item) (words : List ℕ) (i j : ℕ) : Type 0 where
+-- the words of the races of the first n items
+pub record Listed (items : List Item) (words : List ℕ) (n : ℕ) : Type 0 where
   pub ascending : Ascending words
   pub each : (w : ℕ) → Stands w words → (x : ℕ) × (word_of_byte x ≡ w) × Race items x
-  pub all : (x m k : ℕ) → Conflict items m k x → m < k → Passed m k i j → (Ordered items m k → ⊥) → Stands (word_of_byte x) words
+  pub all : (x m k : ℕ) → Conflict items m k x → m < k → k < n → (Ordered items m k → ⊥) → Stands (word_of_byte x) words

@@ -30,7 +30,11 @@ pub(crate) fn is_enter(what: What) -> bool
 {
     match what {
         What::Enter => true,
-        What::Read { .. } | What::Write { .. } | What::Leave | What::Spawned { .. } | What::Joined { .. } => false,
+        What::Read { .. }
+        | What::Write { .. }
+        | What::Leave
+        | What::Spawned { .. }
+        | What::Joined { .. } => false,
     }
 }
 
@@ -41,7 +45,11 @@ pub(crate) fn is_leave(what: What) -> bool
 {
     match what {
         What::Leave => true,
-        What::Read { .. } | What::Write { .. } | What::Enter | What::Spawned { .. } | What::Joined { .. } => false,
+        What::Read { .. }
+        | What::Write { .. }
+        | What::Enter
+        | What::Spawned { .. }
+        | What::Joined { .. } => false,
     }
 }
 
@@ -51,7 +59,8 @@ pub(crate) fn starts(what: What, t: u8) -> bool
 {
     match what {
         What::Spawned { child } => child == t,
-        What::Read { .. } | What::Write { .. } | What::Enter | What::Leave | What::Joined { .. } => false,
+        What::Read { .. } | What::Write { .. } | What::Enter | What::Leave | What::Joined { .. } =>
+            false,
     }
 }
 
@@ -61,22 +70,27 @@ pub(crate) fn joins(what: What, t: u8) -> bool
 {
     match what {
         What::Joined { child } => child == t,
-        What::Read { .. } | What::Write { .. } | What::Enter | What::Leave | What::Spawned { .. } => false,
+        What::Read { .. } | What::Write { .. } | What::Enter | What::Leave | What::Spawned { .. } =>
+            false,
     }
 }
 
 /// It writes.
-fn is_write(what: What) -> bool
+pub(crate) fn is_write(what: What) -> bool
     ensures { result ≡ writes what }
 {
     match what {
         What::Write { .. } => true,
-        What::Read { .. } | What::Enter | What::Leave | What::Spawned { .. } | What::Joined { .. } => false,
+        What::Read { .. }
+        | What::Enter
+        | What::Leave
+        | What::Spawned { .. }
+        | What::Joined { .. } => false,
     }
 }
 
 /// The bytes that it accesses.
-fn bytes_of(what: What) -> Bytes
+pub(crate) fn bytes_of(what: What) -> Bytes
     requires { end_of what < 2 ^ 64 }
     ensures inside { (x : ℕ) → result.from ≤ x → x < result.to → touches what x ≡ true }
     ensures all { (x : ℕ) → touches what x ≡ true → (result.from ≤ x) × (x < result.to) }
@@ -86,7 +100,10 @@ fn bytes_of(what: What) -> Bytes
             from: addr,
             to: addr + u64::from(size),
         },
-        What::Enter | What::Leave | What::Spawned { .. } | What::Joined { .. } => Bytes { from: 0, to: 0 },
+        What::Enter | What::Leave | What::Spawned { .. } | What::Joined { .. } => Bytes {
+            from: 0,
+            to: 0,
+        },
     }
 }
 

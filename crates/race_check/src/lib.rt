@@ -1,11 +1,13 @@
 //! Accesses of a trace that nothing orders.
 //!
 //! The definition stands in `specs/Races`: conflicting accesses, the steps of order, chains of them, and the words of a
-//! trace's races. `races` finds them; each function of `laws` does nothing, and its clause is the law.
+//! trace's races. `races` finds them, for a trace that `is_regular`. The functions of this file do nothing: the clause of
+//! each is a law.
 #![tactic(auto)]
 
+mod found;
 mod items;
-mod pairs;
+mod marks;
 mod regular;
 mod rows;
 #[cfg(test)]
@@ -13,13 +15,13 @@ mod tests;
 mod walks;
 mod words;
 
-pub use pairs::races;
-pub use regular::is_regular;
-
 ghost use Rattle.std.specs.Prelude.{◌≡◌, ℕ, Bool, true, List, [], ◌∷◌, Some, slice_get};
 ghost use Rattle.tx_events.specs.declared.Item.{Item};
 ghost use Rattle.race_check.specs.Races.{Leads, Ordered, Races};
 ghost use Rattle.race_check.specs.Examples.{two_counters};
+
+pub use found::races;
+pub use regular::is_regular;
 
 /// A trace has at most one list of races.
 pub fn one_list()

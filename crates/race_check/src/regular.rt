@@ -12,7 +12,8 @@ fn ends_within(what: What) -> bool
     ensures no { result ≡ false → end_of what < 2 ^ 64 → ⊥ }
 {
     match what {
-        What::Read { addr, size } | What::Write { addr, size } => u64::from(size) <= u64::MAX - addr,
+        What::Read { addr, size } | What::Write { addr, size } => u64::from(size)
+            <= u64::MAX - addr,
         What::Enter | What::Leave | What::Spawned { .. } | What::Joined { .. } => true,
     }
 }
@@ -39,7 +40,8 @@ fn starts_late(items: &[Item], what: What, n: usize) -> bool
 {
     match what {
         What::Spawned { child } => has_item(items, n, child),
-        What::Read { .. } | What::Write { .. } | What::Enter | What::Leave | What::Joined { .. } => false,
+        What::Read { .. } | What::Write { .. } | What::Enter | What::Leave | What::Joined { .. } =>
+            false,
     }
 }
 

@@ -1,11 +1,12 @@
 //! The row of an item: for each thread, a counter above its items that are ordered before.
-ghost use Rattle.std.specs.Prelude.{◌≡◌, ℕ, ◌<◌, ◌≤◌, ◌+◌, ◌⊎◌, ◌^◌, length, slice_index, vec_len};
+ghost use Rattle.std.specs.Prelude.{◌≡◌, ℕ, ◌<◌, ◌≤◌, ◌+◌, ◌⊎◌, ◌^◌, length, slice_index, true};
+ghost use Rattle.tx_events.specs.declared.What.TheVariants.{Enter, Joined};
 ghost use Rattle.race_check.specs.Regular.{Regular};
 ghost use Rattle.race_check.specs.Rows.{AllRight, Building, Right};
 
 use crate::items::item_at;
 use crate::walks::leads;
-use tx_events::Item;
+use tx_events::{Item, What};
 
 /// How many threads a trace can have.
 pub(crate) const THREADS: usize = 64;
@@ -17,10 +18,12 @@ pub(crate) struct Row {
 }
 
 // The row that counts nothing.
-fn empty_row() -> Row
+pub(crate) fn empty_row() -> Row
     ensures { (s : ℕ) → slice_index result.latest s ≡ 0 }
 {
-    Row { latest: [0; THREADS] }
+    Row {
+        latest: [0; THREADS],
+    }
 }
 
 // What either counts.
@@ -74,6 +77,19 @@ fn take_in(items: &[Item], rows: &[Row], j: usize, p: usize, row: &mut Row)
     add_item(&mut row.latest, t, p);
 }
 
+// What leads to the later item at once from before this one is ordered before this one.
+fn is_enough(one: Item, other: Item) -> bool
+    ensures thread { result ≡ true → one.t ≡ other.t }
+    ensures enter { result ≡ true → other.what ≡ Enter → ⊥ }
+    ensures join { result ≡ true → (child : ℕ) → other.what ≡ Joined child → ⊥ }
+{
+    match other.what {
+        What::Enter | What::Joined { .. } => false,
+        What::Read { .. } | What::Write { .. } | What::Leave | What::Spawned { .. } => one.t
+            == other.t,
+    }
+}
+
 /// The row of item `j`, from those of the items before it.
 pub(crate) fn row_of(items: &[Item], rows: &[Row], j: usize) -> Row
     requires regular { Regular items.now }
@@ -82,11 +98,15 @@ pub(crate) fn row_of(items: &[Item], rows: &[Row], j: usize) -> Row
     requires right { AllRight items.now rows.now }
     ensures { Right items.now result.latest j }
 {
+    let item = item_at(items, j);
     let mut row = empty_row();
     let mut p = j;
     'earlier: while 0 < p {
         p -= 1;
         take_in(items, rows, j, p, &mut row);
+        if is_enough(item_at(items, p), item) {
+            return row;
+        }
     }
     row
 }

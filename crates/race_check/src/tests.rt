@@ -5,8 +5,15 @@ use std::process::Abort;
 use std::test::Fail;
 use tx_events::{Item, What};
 
-const READ: What = What::Read { addr: 65536, size: 4 };
-const WRITE: What = What::Write { addr: 65536, size: 4 };
+const READ: What = What::Read {
+    addr: 65536,
+    size: 4,
+};
+
+const WRITE: What = What::Write {
+    addr: 65536,
+    size: 4,
+};
 
 fn does(t: u8, what: What) -> Item {
     Item { t, what }
@@ -61,10 +68,22 @@ fn blocks_apart_order_nothing(rt: HostRuntime) -> Result<(), Fail> {
         does(0, What::Spawned { child: 1 }),
         does(0, WRITE),
         does(0, What::Enter),
-        does(0, What::Write { addr: 65544, size: 4 }),
+        does(
+            0,
+            What::Write {
+                addr: 65544,
+                size: 4,
+            },
+        ),
         does(0, What::Leave),
         does(1, What::Enter),
-        does(1, What::Read { addr: 65548, size: 4 }),
+        does(
+            1,
+            What::Read {
+                addr: 65548,
+                size: 4,
+            },
+        ),
         does(1, What::Leave),
         does(1, READ),
     ];
@@ -77,10 +96,22 @@ fn blocks_that_meet_order(rt: HostRuntime) -> Result<(), Fail> {
         does(0, What::Spawned { child: 1 }),
         does(0, WRITE),
         does(0, What::Enter),
-        does(0, What::Write { addr: 65544, size: 4 }),
+        does(
+            0,
+            What::Write {
+                addr: 65544,
+                size: 4,
+            },
+        ),
         does(0, What::Leave),
         does(1, What::Enter),
-        does(1, What::Read { addr: 65544, size: 4 }),
+        does(
+            1,
+            What::Read {
+                addr: 65544,
+                size: 4,
+            },
+        ),
         does(1, What::Leave),
         does(1, READ),
     ];
@@ -89,7 +120,17 @@ fn blocks_that_meet_order(rt: HostRuntime) -> Result<(), Fail> {
 
 #[test]
 fn halves_of_a_word(rt: HostRuntime) -> Result<(), Fail> {
-    let items = [does(0, What::Spawned { child: 1 }), does(0, WRITE), does(1, What::Write { addr: 65540, size: 4 })];
+    let items = [
+        does(0, What::Spawned { child: 1 }),
+        does(0, WRITE),
+        does(
+            1,
+            What::Write {
+                addr: 65540,
+                size: 4,
+            },
+        ),
+    ];
     compare(&rt, rt.alloc(), &items, &[])
 }
 

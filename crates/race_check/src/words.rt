@@ -1,7 +1,7 @@
 //! A list of words, ascending and distinct.
-ghost use Rattle.std.specs.Prelude.{◌≡◌, ℕ, ◌<◌, ◌≤◌, ◌+◌, ◌*◌, ◌/◌, MatchOption, OnOk};
+ghost use Rattle.std.specs.Prelude.{◌≡◌, ℕ, ◌<◌, ◌≤◌, MatchOption, OnOk};
 ghost use Rattle.race_check.specs.Races.{Ascending, Stands};
-ghost use Rattle.race_check.specs.Words.{Gap, OneMore, BytesMore};
+ghost use Rattle.race_check.specs.Words.{Gap, OneMore};
 
 use std::alloc::AllocError;
 
@@ -23,7 +23,7 @@ fn place_of(words: &[u64], word: u64) -> Option<usize>
 }
 
 /// Adds a word, if it is not there.
-fn add_word(words: &mut Vec<u64>, word: u64) -> Result<(), AllocError>
+pub(crate) fn add_word(words: &mut Vec<u64>, word: u64) -> Result<(), AllocError>
     requires { Ascending words.old.items }
     ensures { OnOk result (OneMore word words.old.items words.new.items) }
 {
@@ -31,16 +31,5 @@ fn add_word(words: &mut Vec<u64>, word: u64) -> Result<(), AllocError>
         return Ok(());
     };
     words.insert(at, word)?;
-    Ok(())
-}
-
-/// Adds the words of these bytes.
-pub(crate) fn add_bytes(words: &mut Vec<u64>, from: u64, to: u64) -> Result<(), AllocError>
-    requires { Ascending words.old.items }
-    ensures { OnOk result (BytesMore from to words.old.items words.new.items) }
-{
-    'bytes: for byte in from..to {
-        add_word(words, 8 * (byte / 8))?;
-    }
     Ok(())
 }

@@ -1,5 +1,4 @@
-use Rattle.std.proofs.Common.{ℕ, ◌≡◌, ◌<◌, ◌≤◌, ◌+◌, ◌⊎◌, subst, sym, arith, length, get_or, []}
-use Rattle.std.specs.Prelude.{slice_index}
+use Rattle.std.proofs.Common.{◌≡◌, ◌<◌, subst, arith, length, get_or, []}
 use Rattle.std.proofs.lemmas.Option.{slice_get-get_or}
 use Rattle.race_check.specs.declared.rows.Row.{Row}
 use Rattle.race_check.specs.Rows.{counts}
@@ -26,8 +25,8 @@ returns c =
     let first = c.add_row.ensures in
     let second = c.add_item.ensures in
     let sum : Sum c.args.row.now.latest other.latest c.add_item.new.row c.from-t.result c.args.p =
-        sum_of c.args.row.now.latest other.latest c.add_row.new.row c.add_item.new.row c.from-t.result c.args.p first.kept first.gained first.only second.kept
-        second.gained second.only in
+    sum_of c.args.row.now.latest other.latest c.add_row.new.row c.add_item.new.row c.from-t.result c.args.p first.kept first.gained first.only second.kept
+    second.gained second.only in
     let lt : c.args.p < length c.args.rows.now = omega (arith, c.requires.order, c.requires.rows) in
     taken_in c.args.items.now c.requires.regular c.args.row.now.latest other.latest c.add_item.new.row c.args.j c.args.p c.item_at-item.result
     c.requires.so_far c.item_at-item.ensures (c.requires.right c.args.p other (slice_get-get_or c.args.rows.now c.args.p none lt))

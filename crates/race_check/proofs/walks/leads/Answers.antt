@@ -1,4 +1,4 @@
-use Rattle.std.proofs.Common.{◌≡◌, sym, ◌∙◌, true, false}
+use Rattle.std.proofs.Common.{sym, ◌∙◌}
 use Rattle.race_check.proofs.Meetings.{by_thread, by_start, by_join, by_blocks, way_of, no_way}
 use Rattle.race_check.proofs.walks.leads.Goals as goal
 

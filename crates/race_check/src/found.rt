@@ -1,0 +1,82 @@
+//! The words of a trace's races.
+ghost use Rattle.std.specs.Prelude.{◌≡◌, ℕ, ◌<◌, ◌≤◌, ◌+◌, ◌^◌, IfOk, OnOk};
+ghost use Rattle.race_check.specs.Marks.{Racing, late_at};
+ghost use Rattle.race_check.specs.Races.{Ascending, Races};
+ghost use Rattle.race_check.specs.Regular.{Regular, end_of};
+ghost use Rattle.race_check.specs.Words.{WordsOf};
+
+use crate::items::{bytes_of, is_write, item_at};
+use crate::marks::{Marks, Seen};
+use crate::rows::{Row, row_of};
+use crate::words::add_word;
+use std::alloc::{AllocError, Global};
+use tx_events::Item;
+
+// Adds the byte's word, if another thread is marked there with an item that the row does not count.
+fn add_at(
+    words: &mut Vec<u64>,
+    marks: &Marks,
+    row: &Row,
+    t: u8,
+    byte: u64,
+) -> Result<(), AllocError>
+    requires { Ascending words.old.items }
+    ensures { OnOk result (WordsOf (λ x. (x ≡ byte) × late_at marks.now row.now.latest t x) words.old.items words.new.items) }
+{
+    if !marks.is_late(row, t, byte) {
+        return Ok(());
+    }
+    add_word(words, 8 * (byte / 8))?;
+    Ok(())
+}
+
+// Adds the words of those of these bytes.
+fn add_late(
+    words: &mut Vec<u64>,
+    marks: &Marks,
+    row: &Row,
+    t: u8,
+    from: u64,
+    to: u64,
+) -> Result<(), AllocError>
+    requires { Ascending words.old.items }
+    ensures { OnOk result (WordsOf (λ x. (from ≤ x) × (x < to) × late_at marks.now row.now.latest t x) words.old.items words.new.items) }
+{
+    'bytes: for byte in from..to {
+        add_at(words, marks, row, t, byte)?;
+    }
+    Ok(())
+}
+
+// Adds the words at which the item races with an item before it, where this is its row.
+fn add_races(words: &mut Vec<u64>, seen: &Seen, row: &Row, item: Item) -> Result<(), AllocError>
+    requires ascending { Ascending words.old.items }
+    requires end { end_of item.what < 2 ^ 64 }
+    ensures { OnOk result (WordsOf (Racing seen.now row.now.latest item) words.old.items words.new.items) }
+{
+    let bytes = bytes_of(item.what);
+    add_late(words, &seen.writes, row, item.t, bytes.from, bytes.to)?;
+    if !is_write(item.what) {
+        return Ok(());
+    }
+    add_late(words, &seen.reads, row, item.t, bytes.from, bytes.to)?;
+    Ok(())
+}
+
+/// The words of the races of a trace, ascending and distinct.
+pub fn races(alloc: Global, items: &[Item]) -> Result<Vec<u64>, AllocError>
+    requires { Regular items.now }
+    ensures { IfOk result (λ words. Races items.now words.items) }
+{
+    let mut rows: Vec<Row> = Vec::new(alloc);
+    let mut seen = Seen::new(alloc);
+    let mut words = Vec::new(alloc);
+    'items: for j in 0..items.len() {
+        let item = item_at(items, j);
+        let row = row_of(items, &rows, j);
+        add_races(&mut words, &seen, &row, item)?;
+        seen.put(items, item, j)?;
+        rows.push(row)?;
+    }
+    Ok(words)
+}
