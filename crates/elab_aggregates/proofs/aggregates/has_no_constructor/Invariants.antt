@@ -1,0 +1,8 @@
+use Rattle.std.proofs.Common.{◌≡◌, drop, map}
+use Rattle.elab_ctx.specs.Ctx.{func_of}
+use Rattle.elab_rules.specs.Initialising.{places_from}
+use Rattle.elab_rules.specs.Braces.{is_written_constructor, is_empty}
+use Rattle.elab_aggregates.proofs.aggregates.has_no_constructor.Given as goal
+
+abbrev pub invariant-loop-found : goal.invariant-loop-found
+invariant-loop-found l = is_empty (places_from (is_written_constructor l.class) l.found-index (map func_of (drop l.found-index l.funcs))) ≡ is_empty (places_from (is_written_constructor l.class) 0 (map func_of l.funcs))
