@@ -1,0 +1,1 @@
+yes 0 | head -c 16777217 >"$room/schedule"
