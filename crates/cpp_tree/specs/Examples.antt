@@ -1,14 +1,14 @@
 -- Trees that are well-formed, and for each rule the nearest ones that are not. All stand in
 --
 --     int x; struct D { int v; D(int); ~D(); }; struct W : D { virtual void h(); };   void g(D, int&);   D k();
---     int f(int p) { D d(..); int i; int j; W w(..); auto l = [&i, d] { .. }; .. }
+--     int f(int p) { D d(..); int i; int j; W w(..); auto l = [&i, d] { .. }; const D c = k(); .. }
 use Rattle.std.specs.Prelude.{ℕ, Bool, true, false, List, [], ◌∷◌, Option, Some, None, map}
 use Rattle.tx_ints.specs.declared.kinds.IntKind.TheVariants.{Bool as BoolKind, Int, ULong}
 use Rattle.tx_ints.specs.declared.kinds.BinOp.TheVariants.{Add}
-use Rattle.cpp_types.specs.Typ.{Typ, int, ptr, ref, class, closure, void, Typs, signature, none as none_typs, more as more_typs}
+use Rattle.cpp_types.specs.Typ.{Typ, typ, int, ptr, ref, class, closure, void, Typs, signature, none as none_typs, more as more_typs}
 use Rattle.cpp_types.specs.Class.{Class, Member, Function}
 use Rattle.cpp_types.specs.declared.classes.Safety.TheVariants.{None as Unsaid}
-use Rattle.cpp_tree.specs.declared.kinds.TKind.TheVariants.{Literal, Local, Load, Binary, Conditional, Materialize, Throw, VirtualCall, Store, Construct, Pieces, Piece, Block, Init, Loop, Switch, Return, Destroy, Field}
+use Rattle.cpp_tree.specs.declared.kinds.TKind.TheVariants.{Literal, Local, Load, Binary, Conditional, Materialize, Throw, Call, VirtualCall, Store, Construct, Pieces, Piece, Block, Init, Loop, Switch, Return, Destroy, Field}
 use Rattle.cpp_tree.specs.declared.program.FuncKind.{FuncKind}
 use Rattle.cpp_tree.specs.declared.program.FuncKind.TheVariants.{Plain, Constructor, Destructor}
 use Rattle.cpp_tree.specs.declared.program.Linkage.TheVariants.{External}
@@ -37,9 +37,12 @@ w = plain (class 1)
 abbrev pub lambda : Typ
 lambda = plain (closure 2)
 
--- the function f, in whose body the trees stand: its words and then d, i, j, w and l
+abbrev pub const_d : Typ
+const_d = typ (class 0) true false
+
+-- the function f, in whose body the trees stand: its words and then d, i, j, w, l and c
 abbrev pub f : Func
-f = func Plain None int_type (more_typs int_type none_typs) (int_type ∷ []) 1 (int_type ∷ d ∷ int_type ∷ int_type ∷ w ∷ lambda ∷ [])
+f = func Plain None int_type (more_typs int_type none_typs) (int_type ∷ []) 1 (int_type ∷ d ∷ int_type ∷ int_type ∷ w ∷ lambda ∷ const_d ∷ [])
 
 -- the function k, which has an object as its result
 abbrev pub k : Func
@@ -117,6 +120,14 @@ build = prvalue (Construct 1) d (number 1 ∷ [])
 
 abbrev pub destroy : Tree
 destroy = effect (Destroy 2 0 1 0) []
+
+-- `const D c = ..;`
+abbrev pub constant : Tree → Tree
+constant init = effect Init (lvalue (Local 6) const_d [] ∷ init ∷ destroy ∷ [])
+
+-- `k()`
+abbrev pub call_of_k : Tree
+call_of_k = prvalue (Call 5) d []
 
 abbrev pub variable : ℕ → Tree → Tree
 variable n init = effect Init (place n ∷ init ∷ [])

@@ -7,21 +7,9 @@ use Rattle.cpp_tree.specs.declared.kinds.TKind.{TKind}
 use Rattle.cpp_tree.specs.declared.kinds.TKind.TheVariants.{Literal, Local, Global, Function, ClassTable, Load, Convert, Retype, Binary, Conditional, Comma, Assign, Update, CopyAssign, Materialize, FullExpression, Call, VirtualCall, PointerCall, Builtin as CallBuiltin, Throw, Rethrow, Store, CopyScalar, Construct, CopyConstruct, CopyFrom, Pieces, Piece, Elements, Block, Init, Defer, Loop, Switch, Case, Default, Break, Continue, Return, Try, Handler, Atomic, Synchronized, Destroy, Field}
 use Rattle.cpp_tree.specs.declared.roles.Role.{Role}
 use Rattle.cpp_tree.specs.declared.roles.Role.TheVariants.{Value, Word, Initialiser, CopyInit, Zero, Statement, BlockItem, SwitchItem, Step, Part, CopiedPart, Catch, Destruction, Scalar}
-use Rattle.cpp_tree.specs.Typing.{is_argument, is_class_prvalue}
+use Rattle.cpp_tree.specs.Typing.{goes_both_ways, is_argument, is_class_prvalue}
 
 -- Kinds
-
--- kinds that stand for a class prvalue or another value alike
-abbrev pub goes_both_ways : TKind → Bool
-goes_both_ways Conditional = true
-goes_both_ways Comma = true
-goes_both_ways FullExpression = true
-goes_both_ways (Call f) = true
-goes_both_ways (VirtualCall f c s p) = true
-goes_both_ways PointerCall = true
-goes_both_ways Throw = true
-goes_both_ways Rethrow = true
-goes_both_ways kind = false
 
 abbrev pub is_throw : TKind → Bool
 is_throw Throw = true

@@ -10,7 +10,7 @@ use Rattle.cpp_types.specs.Conversion.{is_object_form, is_lvalue}
 use Rattle.cpp_types.specs.declared.ranks.Cat.{Cat}
 use Rattle.cpp_types.specs.declared.ranks.Cat.TheVariants.{Lvalue, Prvalue}
 use Rattle.cpp_tree.specs.declared.kinds.TKind.{TKind}
-use Rattle.cpp_tree.specs.declared.kinds.TKind.TheVariants.{Materialize}
+use Rattle.cpp_tree.specs.declared.kinds.TKind.TheVariants.{Materialize, Conditional, Comma, FullExpression, Call, VirtualCall, PointerCall, Throw, Rethrow}
 use Rattle.cpp_tree.specs.declared.arena.TNode.{TNode}
 use Rattle.cpp_types.specs.Typ.{typ_of}
 use Rattle.cpp_tree.specs.Trees.{Tree, node}
@@ -161,9 +161,22 @@ abbrev pub initialises : Typ → Head → Bool
 initialises (typ (ref t) c v) h = is_bound t h
 initialises t h = is_prvalue_of (unqualified t) h
 
--- an initialiser that builds an object of this type, of a `std::tx_exception` as of the value in it
+-- kinds that stand for a class prvalue or another value alike
+abbrev pub goes_both_ways : TKind → Bool
+goes_both_ways Conditional = true
+goes_both_ways Comma = true
+goes_both_ways FullExpression = true
+goes_both_ways (Call f) = true
+goes_both_ways (VirtualCall f c s p) = true
+goes_both_ways PointerCall = true
+goes_both_ways Throw = true
+goes_both_ways Rethrow = true
+goes_both_ways kind = false
+
+-- an initialiser that builds an object of this type, of a `std::tx_exception` as of the value in it; what stands for a class prvalue elsewhere too, a call
+-- say, keeps its own type, whatever the object's qualifiers
 abbrev pub builds : Typ → Head → Bool
-builds t h = is_prvalue h.cat && (typ_eq t h.typ || typ_eq (without_exception t) h.typ)
+builds t h = is_prvalue h.cat && (typ_eq t h.typ || typ_eq (without_exception t) h.typ || (goes_both_ways h.kind && is_class_typ t && same_shape t h.typ))
 
 -- what a call of a function with this result is (C++14 5.2.2)
 abbrev pub is_result : Typ → Typ → Cat → Bool

@@ -6,13 +6,14 @@ ghost use Rattle.tx_ints.specs.declared.kinds.BinOp.TheVariants.{Add};
 ghost use Rattle.cpp_types.specs.Typ.{int, array};
 ghost use Rattle.cpp_tree.specs.declared.kinds.TKind.TheVariants.{Literal, Local, Global, Load, Binary, Conditional, Comma, Assign, FullExpression, Call, Store, CopyScalar, Elements, Block, Init, Defer, Case, Default, Break, Continue, Return, Try, Handler, Destroy};
 ghost use Rattle.cpp_tree.specs.Notation.{plain, effect, prvalue, lvalue};
-ghost use Rattle.cpp_tree.specs.Examples.{item_fits, body, int_type, d, number, place, read, returned, block, build, destroy, variable, stored, temporary, member, argument, loop, switch, thrown, field, when, virtual_call, thrown_object, lambda_variable, destroy_at, item_of_k_fits, no_result};
+ghost use Rattle.cpp_tree.specs.Examples.{item_fits, body, int_type, d, number, place, read, returned, block, build, destroy, constant, call_of_k, variable, w, stored, temporary, member, argument, loop, switch, thrown, field, when, virtual_call, thrown_object, lambda_variable, destroy_at, item_of_k_fits, no_result};
 
 /// `return p;`, `D d(1);`, `x = 1 + 2;`, `return D(1).v;`, `g(D(1), i);`, a loop, a `switch`, `throw 5;` and a `try`.
 #[tactic(auto, unfolding(tx_ints::specs::Integers::reduced, tx_ints::specs::Words::word_of))]
 pub fn well_formed()
     ensures returns { item_fits (returned (read (place 0))) ≡ true }
     ensures declares { item_fits (effect Init (lvalue (Local 1) d [] ∷ build ∷ destroy ∷ [])) ≡ true }
+    ensures constant { item_fits (constant call_of_k) ≡ true }
     ensures assigns { item_fits (lvalue (Assign Int false) int_type (lvalue (Global 0) int_type [] ∷ prvalue (Binary Add Int) int_type (number 1 ∷ number 2 ∷ []) ∷ [])) ≡ true }
     ensures temporary { item_fits (returned (prvalue FullExpression int_type (member (temporary (destroy ∷ [])) ∷ []))) ≡ true }
     ensures calls { item_fits (effect (Call 3) (argument ∷ place 2 ∷ [])) ≡ true }
@@ -50,8 +51,10 @@ pub fn kinds()
     ensures stored { item_fits (variable 2 (prvalue (Store Int true) int_type (number 1 ∷ []))) ≡ false }
 {}
 
-/// Objects are built where one stands, copies only below what is copied.
+/// Objects are built where one stands, copies only below what is copied; a call gives a `const` object what it builds, a constructor names the type.
 pub fn objects()
+    ensures qualifiers { item_fits (constant build) ≡ false }
+    ensures class { item_fits (effect Init (lvalue (Local 4) w [] ∷ call_of_k ∷ [])) ≡ false }
     ensures value { item_fits (returned build) ≡ false }
     ensures statement { item_fits build ≡ false }
     ensures copy { item_fits (variable 2 (prvalue (CopyScalar Int false) int_type [])) ≡ false }

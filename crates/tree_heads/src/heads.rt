@@ -4,10 +4,13 @@ ghost use Rattle.std.specs.Prelude.{◌≡◌};
 ghost use Rattle.cpp_types.specs.Typ.{typ_of};
 ghost use Rattle.cpp_types.specs.Conversion.{is_lvalue as is_lvalue_cat};
 ghost use Rattle.cpp_types.specs.Equal.{typ_eq};
-ghost use Rattle.cpp_tree.specs.Typing.{gives as gives_word, is_prvalue as is_prvalue_cat, is_bool as is_test, is_lvalue_of as is_lvalue_typ, is_prvalue_of as is_prvalue_typ, is_temporary as is_temporary_kind, is_argument as is_argument_kind, is_bound as is_bound_head, initialises as initialises_head, builds as builds_head};
+ghost use Rattle.cpp_tree.specs.Typing.{gives as gives_word, is_prvalue as is_prvalue_cat, is_bool as is_test, is_lvalue_of as is_lvalue_typ, is_prvalue_of as is_prvalue_typ, is_temporary as is_temporary_kind, is_argument as is_argument_kind, is_bound as is_bound_head, initialises as initialises_head, builds as builds_head, goes_both_ways as goes_two_ways};
 ghost use Rattle.tree_heads.specs.Shown.{shown};
 
-use crate::types::{is_exception_value, is_kind, is_plain_bool, is_unqualified, word_kind};
+use crate::types::{
+    is_class_type, is_exception_value, is_kind, is_plain_bool, is_unqualified, same_shape,
+    word_kind,
+};
 use cpp_tree::TKind;
 use cpp_types::{Cat, Shape, Ty, equal_types};
 use tx_ints::IntKind;
@@ -93,9 +96,29 @@ pub fn initialises(ty: &Ty, head: Head<'_>) -> bool
     }
 }
 
+/// Whether nodes of this kind stand for a class prvalue or another value alike.
+pub fn goes_both_ways(kind: TKind) -> bool
+    ensures { result ≡ goes_two_ways kind }
+{
+    matches!(
+        kind,
+        TKind::Conditional
+            | TKind::Comma
+            | TKind::FullExpression
+            | TKind::Call { .. }
+            | TKind::VirtualCall { .. }
+            | TKind::PointerCall
+            | TKind::Throw
+            | TKind::Rethrow
+    )
+}
+
 /// Whether the node builds an object of this type.
 pub fn builds(ty: &Ty, head: Head<'_>) -> bool
     ensures { result ≡ builds_head (typ_of ty.now) (shown head.entry) }
 {
-    is_prvalue(head.cat) && (equal_types(ty, head.ty) || is_exception_value(ty, head.ty))
+    is_prvalue(head.cat)
+        && (equal_types(ty, head.ty)
+            || is_exception_value(ty, head.ty)
+            || goes_both_ways(head.kind) && is_class_type(ty) && same_shape(ty, head.ty))
 }

@@ -2,32 +2,16 @@
 
 ghost use Rattle.std.specs.Prelude.{◌≡◌, ◌∷◌, [], length, cond};
 ghost use Rattle.cpp_types.specs.Typ.{typ_of};
-ghost use Rattle.cpp_tree.specs.Roles.{goes_both_ways as goes_two_ways, is_full as is_full_kind, is_expression as is_expression_kind, is_initialiser as is_initialiser_kind, is_copy as is_copy_kind, is_statement as is_statement_kind, is_block_item as is_block_item_kind, is_label as is_label_kind, serves as serves_in, may_build as may_build_object, may_give as may_give_value, way_fits as is_way_fitting, result_role as result_role_of, branch_role as branch_role_of, part_role as part_role_of, object_role as object_role_of, kids_for as kids_of_kind, only, and_any, role_at as role_in};
+ghost use Rattle.cpp_tree.specs.Roles.{is_full as is_full_kind, is_expression as is_expression_kind, is_initialiser as is_initialiser_kind, is_copy as is_copy_kind, is_statement as is_statement_kind, is_block_item as is_block_item_kind, is_label as is_label_kind, serves as serves_in, may_build as may_build_object, may_give as may_give_value, way_fits as is_way_fitting, result_role as result_role_of, branch_role as branch_role_of, part_role as part_role_of, object_role as object_role_of, kids_for as kids_of_kind, only, and_any, role_at as role_in};
 ghost use Rattle.cpp_tree.specs.declared.roles.Role.TheVariants.{Zero, Initialiser};
 ghost use Rattle.tree_standing.specs.Shown.{roles_shown};
 
 use cpp_tree::TKind;
 use cpp_tree::roles::Role;
 use cpp_types::{Cat, Ty};
-use tree_heads::heads::is_argument;
+use tree_heads::heads::{goes_both_ways, is_argument};
 use tree_heads::types::is_class_prvalue;
 use tree_operands::access::is_throw;
-
-fn goes_both_ways(kind: TKind) -> bool
-    ensures { result ≡ goes_two_ways kind }
-{
-    matches!(
-        kind,
-        TKind::Conditional
-            | TKind::Comma
-            | TKind::FullExpression
-            | TKind::Call { .. }
-            | TKind::VirtualCall { .. }
-            | TKind::PointerCall
-            | TKind::Throw
-            | TKind::Rethrow
-    )
-}
 
 fn is_full(kind: TKind) -> bool
     ensures { result ≡ is_full_kind kind }
