@@ -7,8 +7,6 @@
 pub mod clauses;
 pub mod faults;
 pub mod rules;
-#[cfg(test)]
-mod tests;
 pub mod verified;
 
 pub use verified::{BadCode, GoodImage, verify};

@@ -7,8 +7,6 @@
 pub mod arena;
 pub mod kinds;
 pub mod laws;
-#[cfg(test)]
-mod tests;
 pub mod units;
 
 pub use arena::{At, Node, NodeId, Nodes};

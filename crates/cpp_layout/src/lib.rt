@@ -10,8 +10,6 @@ pub mod laws;
 mod measures;
 pub mod objects;
 mod pointers;
-#[cfg(test)]
-mod tests;
 
 pub use addresses::{fn_addr, vtable_addr};
 pub use extents::SizeAlign;

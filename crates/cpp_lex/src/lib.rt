@@ -19,8 +19,6 @@ mod piece;
 mod puncts;
 mod quoted;
 mod skipped;
-#[cfg(test)]
-mod tests;
 mod words;
 
 /// The greatest length of a text, in bytes.

@@ -5,8 +5,6 @@ mod entity;
 mod fault;
 mod scope;
 mod scopes;
-#[cfg(test)]
-mod tests;
 
 pub use entity::{Entity, EntityKind};
 pub use fault::NameFault;

@@ -10,8 +10,6 @@ ghost use Rattle.cpp_nests.specs.declared.TheConstants.{MAX_TOKENS};
 
 mod nest;
 mod roles;
-#[cfg(test)]
-mod tests;
 
 use cpp_lex::{Token, Tokens};
 use nest::Nest;

@@ -4,8 +4,6 @@
 pub mod calls;
 pub mod choice;
 pub mod laws;
-#[cfg(test)]
-mod tests;
 
 pub use calls::{Arg, Cand, NoBest};
 pub use choice::choose;

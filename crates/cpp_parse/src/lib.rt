@@ -18,7 +18,5 @@ mod single_members;
 mod specifiers;
 pub mod statements;
 mod terminals;
-#[cfg(test)]
-mod tests;
 
 pub use parse::parse_unit;

@@ -6,8 +6,6 @@ pub mod depth;
 pub mod expressions;
 mod lambdas;
 pub mod parse;
-#[cfg(test)]
-mod tests;
 pub mod types;
 
 pub use parse::{BodyRange, ExprForm, ExprOut, ParseFault, parse_expr};

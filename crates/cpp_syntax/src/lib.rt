@@ -23,8 +23,6 @@ mod shaped_declarations;
 mod shaped_declarators;
 pub mod shapes;
 pub mod terminal;
-#[cfg(test)]
-mod tests;
 mod type_words;
 
 pub use builder::{Builder, Parts};

@@ -14,8 +14,6 @@ pub mod kinds;
 pub mod laws;
 pub mod program;
 pub mod roles;
-#[cfg(test)]
-mod tests;
 
 pub use arena::{TNode, TNodeId, add_binary, add_leaf, add_node, add_unary};
 pub use faults::{ElabFault, IllRule, LimitKind, OverrideRule, UnsafeReason};

@@ -12,8 +12,6 @@ pub mod order;
 mod qualifiers;
 pub mod ranks;
 pub mod spelling;
-#[cfg(test)]
-mod tests;
 pub mod types;
 
 pub use classes::{At, ClassRec, FuncRec, MemberRec, Safety};

@@ -5,8 +5,6 @@ pub mod addresses;
 pub mod constants;
 pub mod rows;
 pub mod strings;
-#[cfg(test)]
-mod tests;
 pub mod words;
 
 pub use addresses::{AddressOf, address};

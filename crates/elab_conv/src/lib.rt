@@ -2,8 +2,6 @@
 #![tactic(auto)]
 
 pub mod conversions;
-#[cfg(test)]
-mod tests;
 pub mod types;
 pub mod values;
 

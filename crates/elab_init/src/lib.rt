@@ -12,8 +12,6 @@ pub mod parts;
 mod scalars;
 pub mod sources;
 pub mod temporaries;
-#[cfg(test)]
-mod tests;
 pub mod types;
 
 pub use binding::{bound_temporary, conversion_of, stored_value};

@@ -8,8 +8,6 @@ pub mod names;
 pub mod offsets;
 pub mod parts;
 pub mod resolving;
-#[cfg(test)]
-mod tests;
 pub mod variables;
 
 pub use captures::{this_tree, variable};

@@ -7,8 +7,6 @@ pub mod parts;
 pub mod records;
 pub mod specifiers;
 pub mod syntax;
-#[cfg(test)]
-mod tests;
 pub mod types;
 
 pub use records::{Declared, Parameter, Qualifiers, Specifiers};

@@ -13,5 +13,3 @@ pub mod laws;
 pub mod places;
 pub mod renamed;
 pub mod symbols;
-#[cfg(test)]
-mod tests;

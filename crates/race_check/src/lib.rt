@@ -10,8 +10,6 @@ mod items;
 mod marks;
 mod regular;
 mod rows;
-#[cfg(test)]
-mod tests;
 mod walks;
 mod words;
 

@@ -9,7 +9,5 @@
 pub mod examples;
 pub mod frames;
 pub mod laws;
-#[cfg(test)]
-mod tests;
 
 pub use frames::frame_of;

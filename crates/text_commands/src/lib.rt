@@ -3,8 +3,6 @@
 
 mod assembling;
 mod disassembling;
-#[cfg(test)]
-mod tests;
 
 pub use assembling::asm;
 pub use disassembling::dis;

@@ -12,6 +12,3 @@ pub use conversions::{convert, promote, reduce, usual};
 pub use kinds::{ArithTrap, BinOp, IntKind};
 pub use operators::{apply, negate};
 pub use words::{value_of_word, word_of};
-
-#[cfg(test)]
-mod tests;

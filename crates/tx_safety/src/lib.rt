@@ -14,8 +14,6 @@ mod findings;
 pub mod laws;
 mod marks;
 pub mod safe_program;
-#[cfg(test)]
-mod tests;
 
 pub use checking::check;
 pub use fault::SafetyFault;

@@ -9,8 +9,6 @@ mod names;
 mod parser;
 mod run;
 mod terms;
-#[cfg(test)]
-mod tests;
 mod top;
 mod tree;
 
