@@ -2,6 +2,12 @@
 #![tactic(auto)]
 
 #[cfg(test)]
+mod assembling;
+#[cfg(test)]
+mod commands;
+#[cfg(test)]
 mod hosts;
+#[cfg(test)]
+mod reports;
 #[cfg(test)]
 mod rows;

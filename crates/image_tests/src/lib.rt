@@ -5,6 +5,12 @@
 #[cfg(test)]
 mod faults;
 #[cfg(test)]
+mod numbers;
+#[cfg(test)]
+mod races;
+#[cfg(test)]
 mod running;
 #[cfg(test)]
 mod texts;
+#[cfg(test)]
+mod verifying;

@@ -3,6 +3,12 @@
 #![tactic(auto)]
 
 #[cfg(test)]
+mod arena;
+#[cfg(test)]
+mod frames;
+#[cfg(test)]
 mod programs;
+#[cfg(test)]
+mod safety;
 #[cfg(test)]
 mod well_formed;
