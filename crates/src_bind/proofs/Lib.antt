@@ -1,0 +1,10 @@
+pub mod Steps
+pub mod CallWords
+pub mod Named
+pub mod Frames
+pub mod Entries
+pub mod Keys
+pub mod Looked
+pub mod Stay
+pub mod Chains
+pub mod Made
