@@ -1,0 +1,4 @@
+pub mod Choices
+pub mod Objects
+pub mod Steps
+pub mod Taken
