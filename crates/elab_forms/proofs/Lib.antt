@@ -1,4 +1,3 @@
-pub mod Choices
 pub mod Objects
 pub mod Steps
 pub mod Taken
