@@ -1,0 +1,9 @@
+use Rattle.cpp_types.specs.Typ.{typ_of}
+use Rattle.cpp_tree.specs.Arena.{trees_of}
+use Rattle.elab_ctx.specs.Ctx.{ctx_of, work_of}
+use Rattle.elab_ctx.specs.Operands.{operands_in}
+use Rattle.elab_casts.proofs.ClassMade.{class_makes}
+use Rattle.elab_casts.proofs.casts.class_made.Goals as goal
+
+pub returns : goal.returns
+returns c = class_makes (ctx_of c.args.env.now) (work_of c.args.work.now) _ c.args.at (typ_of c.args.ty.now) (typ_of c.in_ok-bare.bare) (operands_in (trees_of c.args.work.now.nodes.items) c.args.os.now) _ _ _ _ _ c.in_ok-bare.ensures c.in_ok-init.ensures c.in_ok-made.ensures

@@ -1,0 +1,47 @@
+-- Parts of rows, as functions of what they read.
+use Rattle.std.specs.Prelude.{Bool, ◌&&◌, List, [], ◌∷◌, is_some, Result, Ok, Err, if◌then◌else◌}
+use Rattle.cpp_types.specs.Typ.{Typ, void}
+use Rattle.cpp_types.specs.declared.classes.At.{At}
+use Rattle.cpp_types.specs.declared.ranks.Cat.TheVariants.{Prvalue}
+use Rattle.cpp_tree.specs.declared.faults.ElabFault.{ElabFault}
+use Rattle.cpp_tree.specs.declared.faults.ElabFault.TheVariants.{Ill}
+use Rattle.cpp_tree.specs.declared.faults.IllRule.TheVariants.{BadInit, BadThrow}
+use Rattle.cpp_tree.specs.declared.kinds.TKind.TheVariants.{Literal, Retype}
+use Rattle.tx_ints.specs.declared.kinds.IntKind.TheVariants.{ULong}
+use Rattle.cpp_tree.specs.Trees.{Tree, node, none, one, typ_in}
+use Rattle.cpp_tree.specs.Notation.{plain}
+use Rattle.cpp_tree.specs.Typing.{form_in, unqualified, is_class_typ, is_void, kind_in}
+use Rattle.elab_ctx.specs.Ctx.{Ctx, Work}
+use Rattle.elab_ctx.specs.Steps.{and_then, check, Operand, Made}
+use Rattle.elab_rules.specs.Values.{converted, number, retyped}
+use Rattle.elab_rules.specs.Initialising.{initial, from_values, with_tree}
+use Rattle.elab_rules.specs.Operators.{dropped}
+use Rattle.elab_rules.specs.Casts.{is_numeric, as_expression, is_thrown_scalar, throw_node}
+
+-- a value as one of a scalar type
+abbrev pub value_cast : Ctx → Work → At → Typ → Tree → Bool → Result Made ElabFault
+value_cast c w at t v zero = if is_numeric (form_in (typ_in v)) && is_numeric (form_in t) then Ok (record { tree = converted at t v; work = w })
+    else initial c w (unqualified t) (record { tree = v; at = at; zero = zero })
+
+-- an object of class type as an expression, from values in parentheses
+abbrev pub class_made : Ctx → Work → At → Typ → List Operand → Result Made ElabFault
+class_made c w at t os = and_then (from_values c w (unqualified t) at os) (λ (m : Made). Ok (with_tree (as_expression at (unqualified t)) m))
+
+-- `T()` of a type that is no class
+abbrev pub zero_made : Work → At → Typ → Result Made ElabFault
+zero_made w at t = if is_void t then Ok (record { tree = node Retype (plain void) Prvalue at (one (number ULong 0 at)); work = w }) else and_then (check at BadInit (is_some (kind_in (form_in t)))) (λ y. Ok (record { tree = node (Literal 0) (unqualified t) Prvalue at none; work = w }))
+
+-- `T(a, b, ..)` of any number of values but one
+abbrev pub many_made : Ctx → Work → At → Typ → List Operand → Result Made ElabFault
+many_made c w at t [] = if is_class_typ t then class_made c w at t [] else zero_made w at t
+many_made c w at t (o ∷ os) = if is_class_typ t then class_made c w at t (o ∷ os) else Err (Ill at BadInit)
+
+-- a cast to `void`
+abbrev pub void_made : Ctx → Work → At → Operand → Made
+void_made c w at o = with_tree (λ (e : Tree). retyped at (plain void) Prvalue e) (dropped c w o)
+
+-- `throw`
+
+-- a value that is thrown
+abbrev pub value_thrown : Ctx → Work → At → Tree → Result Made ElabFault
+value_thrown c w at v = and_then (check at BadThrow (is_thrown_scalar (form_in (typ_in v)))) (λ y. Ok (record { tree = throw_node c at (typ_in v) v; work = w }))

@@ -1,0 +1,11 @@
+use Rattle.cpp_types.specs.Typ.{Typ}
+use Rattle.cpp_types.specs.declared.ranks.Cat.TheVariants.{Prvalue}
+use Rattle.cpp_tree.specs.Trees.{Tree}
+use Rattle.cpp_tree.specs.Arena.{trees_of}
+use Rattle.elab_ctx.specs.Operands.{operand_in}
+use Rattle.elab_rules.specs.Operators.{as_kind, conditional_node}
+use Rattle.elab_forms.proofs.Steps.{three_of}
+use Rattle.elab_forms.proofs.conditionals.two_of_kind.Goals as goal
+
+pub returns : goal.returns
+returns c = three_of (trees_of c.args.nodes.now.items) _ _ _ c.args.test c.args.b.id _ _ _ _ _ (λ (u : Typ) (p x y : Tree). conditional_node c.args.at u Prvalue p x y) (λ (z : Tree). as_kind c.args.kind (record { tree = z; at = c.args.b.at; zero = c.args.b.zero })) (as_kind c.args.kind (operand_in (trees_of c.args.nodes.now.items) c.args.a)) c.int_type.ensures c.requires.test c.requires.right c.in_ok-x.ensures c.in_ok-y.ensures c.conditional_node.ensures

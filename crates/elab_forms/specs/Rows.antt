@@ -1,0 +1,56 @@
+-- Parts of rows, as functions of what they read.
+use Rattle.std.specs.Prelude.{Bool, ◌&&◌, ◌||◌, Option, Some, None, is_some, Result, Ok, if◌then◌else◌, ℕ}
+use Rattle.cpp_types.specs.Typ.{Typ, Form, ptr}
+use Rattle.cpp_types.specs.Equal.{form_eq}
+use Rattle.cpp_types.specs.declared.classes.At.{At}
+use Rattle.cpp_types.specs.declared.ranks.Cat.TheVariants.{Prvalue}
+use Rattle.cpp_tree.specs.declared.faults.ElabFault.{ElabFault}
+use Rattle.cpp_tree.specs.declared.faults.IllRule.TheVariants.{BadOperand}
+use Rattle.cpp_tree.specs.Trees.{Tree, kind_of, typ_in}
+use Rattle.cpp_tree.specs.Notation.{plain}
+use Rattle.cpp_tree.specs.Typing.{form_in, unqualified, is_void, kind_in}
+use Rattle.elab_ctx.specs.Ctx.{Ctx, Work}
+use Rattle.elab_ctx.specs.Steps.{and_then, check, Operand, Made}
+use Rattle.elab_rules.specs.Values.{bool_type}
+use Rattle.elab_rules.specs.Initialising.{initial, as_source}
+use Rattle.elab_rules.specs.Operators.{value, arithmetic, as_pointer, is_null, assigned, is_throw, same_lvalues, conditional_node, two_numbers, branches}
+use Rattle.elab_ops.specs.Forms.{value_initial}
+
+-- Assignments
+
+-- an operand that is no class object and is assigned another
+abbrev pub scalar_assigned : Ctx → Work → At → Operand → Operand → Result Made ElabFault
+scalar_assigned c w at a b = and_then (check at BadOperand (is_some (kind_in (form_in (typ_in a.tree))))) (λ x. and_then (initial c w (unqualified (typ_in a.tree)) b) (λ (m : Made). and_then (assigned at (kind_in (form_in (typ_in a.tree))) a m.tree) (λ (t : Tree). Ok (record { tree = t; work = m.work }))))
+
+-- an object as one of a class, where one is given
+abbrev pub as_object : At → Option ℕ → Tree → Tree
+as_object at (Some n) e = as_source at n e
+as_object at None e = e
+
+-- `? :`
+
+abbrev pub both_throw : Operand → Operand → Bool
+both_throw a b = is_throw (kind_of a.tree) && is_throw (kind_of b.tree)
+
+-- operands that stay as they are
+abbrev pub both_stay : Operand → Operand → Bool
+both_stay a b = same_lvalues a b || (is_void (typ_in a.tree) && is_void (typ_in b.tree))
+
+-- a pointer and a null pointer
+abbrev pub value_or_null : At → Tree → Typ → Operand → Operand → Result Tree ElabFault
+value_or_null at test t a b = and_then (check at BadOperand (is_null b)) (λ y. Ok (conditional_node at (plain (ptr t)) Prvalue test (value a) (as_pointer t b)))
+
+-- a null pointer and a pointer
+abbrev pub null_or_value : At → Tree → Typ → Operand → Operand → Result Tree ElabFault
+null_or_value at test t a b = and_then (check at BadOperand (is_null a)) (λ y. Ok (conditional_node at (plain (ptr t)) Prvalue test (as_pointer t a) (value b)))
+
+abbrev pub same_scalars : Form → Form → Bool
+same_scalars f g = form_eq f g && is_some (kind_in f)
+
+-- where none is a pointer
+abbrev pub two_scalars : At → Tree → Form → Form → Operand → Operand → Result Tree ElabFault
+two_scalars at test f g a b = if same_scalars f g then Ok (conditional_node at (plain f) Prvalue test (value a) (value b)) else two_numbers at test (arithmetic f) (arithmetic g) a b
+
+-- by the value of the test
+abbrev pub conditional_by : Ctx → Work → At → Operand → Operand → Operand → Result Made ElabFault
+conditional_by c w at test a b = and_then (value_initial c bool_type test) (λ (t : Tree). branches c w at t a b)

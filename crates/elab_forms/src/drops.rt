@@ -1,0 +1,129 @@
+// Values that are dropped (C++14 clause 5 p11), and `,` (5.18).
+
+ghost use Rattle.std.specs.Prelude.{◌≡◌, ◌<◌, length, IfOk};
+ghost use Rattle.cpp_types.specs.Typ.{typ_of};
+ghost use Rattle.cpp_tree.specs.Trees.{kind_of as kind_in_tree, kids_of};
+ghost use Rattle.cpp_tree.specs.Arena.{trees_of, tree_at};
+ghost use Rattle.elab_ctx.specs.Ctx.{ctx_of, work_of};
+ghost use Rattle.elab_ctx.specs.Operands.{operand_in};
+ghost use Rattle.elab_ctx.specs.Says.{Puts};
+ghost use Rattle.elab_rules.specs.Operators.{dropped, comma, is_throw, is_volatile_scalar, is_read_when_dropped};
+ghost use Rattle.elab_forms.specs.Parts.{is_one_prvalue, is_read_lvalue, is_read_by};
+
+use cpp_tree::{TKind, TNode, TNodeId, add_binary};
+use cpp_types::{At, Cat, Ty, copy};
+use elab_conv::types::kind_of;
+use elab_ctx::{Env, Operand, Work, kids_at, node_at};
+use elab_make::object_of;
+use elab_ops::value;
+use std::alloc::{AllocError, Global};
+
+/// Whether an expression throws, whatever its type says.
+pub fn is_throw(nodes: &Vec<TNode>, id: TNodeId) -> bool
+    requires { id.0 < length (trees_of nodes.now.items) }
+    ensures { result ≡ is_throw (kind_in_tree (tree_at (trees_of nodes.now.items) id)) }
+{
+    match node_at(nodes, id).kind {
+        TKind::Throw | TKind::Rethrow => true,
+        _ => false,
+    }
+}
+
+// Whether a type is one of scalars that are volatile.
+fn is_volatile_scalar(ty: &Ty) -> bool
+    ensures { result ≡ is_volatile_scalar (typ_of ty.now) }
+{
+    ty.is_volatile && kind_of(ty).is_some()
+}
+
+// Whether the only kid of a node is a prvalue.
+fn has_one_prvalue(nodes: &Vec<TNode>, id: TNodeId) -> Result<bool, AllocError>
+    requires { id.0 < length (trees_of nodes.now.items) }
+    ensures { IfOk result (λ b. b ≡ is_one_prvalue (kids_of (tree_at (trees_of nodes.now.items) id))) }
+{
+    let kids = kids_at(nodes, id)?;
+    if kids.len() != 1 {
+        return Ok(false);
+    }
+    match node_at(nodes, kids[0]).cat {
+        Cat::Prvalue => Ok(true),
+        Cat::Lvalue => Ok(false),
+    }
+}
+
+// Whether an lvalue is written as a name, a member access, a subscript or an indirection.
+fn is_read_lvalue(nodes: &Vec<TNode>, kind: TKind, id: TNodeId) -> Result<bool, AllocError>
+    requires { id.0 < length (trees_of nodes.now.items) }
+    ensures { IfOk result (λ b. b ≡ is_read_lvalue kind (kids_of (tree_at (trees_of nodes.now.items) id))) }
+{
+    match kind {
+        TKind::Local { .. } | TKind::Global { .. } | TKind::Load { .. } | TKind::Binary { .. } => {
+            Ok(true)
+        }
+        TKind::Retype => has_one_prvalue(nodes, id),
+        _ => Ok(false),
+    }
+}
+
+// Whether an expression of a kind and a category is read where its value is dropped.
+fn is_read_by(nodes: &Vec<TNode>, kind: TKind, cat: Cat, id: TNodeId) -> Result<bool, AllocError>
+    requires { id.0 < length (trees_of nodes.now.items) }
+    ensures { IfOk result (λ b. b ≡ is_read_by kind cat (kids_of (tree_at (trees_of nodes.now.items) id))) }
+{
+    match cat {
+        Cat::Prvalue => Ok(false),
+        Cat::Lvalue => is_read_lvalue(nodes, kind, id),
+    }
+}
+
+// Whether an expression is read where its value is dropped.
+fn is_read_when_dropped(nodes: &Vec<TNode>, id: TNodeId) -> Result<bool, AllocError>
+    requires { id.0 < length (trees_of nodes.now.items) }
+    ensures { IfOk result (λ b. b ≡ is_read_when_dropped (tree_at (trees_of nodes.now.items) id)) }
+{
+    let node = node_at(nodes, id);
+    is_read_by(nodes, node.kind, node.cat, id)
+}
+
+/// An expression whose value is dropped: a volatile scalar that is named is read, and a class prvalue is made.
+pub fn dropped(alloc: Global, env: &Env, work: &mut Work, o: Operand) -> Result<TNodeId, AllocError>
+    requires { o.id.0 < length (trees_of work.old.nodes.items) }
+    ensures { IfOk result (λ r. Puts (trees_of work.old.nodes.items) (trees_of work.new.nodes.items) (work_of work.new) r (dropped (ctx_of env.now) (work_of work.old) (operand_in (trees_of work.old.nodes.items) o))) }
+{
+    if is_throw(&work.nodes, o.id) {
+        return Ok(o.id);
+    }
+    let is_read = is_read_when_dropped(&work.nodes, o.id)?;
+    if is_volatile_scalar(&node_at(&work.nodes, o.id).ty) && is_read {
+        return value(alloc, &mut work.nodes, o);
+    }
+    object_of(alloc, env, work, o.at, o.id)
+}
+
+/// `,`
+pub fn comma(
+    alloc: Global,
+    env: &Env,
+    work: &mut Work,
+    at: At,
+    a: Operand,
+    b: Operand,
+) -> Result<TNodeId, AllocError>
+    requires left { a.id.0 < length (trees_of work.old.nodes.items) }
+    requires right { b.id.0 < length (trees_of work.old.nodes.items) }
+    ensures { IfOk result (λ r. Puts (trees_of work.old.nodes.items) (trees_of work.new.nodes.items) (work_of work.new) r (comma (ctx_of env.now) (work_of work.old) at (operand_in (trees_of work.old.nodes.items) a) (operand_in (trees_of work.old.nodes.items) b))) }
+{
+    let cat = node_at(&work.nodes, b.id).cat;
+    let ty = copy(alloc, &node_at(&work.nodes, b.id).ty)?;
+    let first = dropped(alloc, env, work, a)?;
+    add_binary(
+        alloc,
+        &mut work.nodes,
+        TKind::Comma,
+        ty,
+        cat,
+        at,
+        first,
+        b.id,
+    )
+}

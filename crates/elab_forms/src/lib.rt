@@ -1,0 +1,10 @@
+//! Assignments, `? :`, `,` and dropped values as typed nodes, from operands that are typed.
+#![tactic(auto)]
+
+pub mod assignments;
+pub mod conditionals;
+pub mod drops;
+
+pub use assignments::assignment;
+pub use conditionals::conditional;
+pub use drops::{comma, dropped};

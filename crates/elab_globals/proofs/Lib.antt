@@ -1,0 +1,3 @@
+pub mod CellLists
+pub mod Dropped
+pub mod Lengths
