@@ -1,1 +1,5 @@
+pub mod Aggregated
+pub mod Making
 pub mod NoneFound
+pub mod Relocation
+pub mod StringParts

@@ -1,0 +1,11 @@
+use Rattle.std.proofs.Common.{drop, map}
+use Rattle.cpp_types.specs.Class.{member_of}
+use Rattle.cpp_types.specs.Typ.{typ_of}
+use Rattle.cpp_tree.specs.Arena.{trees_of, tree_at}
+use Rattle.elab_ctx.specs.Ctx.{ctx_of, work_of}
+use Rattle.elab_rules.specs.Braces.{rest_members}
+use Rattle.elab_aggregates.proofs.Making.{Making}
+use Rattle.elab_aggregates.proofs.rest.members_from.Given as goal
+
+abbrev pub invariant-loop-index : goal.invariant-loop-index
+invariant-loop-index l = Making (trees_of l.fn.work.nodes.items) (trees_of l.work.nodes.items) l.list.items (rest_members (ctx_of l.env) (work_of l.work) l.at (tree_at (trees_of l.fn.work.nodes.items) l.object) (typ_of l.whole) l.class l.index (map member_of (drop l.index l.members))) (rest_members (ctx_of l.env) (work_of l.fn.work) l.at (tree_at (trees_of l.fn.work.nodes.items) l.object) (typ_of l.whole) l.class l.from (map member_of (drop l.from l.members)))

@@ -1,0 +1,3 @@
+pub mod MemberPieces
+pub mod Relocated
+pub mod StringForms
