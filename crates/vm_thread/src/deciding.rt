@@ -44,8 +44,8 @@ fn load(frames: &FrameStack, kind: u8, volatile: bool) -> Plain
                 volatile,
             },
             taken: 1,
-                given: Given::Loaded(kind),
-                index: frames.top.index + 1,
+            given: Given::Loaded(kind),
+            index: frames.top.index + 1,
         },
     }
 }
@@ -68,8 +68,8 @@ fn store(frames: &FrameStack, kind: u8, volatile: bool) -> Plain
                 volatile,
             },
             taken: 2,
-                given: Given::Nothing,
-                index: frames.top.index + 1,
+            given: Given::Nothing,
+            index: frames.top.index + 1,
         },
     }
 }
@@ -82,8 +82,8 @@ fn leave_word(frames: &FrameStack, taken: u8, word: u64) -> Plain
     Plain::Operates {
         event: Event::Silent,
         taken,
-            given: Given::Word(word),
-            index: frames.top.index + 1,
+        given: Given::Word(word),
+        index: frames.top.index + 1,
     }
 }
 
@@ -225,8 +225,8 @@ fn pop(frames: &FrameStack) -> Plain
         Some(_) => Plain::Operates {
             event: Event::Silent,
             taken: 1,
-                given: Given::Nothing,
-                index: frames.top.index + 1,
+            given: Given::Nothing,
+            index: frames.top.index + 1,
         },
     }
 }
@@ -254,8 +254,8 @@ fn jump(frames: &FrameStack, target: u32) -> Plain
     Plain::Operates {
         event: Event::Silent,
         taken: 0,
-            given: Given::Nothing,
-            index: target as usize,
+        given: Given::Nothing,
+        index: target as usize,
     }
 }
 
@@ -269,11 +269,11 @@ fn jump_zero(frames: &FrameStack, target: u32) -> Plain
         Some(word) => Plain::Operates {
             event: Event::Silent,
             taken: 1,
-                given: Given::Nothing,
-                index: if word == 0 {
-                    target as usize
-                } else {
-                    frames.top.index + 1
+            given: Given::Nothing,
+            index: if word == 0 {
+                target as usize
+            } else {
+                frames.top.index + 1
             },
         },
     }
@@ -291,8 +291,8 @@ fn out(frames: &FrameStack) -> Plain
                 byte: (word % 256) as u8,
             },
             taken: 1,
-                given: Given::Word(word % 256),
-                index: frames.top.index + 1,
+            given: Given::Word(word % 256),
+            index: frames.top.index + 1,
         },
     }
 }
