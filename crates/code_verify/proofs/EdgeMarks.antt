@@ -41,13 +41,13 @@ ranged len from to end n i b l p q f g = ap (λ z. b || z) (elim (cases_lt i fro
   | inl low ↦ ap (λ z. z && nat_lt i n) (lt-leb from i low) ∙ sym (ap (λ z. z && nat_lt i to) (lt-leb from i low))
   | inr high ↦ ap (λ z. nat_le from i && z) (elim (cases_lt i to) [
     | inl below ↦ lt-ltb i n (elim (cases_lt to len) [
-        | inl s ↦ let e : end ≡ to = p s in let k : n ≡ end = f (omega (arith, high, below, e)) in omega (arith, k, e, below)
-        | inr t ↦ let e : end ≡ len = q t in let k : n ≡ end = f (omega (arith, high, l, e)) in omega (arith, k, e, l)
-      ]) ∙ sym (lt-ltb i to below)
+      | inl s ↦ let e : end ≡ to = p s in let k : n ≡ end = f (omega (arith, high, below, e)) in omega (arith, k, e, below)
+      | inr t ↦ let e : end ≡ len = q t in let k : n ≡ end = f (omega (arith, high, l, e)) in omega (arith, k, e, l)
+    ]) ∙ sym (lt-ltb i to below)
     | inr past ↦ le-ltb i n (elim (cases_lt from end) [
-        | inl s ↦ let k : n ≡ end = f s in elim (cases_lt to len) [ inl t ↦ let e : end ≡ to = p t in omega (arith, k, e, past) | inr t ↦ absurd (omega (arith, t, past, l)) ]
-        | inr t ↦ let k : n ≡ from = g t in omega (arith, k, high)
-      ]) ∙ sym (le-ltb i to past)
+      | inl s ↦ let k : n ≡ end = f s in elim (cases_lt to len) [ inl t ↦ let e : end ≡ to = p t in omega (arith, k, e, past) | inr t ↦ absurd (omega (arith, t, past, l)) ]
+      | inr t ↦ let k : n ≡ from = g t in omega (arith, k, high)
+    ]) ∙ sym (le-ltb i to past)
   ])
 ])
 

@@ -6,5 +6,5 @@ use Rattle.code_verify.proofs.edges.covered_by_edges.Given as goal
 abbrev pub invariant-loop-row : goal.invariant-loop-row
 invariant-loop-row l = record {
   len : length l.covered.items ≡ l.count;
-  is : (i : ℕ) → i < l.count → (slice_index_or l.covered.items i false || has_edge (drop l.row-index l.rows) i) ≡ has_edge l.rows i
+  is : (i : ℕ) → i < l.count → (slice_index_or l.covered.items i false || has_edge (drop l.row-index l.rows) i) ≡ has_edge l.rows i;
 }
