@@ -1,14 +1,15 @@
 //! The fault that is named: the lowest index of the lowest function, and there the lowest clause.
-ghost use Rattle.std.specs.Prelude.{◌≡◌, true, length, map, None, IfOk};
+ghost use Rattle.std.specs.Prelude.{◌≡◌, ◌<◌, ℕ, true, false, length, map, None, IfOk, slice_index_or};
 ghost use Rattle.std.specs.List.{list_all};
 ghost use Rattle.tx_code.specs.Images.{image_func_view};
-ghost use Rattle.tx_code.specs.Sound.{table_of};
+ghost use Rattle.tx_code.specs.Sound.{table_of, has_edge};
 ghost use Rattle.tx_code.specs.Views.{image_view};
 ghost use Rattle.tx_code.specs.Signatures.{takes_of, gives_of};
 ghost use Rattle.code_walk.specs.Slots.{slot_of, slot_fits, table_in, signature_in, view_in};
 ghost use Rattle.code_verify.specs.Faults as spec;
 
 use crate::clauses::frame_right;
+use crate::edges::covered_by_edges;
 use crate::rules::{index_rule, row_rule};
 use code_walk::nests::Nests;
 use code_walk::walk::{Judged, Slot, walk};
@@ -78,14 +79,21 @@ fn first_of_rows(judged: Judged, nests: &Nests, slots: &[Slot]) -> Option<Fault>
     first
 }
 
-// The first fault of the indexes.
-fn first_of_indexes(judged: Judged, nests: &Nests, slots: &[Slot]) -> Option<Fault>
+// The first fault of the indexes, by which of them edge rows cover.
+fn first_of_indexes(
+    judged: Judged,
+    nests: &Nests,
+    slots: &[Slot],
+    covered: &[bool],
+) -> Option<Fault>
     requires fit { list_all (slot_fits nests.now) slots.now ≡ true }
     requires count { length slots.now ≡ length judged.body.now.code.items }
+    requires all { length covered.now ≡ length judged.body.now.code.items }
+    requires covered { (i : ℕ) → i < length judged.body.now.code.items → slice_index_or covered.now i false ≡ has_edge judged.body.now.rows.items i }
     ensures { result ≡ spec.first_of_indexes (table_in judged.entry) judged.entry.gives judged.entry.safe (view_in judged.entry) (map (slot_of nests.now) slots.now) 0 judged.entry.body.now.code.items }
 {
     for (index, instr) in judged.body.code.iter().enumerate() {
-        match index_rule(judged, nests, index, *instr, slots[index]) {
+        match index_rule(judged, nests, covered[index], index, *instr, slots[index]) {
             None => {}
             Some(rule) => return Some(Fault { index, rule }),
         }
@@ -101,7 +109,8 @@ fn body_fault(alloc: Global, judged: Judged) -> Result<Option<Fault>, AllocError
         return Ok(Some(Fault { index: 0, rule: 1 }));
     }
     let walked = walk(alloc, judged)?;
-    let by_index = first_of_indexes(judged, &walked.nests, &walked.slots);
+    let covered = covered_by_edges(alloc, &judged.body.rows, judged.body.code.len())?;
+    let by_index = first_of_indexes(judged, &walked.nests, &walked.slots, &covered);
     let by_row = first_of_rows(judged, &walked.nests, &walked.slots);
     Ok(earlier(by_index, by_row))
 }

@@ -5,6 +5,7 @@
 #![tactic(auto)]
 
 pub mod clauses;
+mod edges;
 pub mod faults;
 pub mod rules;
 pub mod verified;

@@ -1,9 +1,10 @@
 //! The clauses of sound code that need an index's shape or the image's names, and the lowest that an index or a row
 //! breaks.
-ghost use Rattle.std.specs.Prelude.{◌≡◌, ◌<◌, ◌≤◌, ◌-◌, ◌+◌, ◌^◌, true, length, map};
+ghost use Rattle.std.specs.Prelude.{◌≡◌, ◌<◌, ◌≤◌, ◌-◌, ◌+◌, ◌^◌, ◌&&◌, ◌||◌, ℕ, true, length, map};
 ghost use Rattle.std.specs.List.{list_all};
 ghost use Rattle.tx_code.specs.Sound as sound;
-ghost use Rattle.tx_code.specs.Sound.{table_of};
+ghost use Rattle.tx_code.specs.Sound.{table_of, has_edge};
+ghost use Rattle.tx_events.specs.Thread.{is_empty};
 ghost use Rattle.tx_code.specs.Views.{image_view};
 ghost use Rattle.code_walk.specs.Nests.{nest};
 ghost use Rattle.code_walk.specs.ShapeViews.{shape_of, fits};
@@ -18,7 +19,6 @@ use code_walk::names::{
     has_safe, is_class, is_func, is_global, is_slot, is_type, takes, type_takes,
 };
 use code_walk::nests::Nests;
-use code_walk::rows::covers;
 use code_walk::shapes::{Shape, finds};
 use code_walk::walk::{Judged, Slot};
 use tx_code::{Image, Instr, Row};
@@ -125,18 +125,6 @@ fn edge_right(nests: &Nests, what: u8, shape: Shape) -> bool
     }
 }
 
-// An edge row covers the index.
-fn has_edge(rows: &[Row], index: usize) -> bool
-    ensures { result ≡ sound.has_edge rows.now index }
-{
-    for row in rows {
-        if is_edge(*row) && covers(*row, index) {
-            return true;
-        }
-    }
-    false
-}
-
 // What is left where a call has taken its words.
 #[tactic(auto, using(code_walk::proofs::Depths::less_some, code_walk::proofs::Depths::less_none))]
 fn kept(words: usize, depth: usize) -> usize
@@ -181,16 +169,24 @@ fn alone_rule(image: &Image, instrs: usize, index: usize, instr: Instr) -> Optio
     None
 }
 
-// The lowest of the clauses 5 to 10 that an instruction of this shape breaks.
+// 10: blocks are closed by their own ends, and an open one has an edge row.
+fn blocks_right(nests: &Nests, covered: bool, instr: Instr, shape: Shape) -> bool
+    requires { fits nests.now shape ≡ true }
+    ensures { result ≡ (sound.closes_right instr (shape_of nests.now shape) && (is_empty (nest nests.now shape.nest) || covered)) }
+{
+    closes_right(nests, instr, shape) && (nests.is_empty(shape.nest) || covered)
+}
+
+// The lowest of the clauses 5 to 10 that an instruction of this shape breaks, where edge rows cover its index or not.
 fn shape_rule(
     judged: Judged,
     nests: &Nests,
-    index: usize,
+    covered: bool,
     instr: Instr,
     shape: Shape,
 ) -> Option<u32>
     requires { fits nests.now shape ≡ true }
-    ensures { result ≡ first_broken 5 (shape_right (table_in judged.entry) judged.entry.gives judged.entry.safe judged.entry.body.now.rows.items index instr (shape_of nests.now shape)) }
+    ensures { (index : ℕ) → covered ≡ has_edge judged.entry.body.now.rows.items index → result ≡ first_broken 5 (shape_right (table_in judged.entry) judged.entry.gives judged.entry.safe judged.entry.body.now.rows.items index instr (shape_of nests.now shape)) }
 {
     if !finds(judged.image, judged.gives, nests, instr, shape) {
         return Some(5);
@@ -208,24 +204,24 @@ fn shape_rule(
     if !inside && !outside_right(instr) {
         return Some(9);
     }
-    if !(closes_right(nests, instr, shape)
-        && (nests.is_empty(shape.nest) || has_edge(&judged.body.rows, index)))
-    {
+    if !blocks_right(nests, covered, instr, shape) {
         return Some(10);
     }
     None
 }
 
-// The lowest clause that an index breaks itself.
+/// The lowest clause that an index breaks itself, which edge rows cover or not.
 pub fn index_rule(
     judged: Judged,
     nests: &Nests,
+    covered: bool,
     index: usize,
     instr: Instr,
     slot: Slot,
 ) -> Option<u32>
     requires fit { slot_fits nests.now slot ≡ true }
     requires index { index + 1 < 2 ^ 64 }
+    requires covered { covered ≡ has_edge judged.body.now.rows.items index }
     ensures { result ≡ index_rule (table_in judged.entry) judged.entry.gives judged.entry.safe (view_in judged.entry) index instr (slot_of nests.now slot) }
 {
     if let Some(rule) = alone_rule(judged.image, judged.body.code.len(), index, instr) {
@@ -236,7 +232,7 @@ pub fn index_rule(
     }
     match slot.shape {
         None => None,
-        Some(shape) => shape_rule(judged, nests, index, instr, shape),
+        Some(shape) => shape_rule(judged, nests, covered, instr, shape),
     }
 }
 
@@ -273,6 +269,9 @@ fn edges_hold(nests: &Nests, slots: &[Slot], row: Row) -> bool
     requires within { row.to ≤ length slots.now }
     ensures { result ≡ holds_over (edge_test row) (map (slot_of nests.now) slots.now) row.from (row.to - row.from) }
 {
+    if !is_edge(row) {
+        return true;
+    }
     for index in row.from as usize..row.to as usize {
         if !edge_holds(nests, row, slots[index]) {
             return false;
@@ -299,6 +298,9 @@ fn depths_hold(nests: &Nests, code: &[Instr], slots: &[Slot], row: Row) -> bool
     requires { row.to ≤ length slots.now }
     ensures { result ≡ holds_over (depth_test code.now row) (map (slot_of nests.now) slots.now) row.from (row.to - row.from) }
 {
+    if row.depth == 0 {
+        return true;
+    }
     for index in row.from as usize..row.to as usize {
         if !depth_holds(nests, code, row, index, slots[index]) {
             return false;

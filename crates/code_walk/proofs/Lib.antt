@@ -8,3 +8,6 @@ pub mod Depths
 pub mod Suffixes
 pub mod Tails
 pub mod SlotNotes
+pub mod LeastIndex
+pub mod RowNotes
+pub mod WaitingIndexes

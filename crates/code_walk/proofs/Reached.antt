@@ -75,7 +75,7 @@ hand_itself Flies = refl
 alike : (d e : ℕ) (o p : List Open) (n m : ℕ) (h k : Hand) → d ≡ e → o ≡ p → n ≡ m → h ≡ k → Path Shape (record { depth = d; opens = o; handlers = n; hand = h }) (record { depth = e; opens = p; handlers = m; hand = k })
 alike d e o p n m h k a b c f = cc (a, b, c, f)
 
-shape_yes : (s t : Shape) → same_shape s t ≡ true → s ≡ t
+pub shape_yes : (s t : Shape) → same_shape s t ≡ true → s ≡ t
 shape_yes s t h =
     let front = and_left (nat_eq s.depth t.depth && same_opens s.opens t.opens && nat_eq s.handlers t.handlers) (same_hand s.hand t.hand) h in
     let two = and_left (nat_eq s.depth t.depth && same_opens s.opens t.opens) (nat_eq s.handlers t.handlers) front in
@@ -85,7 +85,7 @@ shape_yes s t h =
     (eqb-true s.handlers t.handlers (and_right (nat_eq s.depth t.depth && same_opens s.opens t.opens) (nat_eq s.handlers t.handlers) front))
     (hand_yes s.hand t.hand (and_right (nat_eq s.depth t.depth && same_opens s.opens t.opens && nat_eq s.handlers t.handlers) (same_hand s.hand t.hand) h))
 
-shape_itself : (s : Shape) → same_shape s s ≡ true
+pub shape_itself : (s : Shape) → same_shape s s ≡ true
 shape_itself s = both _ _ (both _ _ (both _ _ (eq-eqb s.depth s.depth refl) (opens_itself s.opens)) (eq-eqb s.handlers s.handlers refl)) (hand_itself s.hand)
 
 pub tests : (x : Table) (g : Signature) (b : BodyView) → Tests (space x g b)

@@ -157,7 +157,7 @@ module _ (x : Table) (g : Signature) (b : BodyView) (old : List (List Open)) (a 
   at_index : slot_at M i ≡ slot_of old d
   at_index = get_map (slot_of old) a i d bare h ∙ ap (slot_of old) (sym e)
 
-  mark_is : map (slot_of old) (set a i (record { shape = d.shape; looked = true; clash = d.clash })) ≡ set M i (seen_slot (slot_at M i))
+  pub mark_is : map (slot_of old) (set a i (record { shape = d.shape; looked = true; clash = d.clash })) ≡ set M i (seen_slot (slot_at M i))
   mark_is = map_set (slot_of old) a i _ ∙ ap (λ z. set M i (seen_slot z)) (sym at_index)
 
   pub mark_fit : list_all (slot_fits old) a ≡ true → list_all (slot_fits old) (set a i (record { shape = d.shape; looked = true; clash = d.clash })) ≡ true
@@ -193,11 +193,17 @@ length_bares : (n : ℕ) (s : Slot) → length (replicate n s) ≡ n
 length_bares zero s = refl
 length_bares (suc n) s = ap suc (length_bares n s)
 
-pub start_slots : (x : Table) (g : Signature) (b : BodyView) (v : Slot) → slot_of ([] ∷ []) v ≡ slot (Some (entry g)) false false → map (slot_of ([] ∷ [])) (set (replicate (length b.code) (record { shape = None; looked = false; clash = false })) 0 v) ≡ start (space x g b)
-start_slots x g b v e = map_set (slot_of ([] ∷ [])) _ 0 v ∙ ap (λ z. set z 0 (slot_of ([] ∷ []) v)) (bares_are ([] ∷ []) (length b.code)) ∙ ap (set (replicate (length b.code) bare) 0) e
+pub slots_bare : (table : List (List Open)) (n : ℕ) (a : List Slot) → a ≡ replicate n (record { shape = None; looked = false; clash = false }) → list_all (slot_fits table) a ≡ true
+slots_bare table n a e = ap (list_all (slot_fits table)) e ∙ bares_fit table n
 
-pub start_fit : (n : ℕ) (v : Slot) → slot_fits ([] ∷ []) v ≡ true → list_all (slot_fits ([] ∷ [])) (set (replicate n (record { shape = None; looked = false; clash = false })) 0 v) ≡ true
-start_fit n v e = all_set (slot_fits ([] ∷ [])) _ 0 v (bares_fit ([] ∷ []) n) e
+-- the first index is given the entry's shape
+module _ (x : Table) (g : Signature) (b : BodyView) (t : List (List Open)) (a c : List Slot) (e : a ≡ replicate (length b.code) (record { shape = None; looked = false; clash = false })) (n : Notes t a c (given 0 (entry g) ∷ [])) where
+  first_noted : (k : ℕ) → 0 < k → note tested (replicate k bare) (given 0 (entry g)) ≡ set (replicate k bare) 0 (slot (Some (entry g)) false false)
+  first_noted zero h = absurd (omega (arith, h))
+  first_noted (suc k) h = ap (λ z. if z then set (replicate (suc k) bare) 0 (slot (Some (entry g)) false false) else replicate (suc k) bare) (lt-ltb 0 (length (replicate (suc k) (bare {S = shapes.Shape}))) (omega arith))
 
-pub start_count : (n : ℕ) (v : Slot) → length (set (replicate n (record { shape = None; looked = false; clash = false })) 0 v) ≡ n
-start_count n v = length_set (replicate n (record { shape = None; looked = false; clash = false })) 0 v ∙ length_bares n _
+  pub start_slots : 0 < length b.code → map (slot_of t) c ≡ start (space x g b)
+  start_slots h = n.slots ∙ ap (λ z. note tested (map (slot_of t) z) (given 0 (entry g))) e ∙ ap (λ z. note tested z (given 0 (entry g))) (bares_are t (length b.code)) ∙ first_noted (length b.code) h
+
+  pub start_count : length c ≡ length b.code
+  start_count = n.count ∙ ap length e ∙ length_bares (length b.code) _

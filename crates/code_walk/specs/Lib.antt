@@ -5,3 +5,5 @@ pub mod Nests
 pub mod ShapeViews
 pub mod Slots
 pub mod Spellings
+pub mod Waiting
+pub mod RowTrees

@@ -2,3 +2,4 @@ pub mod Lookups
 pub mod Modes
 pub mod Threads
 pub mod ThreadLaws
+pub mod Plain
