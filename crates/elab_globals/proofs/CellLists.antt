@@ -20,7 +20,7 @@ use Rattle.elab_ctx.specs.Ctx.{Ctx, Work}
 use Rattle.elab_ctx.specs.Says.{Faults, place_in}
 use Rattle.elab_ctx.specs.Steps.{and_then}
 use Rattle.elab_ctx.proofs.Making.{faults_in, faults_same}
-use Rattle.elab_globals.proofs.Dropped.{drop_past, drop_step}
+use Rattle.elab_sizes.proofs.Dropped.{drop_past, drop_step}
 use Rattle.elab_rules.specs.Globals.{cells_of, cells_of_all, moved_cells, repeated_cells}
 use Rattle.elab_globals.specs.Cells.{cells_by, stored_cells}
 

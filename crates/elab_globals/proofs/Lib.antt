@@ -1,3 +1,1 @@
 pub mod CellLists
-pub mod Dropped
-pub mod Lengths

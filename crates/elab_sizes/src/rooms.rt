@@ -1,23 +1,19 @@
-// How long the spellings of types are, counted without writing them: none is longer than 1,048,576 bytes (profile).
+// How much of a number of bytes is left behind the spelling of a type, counted without writing it.
 
 ghost use Rattle.std.specs.Prelude.{◌≡◌, ◌<◌, ◌+◌, length, map, slice_get, MatchOption};
 ghost use Rattle.cpp_types.specs.Typ.{typ_of, typs_of, shape_form, signature_of};
 ghost use Rattle.cpp_types.specs.Class.{classes_of, class_of, function_of};
-ghost use Rattle.elab_ctx.specs.Ctx.{ctx_of};
-ghost use Rattle.elab_ctx.specs.Says.{Tells};
-ghost use Rattle.elab_rules.specs.Sizes.{if_set, digit_count, marks_length, place_length, closure_length, typ_length, form_length, pointer_length, signature_length, typs_length, typ_sized};
 ghost use Rattle.cpp_types.specs.Spelling.{kind_spelling, name_of};
+ghost use Rattle.elab_rules.specs.Sizes.{if_set, digit_count, marks_length, place_length, closure_length, typ_length, form_length, pointer_length, signature_length, typs_length, owner_length, parameters_length};
 
-use cpp_tree::{ElabFault, LimitKind};
-use cpp_types::{At, ClassRec, FnTy, FuncRec, Shape, Ty};
-use elab_ctx::Env;
+use cpp_types::{ClassRec, FnTy, FuncRec, Shape, Ty};
 use tx_ints::IntKind;
 
-// The longest spelling, in bytes.
-const LONGEST: u32 = 1_048_576;
+/// The longest spelling, in bytes.
+pub const LONGEST: u32 = 1_048_576;
 
-// The room that is left behind so many bytes.
-fn left(room: u32, bytes: usize) -> Option<u32>
+/// The room that is left behind so many bytes.
+pub fn left(room: u32, bytes: usize) -> Option<u32>
     ensures { MatchOption result (room < bytes) (λ r. r + bytes ≡ room) }
 {
     if bytes <= room as usize {
@@ -27,14 +23,14 @@ fn left(room: u32, bytes: usize) -> Option<u32>
     }
 }
 
-fn if_set(flag: bool, bytes: usize) -> usize
+pub fn if_set(flag: bool, bytes: usize) -> usize
     ensures { result ≡ if_set flag bytes }
 {
     if flag { bytes } else { 0 }
 }
 
-// The decimal digits of a number.
-fn digit_count(number: u32) -> usize
+/// The decimal digits of a number.
+pub fn digit_count(number: u32) -> usize
     ensures { result ≡ digit_count number }
 {
     if number < 10 {
@@ -54,8 +50,8 @@ fn digit_count(number: u32) -> usize
     }
 }
 
-// The bytes of `const ` and `volatile `.
-fn marks_length(is_const: bool, is_volatile: bool) -> usize
+/// The bytes of `const ` and `volatile `.
+pub fn marks_length(is_const: bool, is_volatile: bool) -> usize
     ensures { result ≡ marks_length is_const is_volatile }
 {
     match (is_const, is_volatile) {
@@ -66,8 +62,8 @@ fn marks_length(is_const: bool, is_volatile: bool) -> usize
     }
 }
 
-// The bytes of the name of a kind.
-fn kind_length(kind: IntKind) -> usize
+/// The bytes of the name of a kind.
+pub fn kind_length(kind: IntKind) -> usize
     ensures { result ≡ length (kind_spelling kind) }
 {
     match kind {
@@ -84,8 +80,8 @@ fn kind_length(kind: IntKind) -> usize
     }
 }
 
-// The bytes of the place of a lambda, which its first function has.
-fn place_length(functions: &[FuncRec]) -> usize
+/// The bytes of the place of a lambda, which its first function has.
+pub fn place_length(functions: &[FuncRec]) -> usize
     ensures { result ≡ place_length (map function_of functions.now) }
 {
     match functions.first() {
@@ -94,8 +90,8 @@ fn place_length(functions: &[FuncRec]) -> usize
     }
 }
 
-// The bytes of the name of a class.
-fn class_length(class: u32, classes: &[ClassRec]) -> usize
+/// The bytes of the name of a class.
+pub fn class_length(class: u32, classes: &[ClassRec]) -> usize
     ensures { result ≡ length (name_of (slice_get (classes_of classes.now) class)) }
 {
     match classes.get(class as usize) {
@@ -104,8 +100,8 @@ fn class_length(class: u32, classes: &[ClassRec]) -> usize
     }
 }
 
-// The bytes of the place of a lambda's class.
-fn closure_length(class: u32, classes: &[ClassRec]) -> usize
+/// The bytes of the place of a lambda's class.
+pub fn closure_length(class: u32, classes: &[ClassRec]) -> usize
     ensures { result ≡ closure_length (slice_get (classes_of classes.now) class) }
 {
     match classes.get(class as usize) {
@@ -114,9 +110,9 @@ fn closure_length(class: u32, classes: &[ClassRec]) -> usize
     }
 }
 
-// The room behind a type.
+/// The room behind a type.
 #[cycle(room)]
-fn type_room(room: u32, ty: &Ty, classes: &[ClassRec]) -> Option<u32>
+pub fn type_room(room: u32, ty: &Ty, classes: &[ClassRec]) -> Option<u32>
     ensures { MatchOption result (room < typ_length (classes_of classes.now) (typ_of ty.now)) (λ r. r + typ_length (classes_of classes.now) (typ_of ty.now) ≡ room) }
 {
     let room = left(room, marks_length(ty.is_const, ty.is_volatile))?;
@@ -124,7 +120,7 @@ fn type_room(room: u32, ty: &Ty, classes: &[ClassRec]) -> Option<u32>
 }
 
 #[cycle(room)]
-fn shape_room(room: u32, shape: &Shape, classes: &[ClassRec]) -> Option<u32>
+pub fn shape_room(room: u32, shape: &Shape, classes: &[ClassRec]) -> Option<u32>
     ensures { MatchOption result (room < form_length (classes_of classes.now) (shape_form shape.now)) (λ r. r + form_length (classes_of classes.now) (shape_form shape.now) ≡ room) }
 {
     match shape {
@@ -154,27 +150,27 @@ fn shape_room(room: u32, shape: &Shape, classes: &[ClassRec]) -> Option<u32>
     }
 }
 
-// The room behind a pointer to a function, which has the star in parentheses.
+/// The room behind a pointer to a function, which has the star in parentheses.
 #[cycle(room)]
-fn function_pointer_room(room: u32, function: &FnTy, classes: &[ClassRec]) -> Option<u32>
+pub fn function_pointer_room(room: u32, function: &FnTy, classes: &[ClassRec]) -> Option<u32>
     ensures { MatchOption result (room < 3 + signature_length (classes_of classes.now) (signature_of function.now)) (λ r. r + (3 + signature_length (classes_of classes.now) (signature_of function.now)) ≡ room) }
 {
     let room = left(room, 3)?;
     function_room(room, function, classes)
 }
 
-// The room behind any other pointer.
+/// The room behind any other pointer.
 #[cycle(room)]
-fn plain_pointer_room(room: u32, target: &Ty, classes: &[ClassRec]) -> Option<u32>
+pub fn plain_pointer_room(room: u32, target: &Ty, classes: &[ClassRec]) -> Option<u32>
     ensures { MatchOption result (room < 1 + typ_length (classes_of classes.now) (typ_of target.now)) (λ r. r + (1 + typ_length (classes_of classes.now) (typ_of target.now)) ≡ room) }
 {
     let room = left(room, 1)?;
     type_room(room, target, classes)
 }
 
-// The room behind a pointer.
+/// The room behind a pointer.
 #[cycle(room)]
-fn pointer_room(room: u32, target: &Ty, classes: &[ClassRec]) -> Option<u32>
+pub fn pointer_room(room: u32, target: &Ty, classes: &[ClassRec]) -> Option<u32>
     ensures { MatchOption result (room < pointer_length (classes_of classes.now) (typ_of target.now)) (λ r. r + pointer_length (classes_of classes.now) (typ_of target.now) ≡ room) }
 {
     match &target.shape {
@@ -183,10 +179,10 @@ fn pointer_room(room: u32, target: &Ty, classes: &[ClassRec]) -> Option<u32>
     }
 }
 
-// The room behind a function's type.
+/// The room behind a function's type.
 #[cycle(room)]
 #[tactic(auto, using(cpp_types::proofs::Views::signature_view))]
-fn function_room(room: u32, function: &FnTy, classes: &[ClassRec]) -> Option<u32>
+pub fn function_room(room: u32, function: &FnTy, classes: &[ClassRec]) -> Option<u32>
     ensures { MatchOption result (room < signature_length (classes_of classes.now) (signature_of function.now)) (λ r. r + signature_length (classes_of classes.now) (signature_of function.now) ≡ room) }
 {
     let room = type_room(room, &function.ret, classes)?;
@@ -195,9 +191,9 @@ fn function_room(room: u32, function: &FnTy, classes: &[ClassRec]) -> Option<u32
     left(room, if_set(function.safe, 17))
 }
 
-// The room behind types with commas between them.
+/// The room behind types with commas between them.
 #[cycle(room)]
-fn list_room(room: u32, types: &[Ty], classes: &[ClassRec]) -> Option<u32>
+pub fn list_room(room: u32, types: &[Ty], classes: &[ClassRec]) -> Option<u32>
     ensures { MatchOption result (room < typs_length (classes_of classes.now) (typs_of types.now)) (λ r. r + typs_length (classes_of classes.now) (typs_of types.now) ≡ room) }
 {
     let mut rest = room;
@@ -210,15 +206,24 @@ fn list_room(room: u32, types: &[Ty], classes: &[ClassRec]) -> Option<u32>
     Some(rest)
 }
 
-/// Tests that the spelling of the type of a declaration is not too long.
-pub fn typ_sized(env: &Env, at: At, ty: &Ty) -> Result<bool, ElabFault>
-    ensures { Tells result (typ_sized (ctx_of env.now).classes at (typ_of ty.now)) }
+/// The room behind the parameters of a function in its symbol.
+#[tactic(auto, using(cpp_types::proofs::Views::signature_view))]
+pub fn parameters_room(room: u32, function: &FnTy, classes: &[ClassRec]) -> Option<u32>
+    ensures { MatchOption result (room < parameters_length (classes_of classes.now) (signature_of function.now)) (λ r. r + parameters_length (classes_of classes.now) (signature_of function.now) ≡ room) }
 {
-    match type_room(LONGEST, ty, &env.classes) {
-        Some(_) => Ok(true),
-        None => Err(ElabFault::Limit {
-            at,
-            which: LimitKind::Size,
-        }),
+    let room = left(room, 2)?;
+    list_room(room, &function.params, classes)
+}
+
+/// The room behind the class of a function in its symbol.
+pub fn owner_room(room: u32, class: Option<u32>, classes: &[ClassRec]) -> Option<u32>
+    ensures { MatchOption result (room < owner_length (classes_of classes.now) class) (λ r. r + owner_length (classes_of classes.now) class ≡ room) }
+{
+    match class {
+        Some(owner) => {
+            let room = left(room, 2)?;
+            left(room, class_length(owner, classes))
+        }
+        None => Some(room),
     }
 }

@@ -1,13 +1,13 @@
 -- Lengths of lists of types.
 use Rattle.std.proofs.Common.{◌≡◌, ◌<◌, ℕ, ◌+◌, Bool, true, false, List, length, drop, get_or, Option, MatchOption, refl, sym, ◌∙◌, ap, arith, subst, Box, Global}
-use Rattle.elab_globals.proofs.Dropped.{drop_step}
+use Rattle.elab_sizes.proofs.Dropped.{drop_step}
 use Rattle.cpp_types.specs.declared.types.FnTy.{FnTy}
 use Rattle.cpp_types.specs.declared.types.Shape.{Shape, Func, Func'}
 use Rattle.cpp_types.specs.Typ.{typ, Typs, none, more, typ_of, typs_of, shape_form, signature_of}
 use Rattle.cpp_types.specs.Class.{Class}
 use Rattle.cpp_types.specs.declared.types.Ty.{Ty}
 use Rattle.elab_rules.specs.Sizes.{typ_length, typs_length, if_set, pointer_length, signature_length}
-use Rattle.elab_globals.specs.Lengths.{listed_length}
+use Rattle.elab_sizes.specs.Lengths.{listed_length}
 
 pub typs_listed : (classes : List Class) (ts : Typs) → typs_length classes ts ≡ listed_length classes false ts
 typs_listed classes none = refl

@@ -1,8 +1,8 @@
 use Rattle.std.proofs.Common.{arith}
 use Rattle.cpp_types.specs.Typ.{typs_of}
 use Rattle.cpp_types.specs.Class.{classes_of}
-use Rattle.elab_globals.proofs.Lengths.{typs_listed, room_same, function_pointer, plain_pointer}
-use Rattle.elab_globals.proofs.sizes.+room.Goals as goal
+use Rattle.elab_sizes.proofs.Lengths.{typs_listed, room_same, function_pointer, plain_pointer}
+use Rattle.elab_sizes.proofs.rooms.+room.Goals as goal
 
 pub list_room-loop-ty-init : goal.list_room-loop-ty-init
 list_room-loop-ty-init t c = omega (arith, typs_listed (classes_of c.args.classes.now) (typs_of c.args.types.now))

@@ -1,0 +1,7 @@
+use Rattle.std.proofs.Common.{◌≡◌, drop, map}
+use Rattle.elab_ctx.specs.Ctx.{func_of}
+use Rattle.elab_rules.specs.Classes.{has_function}
+use Rattle.class_members.proofs.data_members.is_among.Given as goal
+
+abbrev pub invariant-loop-found : goal.invariant-loop-found
+invariant-loop-found l = has_function l.class l.name (map func_of l.funcs) ≡ has_function l.class l.name (map func_of (drop l.found-index l.funcs))

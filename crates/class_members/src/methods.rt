@@ -1,0 +1,249 @@
+// Member functions, constructors and destructors (C++14 9.3, 12.1, 12.4).
+
+ghost use Rattle.std.specs.Prelude.{◌≡◌, IfOk, List, map, is_some, option_map};
+ghost use Rattle.cpp_types.specs.Typ.{signature_of};
+ghost use Rattle.cpp_types.specs.Class.{function_of, member_of};
+ghost use Rattle.cpp_tree.specs.Units.{param_of};
+ghost use Rattle.elab_ctx.specs.Ctx.{ctx_of, func_of, Work};
+ghost use Rattle.elab_ctx.specs.Says.{Tells};
+ghost use Rattle.elab_rules.specs.Names.{same_variable};
+ghost use Rattle.elab_rules.specs.Statements.{Body};
+ghost use Rattle.elab_rules.specs.Functions.{param_of as declared_param, safety_of as safety_of_of, linkage_of as linkage_of_of, function_record as function_record_of, is_same_function as is_same_function_of, first_from};
+ghost use Rattle.elab_rules.specs.Classes.{as_defined as as_defined_of, definition_sized as definition_sized_of, member_function as member_function_of};
+ghost use Rattle.elab_types.specs.Shown.{Says, parameter_of, qualifiers_of};
+ghost use Rattle.class_members.specs.Shown.{header_of, storage_of, marks_of, definition_of, home_of, reading, Answers};
+ghost use Rattle.class_members.specs.Parts.{method_by, member_made as member_made_of};
+
+use crate::data_members::has_member;
+use crate::lists::{add_function, keep_param};
+use crate::overriding::{
+    TakenOver, is_destructor_name, marks_fit, overrides_well, same_flag, same_parameters,
+    taken_over,
+};
+use crate::records::{Definition, Header, Home, Marks, Members, Storage};
+use crate::sizes::{header_sized, text_sized};
+use cpp_tree::{ElabFault, IllRule, Linkage, TParam};
+use cpp_types::{FuncRec, MemberRec, Safety, copy, copy_function};
+use elab_ctx::{Env, FuncDecl};
+use elab_init::ill;
+use elab_types::{Parameter, Qualifiers};
+use std::alloc::{AllocError, Global};
+
+fn safety_of(qualifiers: Qualifiers) -> Safety
+    ensures { result ≡ safety_of_of (qualifiers_of qualifiers) }
+{
+    if qualifiers.is_dynamic {
+        Safety::Dynamic
+    } else if qualifiers.is_safe {
+        Safety::Safe
+    } else {
+        Safety::None
+    }
+}
+
+fn linkage_of(storage: Storage) -> Linkage
+    ensures { result ≡ linkage_of_of (storage_of storage) }
+{
+    if storage.is_static {
+        Linkage::Internal
+    } else if storage.is_inline {
+        Linkage::Inline
+    } else {
+        Linkage::External
+    }
+}
+
+// A function as it is declared, without what a base adds.
+fn function_record(alloc: Global, header: &Header) -> Result<FuncRec, AllocError>
+    ensures { IfOk result (λ f. function_of f ≡ function_record_of (header_of header.now)) }
+{
+    let name = Vec::from_slice(alloc, &header.name)?;
+    let ty = copy_function(alloc, &header.ty)?;
+    Ok(FuncRec {
+        name,
+        ty,
+        is_const: header.qualifiers.is_const,
+        is_virtual: header.storage.is_virtual,
+        is_override: false,
+        is_final: false,
+        pure_virtual: false,
+        safety: safety_of(header.qualifiers),
+        considered: false,
+        no_except: header.qualifiers.no_except,
+        at: header.at,
+    })
+}
+
+fn param_from(alloc: Global, param: &Parameter) -> Result<TParam, AllocError>
+    ensures { IfOk result (λ p. param_of p ≡ declared_param (parameter_of param.now)) }
+{
+    let ty = copy(alloc, &param.ty)?;
+    Ok(TParam { ty, at: param.at })
+}
+
+fn params_from(alloc: Global, params: &[Parameter]) -> Result<Vec<TParam>, AllocError>
+    ensures { IfOk result (λ v. map param_of v.items ≡ map declared_param (map parameter_of params.now)) }
+{
+    let mut list = Vec::new(alloc);
+    for param in params {
+        let made = param_from(alloc, param)?;
+        keep_param(&mut list, made)?;
+    }
+    Ok(list)
+}
+
+// The function that a member declares, with what it takes over from the one that it overrides.
+fn method_from(
+    alloc: Global,
+    header: &Header,
+    marks: Marks,
+    over: TakenOver,
+) -> Result<FuncDecl, AllocError>
+    ensures { IfOk result (λ f. func_of f ≡ method_by (header_of header.now) (marks_of marks) over) }
+{
+    let name = Vec::from_slice(alloc, &header.name)?;
+    let ty = copy_function(alloc, &header.ty)?;
+    let params = params_from(alloc, &header.params)?;
+    Ok(FuncDecl {
+        rec: FuncRec {
+            name,
+            ty,
+            is_const: header.qualifiers.is_const,
+            is_virtual: header.storage.is_virtual || over.is_some,
+            is_override: marks.is_override,
+            is_final: marks.is_final,
+            pure_virtual: marks.is_pure,
+            safety: safety_of(header.qualifiers),
+            considered: over.considered,
+            no_except: header.qualifiers.no_except || is_destructor_name(&header.name),
+            at: header.at,
+        },
+        kind: header.kind,
+        class: header.class,
+        linkage: linkage_of(header.storage),
+        implicit: false,
+        is_defined: false,
+        builtin: None,
+        params,
+        text: Vec::new(alloc),
+        closed_at: 0,
+    })
+}
+
+// A function with the text that defines it, if that stands in the class: then it is inline (C++14 7.1.2, 9.3).
+fn as_defined(found: FuncDecl, definition: Option<Definition>) -> FuncDecl
+    ensures { func_of result ≡ as_defined_of (option_map definition_of definition) (func_of found) }
+{
+    match definition {
+        Some(definition) => FuncDecl {
+            rec: found.rec,
+            kind: found.kind,
+            class: found.class,
+            linkage: Linkage::Inline,
+            implicit: found.implicit,
+            is_defined: true,
+            builtin: found.builtin,
+            params: found.params,
+            text: definition.text,
+            closed_at: definition.closed_at,
+        },
+        None => found,
+    }
+}
+
+fn same_class(a: Option<u32>, b: Option<u32>) -> bool
+    ensures { result ≡ same_variable a b }
+{
+    match (a, b) {
+        (Some(m), Some(n)) => m == n,
+        (None, None) => true,
+        _ => false,
+    }
+}
+
+// Whether a function is the one that is declared: its name, its class, its parameters and `const` (C++14 13.1).
+fn is_same_function(header: &Header, found: &FuncDecl) -> bool
+    ensures { result ≡ is_same_function_of (header_of header.now) (func_of found.now) }
+{
+    found.rec.name.as_slice() == header.name.as_slice()
+        && same_class(found.class, header.class)
+        && same_parameters(&found.rec.ty, &header.ty)
+        && same_flag(found.rec.is_const, header.qualifiers.is_const)
+}
+
+// Whether the function was declared before.
+fn is_declared(funcs: &[FuncDecl], header: &Header) -> bool
+    ensures { result ≡ is_some (first_from (is_same_function_of (header_of header.now)) 0 (map func_of funcs.now)) }
+{
+    for (i, found) in funcs.iter().enumerate() {
+        let _ = i;
+        if is_same_function(header, found) {
+            return true;
+        }
+    }
+    false
+}
+
+fn definition_sized(header: &Header, definition: &Option<Definition>) -> Result<bool, ElabFault>
+    ensures { Tells result (definition_sized_of header.now.at (option_map definition_of definition.now)) }
+{
+    match definition {
+        Some(found) => text_sized(header.at, &found.text),
+        None => Ok(true),
+    }
+}
+
+// The function that a member declares.
+fn member_made(
+    alloc: Global,
+    env: &Env,
+    home: &Home,
+    members: &[MemberRec],
+    header: &Header,
+    marks: Marks,
+    definition: Option<Definition>,
+) -> Result<FuncDecl, ElabFault>
+    ensures { Says func_of result (member_made_of (ctx_of env.now) (home_of home.now) (map member_of members.now) (header_of header.now) (marks_of marks) (option_map definition_of definition)) }
+{
+    let declared = function_record(alloc, header)?;
+    if is_declared(&env.funcs, header) || has_member(members, &header.name) {
+        return Err(ill(header.at, IllRule::Redeclared));
+    }
+    overrides_well(env, home.base, header, &declared)?;
+    let over = taken_over(env, home.base, &declared);
+    marks_fit(
+        header,
+        marks,
+        over.is_some,
+        header.storage.is_virtual || over.is_some,
+    )?;
+    header_sized(env, header)?;
+    definition_sized(header, &definition)?;
+    let made = method_from(alloc, header, marks, over)?;
+    Ok(as_defined(made, definition))
+}
+
+/// A member function, a constructor or a destructor that is declared in a class, with its text where that stands there.
+pub fn member_function(
+    alloc: Global,
+    env: &mut Env,
+    home: &Home,
+    members: &Members,
+    header: &Header,
+    marks: Marks,
+    definition: Option<Definition>,
+) -> Result<(), ElabFault>
+    ensures { (w : Work) (bodies : List Body) → Answers (reading (ctx_of env.new) w bodies members.now) result (member_function_of (home_of home.now) (reading (ctx_of env.old) w bodies members.now) (header_of header.now) (marks_of marks) (option_map definition_of definition)) }
+{
+    let made = member_made(
+        alloc,
+        env,
+        home,
+        &members.members,
+        header,
+        marks,
+        definition,
+    )?;
+    add_function(env, made)?;
+    Ok(())
+}

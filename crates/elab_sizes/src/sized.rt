@@ -1,0 +1,43 @@
+// The limit on spellings: none is longer than 1,048,576 bytes (profile).
+
+ghost use Rattle.std.specs.Prelude.{◌≡◌};
+ghost use Rattle.cpp_types.specs.Typ.{typ_of, signature_of, func};
+ghost use Rattle.cpp_tree.specs.Notation.{plain};
+ghost use Rattle.elab_ctx.specs.Ctx.{ctx_of};
+ghost use Rattle.elab_ctx.specs.Says.{Tells};
+ghost use Rattle.elab_rules.specs.Sizes.{typ_sized as typ_sized_of};
+
+use crate::rooms::{LONGEST, function_room, type_room};
+use cpp_tree::{ElabFault, LimitKind};
+use cpp_types::{At, FnTy, Ty};
+use elab_ctx::Env;
+
+/// What passes the greatest size.
+pub fn too_long(at: At) -> ElabFault
+    ensures { result ≡ ElabFault.Limit at LimitKind.Size }
+{
+    ElabFault::Limit {
+        at,
+        which: LimitKind::Size,
+    }
+}
+
+/// Tests that the spelling of the type of a declaration is not too long.
+pub fn typ_sized(env: &Env, at: At, ty: &Ty) -> Result<bool, ElabFault>
+    ensures { Tells result (typ_sized_of (ctx_of env.now).classes at (typ_of ty.now)) }
+{
+    match type_room(LONGEST, ty, &env.classes) {
+        Some(_) => Ok(true),
+        None => Err(too_long(at)),
+    }
+}
+
+/// Tests that the spelling of a function's type is not too long.
+pub fn function_sized(env: &Env, at: At, function: &FnTy) -> Result<bool, ElabFault>
+    ensures { Tells result (typ_sized_of (ctx_of env.now).classes at (plain (func (signature_of function.now)))) }
+{
+    match function_room(LONGEST, function, &env.classes) {
+        Some(_) => Ok(true),
+        None => Err(too_long(at)),
+    }
+}
