@@ -1,1 +1,6 @@
 pub mod Kept
+pub mod Placed
+pub mod TameTrees
+pub mod SafeFuncs
+pub mod Linking
+pub mod Theorem
