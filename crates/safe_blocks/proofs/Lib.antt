@@ -4,3 +4,4 @@ pub mod TameTrees
 pub mod SafeFuncs
 pub mod Linking
 pub mod Theorem
+pub mod CornerRuns
