@@ -3,5 +3,6 @@ pub mod Placed
 pub mod TameTrees
 pub mod SafeFuncs
 pub mod Linking
+pub mod Entered
 pub mod Theorem
 pub mod CornerRuns

@@ -19,7 +19,8 @@ use Rattle.tx_safety.specs.Safe.{is_safe}
 use Rattle.block_marks.specs.Marks.{scope_for, is_free, is_marked}
 use Rattle.block_marks.proofs.Steps.{stays_marked, main_marked, thread_marked}
 use Rattle.safe_blocks.specs.UnsafeFree.{safely_linked, UnsafeFree}
-use Rattle.safe_blocks.proofs.Kept.{blocks_hidden}
+use Rattle.safe_blocks.proofs.Kept.{tested, blocks_hidden}
+use Rattle.safe_blocks.proofs.Entered.{marked_same}
 use Rattle.safe_blocks.proofs.Placed.{is_scoped, fits_scoped}
 use Rattle.safe_blocks.proofs.Linking.{IsScopedFunc, program_tame}
 
@@ -66,4 +67,10 @@ unsafe_free p = record {
       let q = safely_linked symbol entry t in
       let m = program_tame symbol entry t s l u (record { each = scoped_func p w }) in
       blocks_hidden q (is_marked q (is_safe t)) (stays_marked q (is_safe t) m) (main_marked q (is_safe t) m) (thread_marked q (is_safe t) m));
+  enters = λ symbol entry w s l u.
+      (let t = program_of p in
+      let q = safely_linked symbol entry t in
+      let m = program_tame symbol entry t s l u (record { each = scoped_func p w }) in
+      let test = is_marked q (is_safe t) in
+      record { same = λ x reply c. marked_same q (is_safe t) m x reply (tested q test (stays_marked q (is_safe t) m) (main_marked q (is_safe t) m) (thread_marked q (is_safe t) m) x c) });
 }

@@ -19,7 +19,7 @@ pub fn hidden()
 {}
 
 /// The blocks of a well-formed, safe, linked program make no event that is volatile, output, input, or the start or
-/// join of a thread, in every state that a thread comes to.
+/// join of a thread, in every state that a thread comes to, and no unsafe function is entered in them.
 pub fn unsafe_free()
     ensures { (p : TypedUnits) → UnsafeFree p }
 {}
