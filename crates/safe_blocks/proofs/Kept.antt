@@ -3,7 +3,7 @@ use Rattle.std.proofs.Common.{◌≡◌, ℕ, Bool, true}
 use Rattle.std.specs.Prelude.{ℤ}
 use Rattle.src_mean.specs.Linked.{Program}
 use Rattle.src_mean.specs.Frames.{State}
-use Rattle.src_mean.specs.Source.{source, begins, main_state}
+use Rattle.src_mean.specs.Source.{begins, main_state}
 use Rattle.src_mean.specs.Laws.{StaysSafe}
 use Rattle.safe_blocks.specs.UnsafeFree.{Comes, main, begun, goes_on, HidesBlocks}
 

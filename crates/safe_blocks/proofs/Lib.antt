@@ -1,1 +1,8 @@
 pub mod Kept
+pub mod Placed
+pub mod TameTrees
+pub mod SafeFuncs
+pub mod Linking
+pub mod Entered
+pub mod Theorem
+pub mod CornerRuns

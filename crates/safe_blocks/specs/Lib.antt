@@ -1,1 +1,2 @@
 pub mod UnsafeFree
+pub mod Corner
