@@ -1,0 +1,7 @@
+use Rattle.std.proofs.Common.{◌≡◌, map, drop}
+use Rattle.elab_ctx.specs.Ctx.{closure_of}
+use Rattle.elab_rules.specs.Expressions.{closure_at}
+use Rattle.elab_rows.proofs.closures.closure_at.Given as goal
+
+abbrev pub invariant-loop-closure : goal.invariant-loop-closure
+invariant-loop-closure l = closure_at l.at (map closure_of l.closures) ≡ closure_at l.at (map closure_of (drop l.closure-index l.closures))

@@ -1,0 +1,115 @@
+// Arrays with a bound (C++14 8.3.4).
+
+ghost use Rattle.std.specs.Prelude.{◌≡◌, ◌<◌, length, false, true, nat_le, pos, int_lt, MatchOption, IfOk};
+ghost use Rattle.tx_ints.specs.Words.{value_of_word as value_of_word_of};
+ghost use Rattle.cpp_types.specs.Typ.{typ_of, array};
+ghost use Rattle.cpp_tree.specs.Arena.{trees_of};
+ghost use Rattle.cpp_tree.specs.Notation.{plain};
+ghost use Rattle.elab_ctx.specs.Ctx.{ctx_of, work_of};
+ghost use Rattle.elab_ctx.specs.Operands.{operand_in};
+ghost use Rattle.elab_rules.specs.Types.{array_of as array_of_of, is_within_size as is_within_size_of};
+ghost use Rattle.elab_rules.specs.Expressions.{bounded as bounded_of};
+ghost use Rattle.elab_types.specs.Shown.{Says};
+
+use cpp_tree::{ElabFault, IllRule, LimitKind, TNode};
+use cpp_types::{At, Shape, Ty, copy};
+use elab_consts::constant;
+use elab_conv::valued;
+use elab_ctx::{Env, Operand, Work, node_at, size_of};
+use elab_ops::operands::arithmetic;
+use elab_types::declarators::past;
+use elab_types::specifiers::ill;
+use elab_types::types::{is_complete_type, is_element};
+use std::alloc::{AllocError, Global};
+use tx_ints::{IntKind, value_of_word};
+
+// Whether so many elements of a type are no more bytes than a type may have.
+fn is_within_size(env: &Env, ty: &Ty, count: u32) -> Result<bool, AllocError>
+    ensures { IfOk result (λ b. b ≡ is_within_size_of (ctx_of env.now) (typ_of ty.now) count) }
+{
+    if !is_complete_type(env, ty) {
+        return Ok(true);
+    }
+    let size = size_of(env, ty)?;
+    Ok(u64::from(size) * u64::from(count) <= 1_048_576)
+}
+
+// The number of elements that a bound gives, as far as an array may have so many.
+fn small_count(word: u64) -> Option<u32>
+    ensures { MatchOption result (nat_le word 1048576 ≡ false) (λ n. (n ≡ word) × (nat_le word 1048576 ≡ true)) }
+{
+    if word <= 1_048_576 {
+        Some(word as u32)
+    } else {
+        None
+    }
+}
+
+fn is_positive(kind: IntKind, word: u64) -> bool
+    ensures { result ≡ int_lt (pos 0) (value_of_word_of kind word) }
+{
+    0 < value_of_word(kind, word)
+}
+
+fn array_type(alloc: Global, element: &Ty, count: u32) -> Result<Ty, AllocError>
+    ensures { IfOk result (λ t. typ_of t ≡ plain (array (typ_of element.now) count)) }
+{
+    let element = Box::new(alloc, copy(alloc, element)?)?;
+    Ok(Ty {
+        shape: Shape::Array(element, count),
+        is_const: false,
+        is_volatile: false,
+    })
+}
+
+/// An array of so many elements; the bound is a number above 0, written at `bound`.
+pub fn array_of(
+    alloc: Global,
+    env: &Env,
+    at: At,
+    bound: At,
+    ty: &Ty,
+    kind: IntKind,
+    word: u64,
+) -> Result<Ty, ElabFault>
+    ensures { Says typ_of result (array_of_of (ctx_of env.now) at bound (typ_of ty.now) kind word) }
+{
+    if !is_element(ty) {
+        return Err(ill(at, IllRule::BadDeclaration));
+    }
+    if !is_positive(kind, word) {
+        return Err(ill(bound, IllRule::BadDeclaration));
+    }
+    let Some(count) = small_count(word) else {
+        return Err(past(at, LimitKind::Size));
+    };
+    if !is_within_size(env, ty, count)? {
+        return Err(past(at, LimitKind::Size));
+    }
+    let made = array_type(alloc, ty, count)?;
+    Ok(made)
+}
+
+/// An array of a type with a bound. The bound's nodes are among `nodes`; the globals that it may name are those of
+/// `work`.
+pub fn bounded(
+    alloc: Global,
+    env: &Env,
+    at: At,
+    ty: &Ty,
+    bound: Operand,
+    nodes: &mut Vec<TNode>,
+    work: &Work,
+) -> Result<Ty, ElabFault>
+    requires { bound.id.0 < length (trees_of nodes.old.items) }
+    ensures { Says typ_of result (bounded_of (ctx_of env.now) (work_of work.now) at (typ_of ty.now) (operand_in (trees_of nodes.old.items) bound)) }
+{
+    let value = valued(alloc, nodes, bound.at, bound.id)?;
+    let Some(kind) = arithmetic(&node_at(nodes, value).ty) else {
+        return Err(ill(bound.at, IllRule::BadOperand));
+    };
+    let Some(word) = constant(&work.globals, nodes, value)? else {
+        return Err(ill(bound.at, IllRule::NotConstant));
+    };
+    array_of(alloc, env, at, bound.at, ty, kind, word)
+}
