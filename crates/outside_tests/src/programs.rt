@@ -1,20 +1,11 @@
 //! The programs of a few numbers, byte by byte.
-ghost use Rattle.std.specs.Prelude.{◌≤◌};
 
 use prog_gen::program;
-use std::alloc::{AllocError, Global};
 use std::test::Fail;
 
-/// Whether the program of so many numbers is this one.
-fn is_program(alloc: Global, count: u32, text: &str) -> Result<bool, AllocError>
-    requires least { 1 ≤ count }
-    requires most { count ≤ 400 }
-{
-    Ok(program(alloc, count)?.as_slice() == text.as_bytes())
-}
-
 #[test]
-fn the_program_of_one(rt: HostRuntime) -> Result<(), Fail> {
+fn the_programs_of_one_and_of_two(rt: HostRuntime) -> Result<(), Fail> {
+    let alloc = rt.alloc();
     let one = "long c[1];
 void f0() transaction_safe { c[0] = c[0] + 1; c[0] = c[0] + 2; }
 void w(long) { for (int k = 0; k < 4; ++k) {
@@ -26,12 +17,7 @@ __txcc_join(a); __txcc_join(b); __txcc_join(d); long s = 0;
 for (int i = 0; i < 1; ++i) s = s + c[i];
 print(s); putchar(10); return 0; }
 ";
-    assert!(rt; is_program(rt.alloc(), 1, one)?);
-    Ok(())
-}
-
-#[test]
-fn the_program_of_two(rt: HostRuntime) -> Result<(), Fail> {
+    assert_eq!(rt; program(alloc, 1)?.as_slice(), one.as_bytes());
     let two = "long c[2];
 void f0() transaction_safe { c[0] = c[0] + 1; c[1] = c[1] + 2; }
 void f1() transaction_safe { c[1] = c[1] + 1; c[0] = c[0] + 2; }
@@ -45,7 +31,7 @@ __txcc_join(a); __txcc_join(b); __txcc_join(d); long s = 0;
 for (int i = 0; i < 2; ++i) s = s + c[i];
 print(s); putchar(10); return 0; }
 ";
-    assert!(rt; is_program(rt.alloc(), 2, two)?);
+    assert_eq!(rt; program(alloc, 2)?.as_slice(), two.as_bytes());
     Ok(())
 }
 
