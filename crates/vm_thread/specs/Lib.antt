@@ -2,4 +2,3 @@ pub mod Lookups
 pub mod Modes
 pub mod Threads
 pub mod ThreadLaws
-pub mod Plain

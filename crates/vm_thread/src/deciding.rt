@@ -1,5 +1,5 @@
 //! What a thread does next.
-ghost use Rattle.std.specs.Prelude.{◌≡◌, ◌<◌, ◌≤◌, ◌+◌, ◌%◌, ◌∷◌, [], true, false, drop, take, reverse, IfSome, MatchOption, length, slice_get, nat_eq, if◌then◌else◌};
+ghost use Rattle.std.specs.Prelude.{◌≡◌, ◌<◌, ◌≤◌, ◌+◌, ◌%◌, ◌∷◌, [], true, false, drop, take, reverse, MatchOption, length, slice_get, nat_eq, if◌then◌else◌};
 ghost use Rattle.tx_ints.specs.declared.kinds.IntKind.TheVariants.{Int};
 ghost use Rattle.tx_ints.specs.Integers.{apply_of};
 ghost use Rattle.tx_ints.specs.Words.{word_of, value_of_word};
@@ -14,10 +14,8 @@ ghost use Rattle.vm_frames.specs.FrameStacks.{top_of, rest_of, shown};
 ghost use Rattle.vm_thread.specs.Modes.{InMode, KnowsMode, Modes};
 ghost use Rattle.vm_frames.specs.declared.step.Step.TheVariants.{Ends};
 ghost use Rattle.vm_frames.specs.Steps.{Means};
-ghost use Rattle.vm_thread.specs.Plain.{step_of};
 
 use crate::lookups::{self, stack_end};
-use crate::plain::Plain;
 use tx_code::{Image, Instr, block_kind, int_kind, operator, size};
 use tx_events::{BlockKind, End, Event, Trap};
 use tx_ints::{ArithTrap, BinOp, IntKind, apply, convert, negate, value_of_word, word_of};
@@ -28,62 +26,68 @@ use vm_frames::step::{Callee, Change, Given, Landing, Step};
 use vm_frames::values::{bits, number_in, with_number, zeros};
 
 /// `load`, `tload` and `vload`.
-fn load(frames: &FrameStack, kind: u8, volatile: bool) -> Plain
+fn load(frames: &FrameStack, kind: u8, volatile: bool) -> Step
     requires { frames.now.top.index < 18446744073709551615 }
-    ensures { Means (step_of result) (meaning.load_act kind volatile (top_of frames.now) (rest_of frames.now)) (top_of frames.now) (rest_of frames.now) }
+    ensures { Means result (meaning.load_act kind volatile (top_of frames.now) (rest_of frames.now)) (top_of frames.now) (rest_of frames.now) }
 {
     let Some(kind) = int_kind(kind) else {
-        return Plain::Stuck;
+        return Step::Lost;
     };
     match frames.words.top() {
-        None => Plain::Stuck,
-        Some(address) => Plain::Operates {
+        None => Step::Lost,
+        Some(address) => Step::Does {
             event: Event::Load {
                 addr: address,
                 size: size(kind),
                 volatile,
             },
-            taken: 1,
-            given: Given::Loaded(kind),
-            index: frames.top.index + 1,
+            change: Change::Operate {
+                taken: 1,
+                given: Given::Loaded(kind),
+                index: frames.top.index + 1,
+            },
         },
     }
 }
 
 /// `store`, `tstore` and `vstore`.
-fn store(frames: &FrameStack, kind: u8, volatile: bool) -> Plain
+fn store(frames: &FrameStack, kind: u8, volatile: bool) -> Step
     requires { frames.now.top.index < 18446744073709551615 }
-    ensures { Means (step_of result) (meaning.store_act kind volatile (top_of frames.now) (rest_of frames.now)) (top_of frames.now) (rest_of frames.now) }
+    ensures { Means result (meaning.store_act kind volatile (top_of frames.now) (rest_of frames.now)) (top_of frames.now) (rest_of frames.now) }
 {
     let Some(kind) = int_kind(kind) else {
-        return Plain::Stuck;
+        return Step::Lost;
     };
     match frames.words.top_two() {
-        None => Plain::Stuck,
-        Some(two) => Plain::Operates {
+        None => Step::Lost,
+        Some(two) => Step::Does {
             event: Event::Store {
                 addr: two.low,
                 size: size(kind),
                 value: bits(kind, two.high),
                 volatile,
             },
-            taken: 2,
-            given: Given::Nothing,
-            index: frames.top.index + 1,
+            change: Change::Operate {
+                taken: 2,
+                given: Given::Nothing,
+                index: frames.top.index + 1,
+            },
         },
     }
 }
 
 // A silent step that takes operands off and leaves a word.
-fn leave_word(frames: &FrameStack, taken: u8, word: u64) -> Plain
+fn leave_word(frames: &FrameStack, taken: u8, word: u64) -> Step
     requires { frames.now.top.index < 18446744073709551615 }
-    ensures { Means (step_of result) (meaning.goes (meaning.Runs (meaning.on_with (top_of frames.now) (word ∷ drop taken (top_of frames.now).words)) (rest_of frames.now))) (top_of frames.now) (rest_of frames.now) }
+    ensures { Means result (meaning.goes (meaning.Runs (meaning.on_with (top_of frames.now) (word ∷ drop taken (top_of frames.now).words)) (rest_of frames.now))) (top_of frames.now) (rest_of frames.now) }
 {
-    Plain::Operates {
+    Step::Does {
         event: Event::Silent,
-        taken,
-        given: Given::Word(word),
-        index: frames.top.index + 1,
+        change: Change::Operate {
+            taken,
+            given: Given::Word(word),
+            index: frames.top.index + 1,
+        },
     }
 }
 
@@ -108,15 +112,13 @@ fn traps(trap: Trap) -> Step
 }
 
 // What an operator comes to, the operands being taken off.
-fn value_step(frames: &FrameStack, taken: u8, value: Result<i128, ArithTrap>) -> Plain
+fn value_step(frames: &FrameStack, taken: u8, value: Result<i128, ArithTrap>) -> Step
     requires { frames.now.top.index < 18446744073709551615 }
-    ensures { Means (step_of result) (meaning.result_act value (λ v. meaning.goes (meaning.Runs (meaning.on_with (top_of frames.now) (word_of v ∷ drop taken (top_of frames.now).words)) (rest_of frames.now)))) (top_of frames.now) (rest_of frames.now) }
+    ensures { Means result (meaning.result_act value (λ v. meaning.goes (meaning.Runs (meaning.on_with (top_of frames.now) (word_of v ∷ drop taken (top_of frames.now).words)) (rest_of frames.now)))) (top_of frames.now) (rest_of frames.now) }
 {
     match value {
         Ok(value) => leave_word(frames, taken, word_of(value)),
-        Err(trap) => Plain::Halts(Event::Stop {
-            end: End::Trapped(trap_of(trap)),
-        }),
+        Err(trap) => traps(trap_of(trap)),
     }
 }
 
@@ -140,18 +142,18 @@ fn operate(operator: BinOp, kind: IntKind, two: Two<u64>) -> Result<i128, ArithT
 }
 
 // `bin`.
-fn bin(frames: &FrameStack, op: u8, kind: u8) -> Plain
+fn bin(frames: &FrameStack, op: u8, kind: u8) -> Step
     requires { frames.now.top.index < 18446744073709551615 }
-    ensures { Means (step_of result) (meaning.bin_act op kind (top_of frames.now) (rest_of frames.now)) (top_of frames.now) (rest_of frames.now) }
+    ensures { Means result (meaning.bin_act op kind (top_of frames.now) (rest_of frames.now)) (top_of frames.now) (rest_of frames.now) }
 {
     let Some(operator) = operator(op) else {
-        return Plain::Stuck;
+        return Step::Lost;
     };
     let Some(kind) = int_kind(kind) else {
-        return Plain::Stuck;
+        return Step::Lost;
     };
     match frames.words.top_two() {
-        None => Plain::Stuck,
+        None => Step::Lost,
         Some(two) => {
             let value = operate(operator, kind, two);
             value_step(frames, 2, value)
@@ -160,32 +162,32 @@ fn bin(frames: &FrameStack, op: u8, kind: u8) -> Plain
 }
 
 // `neg`.
-fn neg(frames: &FrameStack, kind: u8) -> Plain
+fn neg(frames: &FrameStack, kind: u8) -> Step
     requires { frames.now.top.index < 18446744073709551615 }
-    ensures { Means (step_of result) (meaning.neg_act kind (top_of frames.now) (rest_of frames.now)) (top_of frames.now) (rest_of frames.now) }
+    ensures { Means result (meaning.neg_act kind (top_of frames.now) (rest_of frames.now)) (top_of frames.now) (rest_of frames.now) }
 {
     let Some(kind) = int_kind(kind) else {
-        return Plain::Stuck;
+        return Step::Lost;
     };
     match frames.words.top() {
-        None => Plain::Stuck,
+        None => Step::Lost,
         Some(word) => value_step(frames, 1, negate(kind, value_of_word(kind, word))),
     }
 }
 
 // `conv`.
-fn conv(frames: &FrameStack, from: u8, to: u8) -> Plain
+fn conv(frames: &FrameStack, from: u8, to: u8) -> Step
     requires { frames.now.top.index < 18446744073709551615 }
-    ensures { Means (step_of result) (meaning.conv_act from to (top_of frames.now) (rest_of frames.now)) (top_of frames.now) (rest_of frames.now) }
+    ensures { Means result (meaning.conv_act from to (top_of frames.now) (rest_of frames.now)) (top_of frames.now) (rest_of frames.now) }
 {
     let Some(from) = int_kind(from) else {
-        return Plain::Stuck;
+        return Step::Lost;
     };
     let Some(to) = int_kind(to) else {
-        return Plain::Stuck;
+        return Step::Lost;
     };
     match frames.words.top() {
-        None => Plain::Stuck,
+        None => Step::Lost,
         Some(word) => {
             let value = convert(to, value_of_word(from, word));
             leave_word(frames, 1, word_of(value))
@@ -194,39 +196,41 @@ fn conv(frames: &FrameStack, from: u8, to: u8) -> Plain
 }
 
 // `dup`.
-fn dup(frames: &FrameStack) -> Plain
+fn dup(frames: &FrameStack) -> Step
     requires { frames.now.top.index < 18446744073709551615 }
-    ensures { Means (step_of result) (meaning.one (top_of frames.now).words (λ w ws. meaning.goes (meaning.Runs (meaning.on_with (top_of frames.now) (w ∷ w ∷ ws)) (rest_of frames.now)))) (top_of frames.now) (rest_of frames.now) }
+    ensures { Means result (meaning.one (top_of frames.now).words (λ w ws. meaning.goes (meaning.Runs (meaning.on_with (top_of frames.now) (w ∷ w ∷ ws)) (rest_of frames.now)))) (top_of frames.now) (rest_of frames.now) }
 {
     match frames.words.top() {
-        None => Plain::Stuck,
+        None => Step::Lost,
         Some(word) => leave_word(frames, 0, word),
     }
 }
 
 // `over`.
-fn over(frames: &FrameStack) -> Plain
+fn over(frames: &FrameStack) -> Step
     requires { frames.now.top.index < 18446744073709551615 }
-    ensures { Means (step_of result) (meaning.two (top_of frames.now).words (λ a b ws. meaning.goes (meaning.Runs (meaning.on_with (top_of frames.now) (a ∷ b ∷ a ∷ ws)) (rest_of frames.now)))) (top_of frames.now) (rest_of frames.now) }
+    ensures { Means result (meaning.two (top_of frames.now).words (λ a b ws. meaning.goes (meaning.Runs (meaning.on_with (top_of frames.now) (a ∷ b ∷ a ∷ ws)) (rest_of frames.now)))) (top_of frames.now) (rest_of frames.now) }
 {
     match frames.words.top_two() {
-        None => Plain::Stuck,
+        None => Step::Lost,
         Some(two) => leave_word(frames, 0, two.low),
     }
 }
 
 // `drop`.
-fn pop(frames: &FrameStack) -> Plain
+fn pop(frames: &FrameStack) -> Step
     requires { frames.now.top.index < 18446744073709551615 }
-    ensures { Means (step_of result) (meaning.one (top_of frames.now).words (λ w ws. meaning.goes (meaning.Runs (meaning.on_with (top_of frames.now) ws) (rest_of frames.now)))) (top_of frames.now) (rest_of frames.now) }
+    ensures { Means result (meaning.one (top_of frames.now).words (λ w ws. meaning.goes (meaning.Runs (meaning.on_with (top_of frames.now) ws) (rest_of frames.now)))) (top_of frames.now) (rest_of frames.now) }
 {
     match frames.words.top() {
-        None => Plain::Stuck,
-        Some(_) => Plain::Operates {
+        None => Step::Lost,
+        Some(_) => Step::Does {
             event: Event::Silent,
-            taken: 1,
-            given: Given::Nothing,
-            index: frames.top.index + 1,
+            change: Change::Operate {
+                taken: 1,
+                given: Given::Nothing,
+                index: frames.top.index + 1,
+            },
         },
     }
 }
@@ -248,51 +252,57 @@ fn swap(frames: &FrameStack) -> Step
 }
 
 // `jump`.
-fn jump(frames: &FrameStack, target: u32) -> Plain
-    ensures { Means (step_of result) (meaning.goes (meaning.Runs (meaning.at (top_of frames.now) target (top_of frames.now).words) (rest_of frames.now))) (top_of frames.now) (rest_of frames.now) }
+fn jump(frames: &FrameStack, target: u32) -> Step
+    ensures { Means result (meaning.goes (meaning.Runs (meaning.at (top_of frames.now) target (top_of frames.now).words) (rest_of frames.now))) (top_of frames.now) (rest_of frames.now) }
 {
-    Plain::Operates {
+    Step::Does {
         event: Event::Silent,
-        taken: 0,
-        given: Given::Nothing,
-        index: target as usize,
+        change: Change::Operate {
+            taken: 0,
+            given: Given::Nothing,
+            index: target as usize,
+        },
     }
 }
 
 // `jzero`.
-fn jump_zero(frames: &FrameStack, target: u32) -> Plain
+fn jump_zero(frames: &FrameStack, target: u32) -> Step
     requires { frames.now.top.index < 18446744073709551615 }
-    ensures { Means (step_of result) (meaning.one (top_of frames.now).words (λ w ws. meaning.goes (meaning.Runs (meaning.at (top_of frames.now) (if nat_eq w 0 then target else ((top_of frames.now).index + 1)) ws) (rest_of frames.now)))) (top_of frames.now) (rest_of frames.now) }
+    ensures { Means result (meaning.one (top_of frames.now).words (λ w ws. meaning.goes (meaning.Runs (meaning.at (top_of frames.now) (if nat_eq w 0 then target else ((top_of frames.now).index + 1)) ws) (rest_of frames.now)))) (top_of frames.now) (rest_of frames.now) }
 {
     match frames.words.top() {
-        None => Plain::Stuck,
-        Some(word) => Plain::Operates {
+        None => Step::Lost,
+        Some(word) => Step::Does {
             event: Event::Silent,
-            taken: 1,
-            given: Given::Nothing,
-            index: if word == 0 {
-                target as usize
-            } else {
-                frames.top.index + 1
+            change: Change::Operate {
+                taken: 1,
+                given: Given::Nothing,
+                index: if word == 0 {
+                    target as usize
+                } else {
+                    frames.top.index + 1
+                },
             },
         },
     }
 }
 
 // `out`.
-fn out(frames: &FrameStack) -> Plain
+fn out(frames: &FrameStack) -> Step
     requires { frames.now.top.index < 18446744073709551615 }
-    ensures { Means (step_of result) (meaning.one (top_of frames.now).words (λ v ws. meaning.asks (OutOf (v % 256)) (meaning.Runs (meaning.on_with (top_of frames.now) (v % 256 ∷ ws)) (rest_of frames.now)))) (top_of frames.now) (rest_of frames.now) }
+    ensures { Means result (meaning.one (top_of frames.now).words (λ v ws. meaning.asks (OutOf (v % 256)) (meaning.Runs (meaning.on_with (top_of frames.now) (v % 256 ∷ ws)) (rest_of frames.now)))) (top_of frames.now) (rest_of frames.now) }
 {
     match frames.words.top() {
-        None => Plain::Stuck,
-        Some(word) => Plain::Operates {
+        None => Step::Lost,
+        Some(word) => Step::Does {
             event: Event::Out {
                 byte: (word % 256) as u8,
             },
-            taken: 1,
-            given: Given::Word(word % 256),
-            index: frames.top.index + 1,
+            change: Change::Operate {
+                taken: 1,
+                given: Given::Word(word % 256),
+                index: frames.top.index + 1,
+            },
         },
     }
 }
@@ -368,7 +378,7 @@ fn slot(image: &Image, frames: &FrameStack, class: u32, slot: u32) -> Step
     };
     match lookups::slot(image, class, address, slot) {
         None => traps(Trap::BadVirtual),
-        Some(func) => leave_word(frames, 1, lookups::func_address(func)).step(),
+        Some(func) => leave_word(frames, 1, lookups::func_address(func)),
     }
 }
 
@@ -544,7 +554,7 @@ fn get_exception(frames: &FrameStack, offset: u8, kind: u8) -> Step
     };
     match frames.current() {
         None => Step::Lost,
-        Some(exception) => leave_word(frames, 0, number_in(exception, offset, kind)).step(),
+        Some(exception) => leave_word(frames, 0, number_in(exception, offset, kind)),
     }
 }
 
@@ -682,54 +692,6 @@ fn frame_address(frames: &FrameStack, offset: u32) -> u64
     u64::from(frames.top.address) + u64::from(offset)
 }
 
-// An instruction whose step is a plain one, as those of most turns are.
-fn plain_on(frames: &FrameStack, instr: Instr) -> Option<Plain>
-    requires { frames.now.top.index < 18446744073709551615 }
-    ensures { (x : meaning.Names) → IfSome result (λ p. Means (step_of p) (meaning.act x instr (top_of frames.now) (rest_of frames.now)) (top_of frames.now) (rest_of frames.now)) }
-{
-    match instr {
-        Instr::Push(word) => Some(leave_word(frames, 0, word)),
-        Instr::Dup => Some(dup(frames)),
-        Instr::Pop => Some(pop(frames)),
-        Instr::Over => Some(over(frames)),
-        Instr::FrameAddr(offset) => Some(leave_word(frames, 0, frame_address(frames, offset))),
-        Instr::Load(kind) | Instr::TLoad(kind) => Some(load(frames, kind, false)),
-        Instr::Store(kind) | Instr::TStore(kind) => Some(store(frames, kind, false)),
-        Instr::Bin { op, kind } => Some(bin(frames, op, kind)),
-        Instr::Neg(kind) => Some(neg(frames, kind)),
-        Instr::Conv { from, to } => Some(conv(frames, from, to)),
-        Instr::Jump(target) => Some(jump(frames, target)),
-        Instr::JumpZero(target) => Some(jump_zero(frames, target)),
-        _ => None,
-    }
-}
-
-// A frame that runs, where its step is a plain one.
-fn plain_run(image: &Image, frames: &FrameStack) -> Option<Plain>
-    ensures { IfSome result (λ p. Means (step_of p) (meaning.step_act (names_of (image_view image.now)) (meaning.Runs (top_of frames.now) (rest_of frames.now))) (top_of frames.now) (rest_of frames.now)) }
-{
-    let frame = &frames.top;
-    match lookups::instr(image, frame.func, frame.safe, frame.index) {
-        None => None,
-        Some(Instr::GlobalAddr(offset)) => Some(leave_word(
-            frames,
-            0,
-            lookups::global_address(offset),
-        )),
-        Some(instr) => plain_on(frames, instr),
-    }
-}
-
-/// The next step of a thread of an image, where it is a plain one.
-pub(crate) fn plain_step(image: &Image, frames: &FrameStack) -> Option<Plain>
-    ensures { IfSome result (λ p. Means (step_of p) (meaning.step_act (names_of (image_view image.now)) (shown frames.now)) (top_of frames.now) (rest_of frames.now)) }
-{
-    match frames.flight {
-        None => plain_run(image, frames),
-        Some(_) => None,
-    }
-}
-
 // An instruction.
 fn operate_on(image: &Image, frames: &FrameStack, instr: Instr) -> Step
     requires index { frames.now.top.index < 18446744073709551615 }
@@ -737,24 +699,24 @@ fn operate_on(image: &Image, frames: &FrameStack, instr: Instr) -> Step
     ensures { Means result (meaning.act (names_of (image_view image.now)) instr (top_of frames.now) (rest_of frames.now)) (top_of frames.now) (rest_of frames.now) }
 {
     match instr {
-        Instr::Push(word) => leave_word(frames, 0, word).step(),
-        Instr::Dup => dup(frames).step(),
-        Instr::Pop => pop(frames).step(),
+        Instr::Push(word) => leave_word(frames, 0, word),
+        Instr::Dup => dup(frames),
+        Instr::Pop => pop(frames),
         Instr::Swap => swap(frames),
-        Instr::Over => over(frames).step(),
-        Instr::FrameAddr(offset) => leave_word(frames, 0, frame_address(frames, offset)).step(),
-        Instr::GlobalAddr(offset) => leave_word(frames, 0, lookups::global_address(offset)).step(),
-        Instr::FuncAddr(func) => leave_word(frames, 0, lookups::func_address(func)).step(),
-        Instr::ClassAddr(class) => leave_word(frames, 0, lookups::class_address(class)).step(),
-        Instr::Load(kind) | Instr::TLoad(kind) => load(frames, kind, false).step(),
-        Instr::Store(kind) | Instr::TStore(kind) => store(frames, kind, false).step(),
-        Instr::VLoad(kind) => load(frames, kind, true).step(),
-        Instr::VStore(kind) => store(frames, kind, true).step(),
-        Instr::Bin { op, kind } => bin(frames, op, kind).step(),
-        Instr::Neg(kind) => neg(frames, kind).step(),
-        Instr::Conv { from, to } => conv(frames, from, to).step(),
-        Instr::Jump(target) => jump(frames, target).step(),
-        Instr::JumpZero(target) => jump_zero(frames, target).step(),
+        Instr::Over => over(frames),
+        Instr::FrameAddr(offset) => leave_word(frames, 0, frame_address(frames, offset)),
+        Instr::GlobalAddr(offset) => leave_word(frames, 0, lookups::global_address(offset)),
+        Instr::FuncAddr(func) => leave_word(frames, 0, lookups::func_address(func)),
+        Instr::ClassAddr(class) => leave_word(frames, 0, lookups::class_address(class)),
+        Instr::Load(kind) | Instr::TLoad(kind) => load(frames, kind, false),
+        Instr::Store(kind) | Instr::TStore(kind) => store(frames, kind, false),
+        Instr::VLoad(kind) => load(frames, kind, true),
+        Instr::VStore(kind) => store(frames, kind, true),
+        Instr::Bin { op, kind } => bin(frames, op, kind),
+        Instr::Neg(kind) => neg(frames, kind),
+        Instr::Conv { from, to } => conv(frames, from, to),
+        Instr::Jump(target) => jump(frames, target),
+        Instr::JumpZero(target) => jump_zero(frames, target),
         Instr::Call { func, words } => call(image, frames, func, false, words),
         Instr::TCall { func, words } => call(image, frames, func, true, words),
         Instr::CallIndirect { ty, words } => call_indirect(image, frames, ty, false, words),
@@ -765,7 +727,7 @@ fn operate_on(image: &Image, frames: &FrameStack, instr: Instr) -> Step
         Instr::End => end_block(frames, Event::EndAtomic),
         Instr::BeginSync => begin_sync(frames),
         Instr::EndSync => end_block(frames, Event::EndSync),
-        Instr::Out => out(frames).step(),
+        Instr::Out => out(frames),
         Instr::Inp => inp(frames),
         Instr::Spawn => spawn(image, frames),
         Instr::Join => join(frames),

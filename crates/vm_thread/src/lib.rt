@@ -6,7 +6,6 @@
 mod deciding;
 pub mod laws;
 mod lookups;
-mod plain;
 pub mod thread;
 
 pub use thread::{Here, VmThread};

@@ -2,24 +2,20 @@
 ghost use Rattle.std.specs.Prelude.{◌≡◌, IfOk, min};
 ghost use Rattle.tx_code.specs.Views.{image_view};
 ghost use Rattle.tx_code.specs.Sound.{Sound};
-ghost use Rattle.tx_code.specs.Meaning.{state_after};
-ghost use Rattle.vm_frames.specs.FrameStacks.{shown, top_of, rest_of, CanTake};
-ghost use Rattle.vm_frames.specs.Steps.{act_of};
-ghost use Rattle.vm_thread.specs.Plain.{step_of};
+ghost use Rattle.vm_frames.specs.FrameStacks.{shown, CanTake};
 ghost use Rattle.vm_thread.specs.Threads.{Running, running, IsReached, at_main, innermost, all_frames};
 ghost use Rattle.vm_frames.specs.Frames.{words_in};
 ghost use Rattle.vm_thread.specs.ThreadLaws.{running_laws};
 
-use crate::deciding::{next_step, plain_step};
+use crate::deciding::next_step;
 use crate::lookups::stack_start;
-use crate::plain::Plain;
 use std::alloc::{AllocError, Global};
 use tx_code::Image;
 use tx_code::laws::an_image_is_whole;
 use tx_events::{Actor, End, Event, Reply};
 use vm_frames::changes::apply;
 use vm_frames::frames::FrameStack;
-use vm_frames::step::{Change, Step};
+use vm_frames::step::Step;
 use vm_frames::values::argument;
 
 /// The place of a thread in its image.
@@ -40,29 +36,6 @@ pub struct VmThread<'a> {
     pub ghost reached: { IsReached (record { image = image_view image.now; state = shown frames }) },
 }
 
-// Carries out a plain step, after this reply.
-fn take_plain(frames: &mut FrameStack, step: Plain, reply: Reply)
-    requires { CanTake frames.old }
-    ensures { shown frames.new ≡ state_after (shown frames.old) (act_of (step_of step) (top_of frames.old) (rest_of frames.old)) reply }
-{
-    match step {
-        Plain::Operates {
-            event: _,
-            taken,
-            given,
-            index,
-        } => {
-            let change = Change::Operate {
-                taken,
-                given,
-                index,
-            };
-            apply(frames, change, reply);
-        }
-        Plain::Halts(_) | Plain::Stuck => {}
-    }
-}
-
 impl<'a> Actor for VmThread<'a> {
     type Saved = VmThread<'a>;
 
@@ -79,13 +52,10 @@ impl<'a> Actor for VmThread<'a> {
     ghost thread = { running };
 
     fn next(&self) -> Event {
-        match plain_step(self.image, &self.frames) {
-            Some(step) => step.event(),
-            None => match next_step(self.image, &self.frames) {
-                Step::Does { event, change: _ } => event,
-                Step::Ends(event) => event,
-                Step::Lost => Event::Stop { end: End::Abort },
-            },
+        match next_step(self.image, &self.frames) {
+            Step::Does { event, change: _ } => event,
+            Step::Ends(event) => event,
+            Step::Lost => Event::Stop { end: End::Abort },
         }
     }
 
@@ -94,12 +64,9 @@ impl<'a> Actor for VmThread<'a> {
     }
 
     fn take(&mut self, reply: Reply) {
-        match plain_step(self.image, &self.frames) {
-            Some(step) => take_plain(&mut self.frames, step, reply),
-            None => match next_step(self.image, &self.frames) {
-                Step::Does { event: _, change } => apply(&mut self.frames, change, reply),
-                Step::Ends(_) | Step::Lost => {}
-            },
+        match next_step(self.image, &self.frames) {
+            Step::Does { event: _, change } => apply(&mut self.frames, change, reply),
+            Step::Ends(_) | Step::Lost => {}
         }
     }
 
