@@ -1,0 +1,5 @@
+pub mod Declaring
+pub mod FormRows
+pub mod LiteralBounds
+pub mod Several
+pub mod Stages
