@@ -1,5 +1,5 @@
 -- Specifiers, declarators and parameters, one behind the other.
-use Rattle.std.proofs.Common.{◌≡◌, ◌≢◌, ◌<◌, ◌+◌, ◌-◌, ◌≤◌, ℕ, Bool, true, false, ◌&&◌, is_some, List, [], ◌∷◌, ◌++◌, length, map, drop, take, get_or, Option, Some, None, Result, Ok, Err, refl, sym, ap, ◌∙◌, subst, append_assoc, append-nil}
+use Rattle.std.proofs.Common.{◌≡◌, ◌≢◌, ℕ, Bool, true, false, List, [], ◌∷◌, ◌++◌, Option, Some, None, Result, Ok, Err, refl, sym, ap, ◌∙◌, subst, append_assoc, append-nil}
 use Rattle.cpp_lex.specs.Tokens.{Lexeme}
 use Rattle.cpp_types.specs.Typ.{Typ}
 use Rattle.cpp_types.specs.declared.classes.At.{At}
@@ -14,7 +14,7 @@ use Rattle.cpp_tree.specs.declared.faults.IllRule.TheVariants.{OutOfProfile}
 use Rattle.elab_ctx.specs.Ctx.{Ctx, Work, Closure}
 use Rattle.elab_ctx.specs.Steps.{and_then, at_of, spelling}
 use Rattle.elab_ctx.specs.Says.{Faults}
-use Rattle.elab_ctx.proofs.Making.{faults_in, faults_same}
+use Rattle.elab_ctx.proofs.Making.{faults_same}
 use Rattle.elab_rules.specs.Types.{Parameter, Declared, Specifiers, Qualifiers, declared_name, owner_token, no_specifiers, specified_type, pointer_to, reference_to, open_array, function_of, with_function, is_declared_safe, qualifiers_of, is_name}
 use Rattle.elab_rules.specs.Expressions.{specified_with, all_specified_with, specifiers_with, type_id_with, declared_with, pointed_with, parameter_with, parameters_with, parameters_in_with, bounded, expression_with, chosen_operand}
 use Rattle.elab_ctx.specs.Steps.{Typed}
@@ -25,7 +25,7 @@ use Rattle.cpp_tree.specs.Trees.{Tree as TypedTree}
 use Rattle.elab_ctx.specs.Operands.{operand_in}
 use Rattle.elab_ctx.specs.declared.operand.Operand.{Operand as OperandRec}
 use Rattle.elab_rows.specs.Typed.{TypedAt}
-use Rattle.elab_expr.specs.Forms.{is_exception, is_qualifier, are_qualifiers, all_qualified}
+use Rattle.elab_expr.specs.Forms.{is_exception, are_qualifiers, all_qualified}
 use Rattle.elab_expr.proofs.FormRows.{kind_is}
 use Rattle.elab_expr.proofs.Stages.{first_fault, later_fault}
 

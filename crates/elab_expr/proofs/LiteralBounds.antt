@@ -21,7 +21,7 @@ use Rattle.elab_ctx.specs.Operands.{operand_in}
 use Rattle.elab_ctx.specs.declared.operand.Operand.{Operand as OperandRec}
 use Rattle.elab_ctx.specs.Says.{Faults}
 use Rattle.elab_ctx.proofs.Making.{faults_in, faults_same}
-use Rattle.elab_rules.specs.Expressions.{expression_with, chosen_operand, bounded, leaf_or_row, integer_literal}
+use Rattle.elab_rules.specs.Expressions.{expression_with, chosen_operand, bounded, leaf_or_row}
 use Rattle.elab_types.specs.Shown.{Says}
 use Rattle.elab_rows.specs.Typed.{TypedAt}
 use Rattle.elab_expr.specs.Forms.{is_integer_literal}

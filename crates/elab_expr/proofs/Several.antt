@@ -1,5 +1,5 @@
 -- Several operands, one behind the other.
-use Rattle.std.proofs.Common.{◌-◌, subst, Vec, Global, vec_len, rules, true≢false, ◌≡◌, ◌≢◌, ◌==◌, ◌<◌, ◌+◌, ◌≤◌, ℕ, zero, suc, arith, true, false, Bool, nat_lt, lt-ltb, List, [], ◌∷◌, ◌++◌, length, map, drop, take, get_or, Result, Ok, Err, refl, sym, ap, ◌∙◌, append_assoc, append-nil}
+use Rattle.std.proofs.Common.{◌-◌, subst, Vec, Global, vec_len, rules, true≢false, ◌≡◌, ◌≢◌, ◌==◌, ◌<◌, ◌+◌, ◌≤◌, ℕ, zero, suc, arith, true, false, nat_lt, lt-ltb, List, [], ◌∷◌, ◌++◌, length, drop, take, get_or, Result, Ok, Err, refl, sym, ap, ◌∙◌, append_assoc, append-nil}
 use Rattle.std.proofs.lemmas.Bool.{and_parts, ltb-true, eqb-true}
 use Rattle.cpp_ast.specs.Orders.{are_below}
 use Rattle.cpp_lex.specs.Tokens.{Lexeme}
@@ -7,7 +7,7 @@ use Rattle.cpp_ast.specs.Trees as syntax
 use Rattle.cpp_ast.specs.declared.arena.NodeId.{NodeId}
 use Rattle.cpp_tree.specs.declared.faults.ElabFault.{ElabFault}
 use Rattle.cpp_tree.specs.Trees.{Tree}
-use Rattle.cpp_tree.specs.Arena.{tree_at, Grows}
+use Rattle.cpp_tree.specs.Arena.{Grows}
 use Rattle.elab_ctx.specs.Ctx.{Ctx, Work, Closure}
 use Rattle.elab_ctx.specs.Steps.{and_then, Operand, Typed, TypedAll}
 use Rattle.elab_ctx.specs.Operands.{operand_in, operands_in, are_in}

@@ -7,6 +7,8 @@ mod constants;
 #[cfg(test)]
 mod conversions;
 #[cfg(test)]
+mod expressions;
+#[cfg(test)]
 mod initialising;
 #[cfg(test)]
 mod names;

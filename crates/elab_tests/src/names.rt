@@ -22,7 +22,7 @@ fn plain(shape: Shape) -> Ty {
     }
 }
 
-fn nothing(alloc: Global) -> Env {
+pub fn nothing(alloc: Global) -> Env {
     Env {
         source: 0,
         scopes: Scopes::new(alloc),
@@ -52,7 +52,7 @@ fn nothing(alloc: Global) -> Env {
     }
 }
 
-fn no_work(alloc: Global) -> Work {
+pub fn no_work(alloc: Global) -> Work {
     Work {
         nodes: Vec::new(alloc),
         frame: Vec::new(alloc),

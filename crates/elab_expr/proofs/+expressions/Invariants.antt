@@ -1,5 +1,5 @@
 -- Kids have lower ids; forms of one node call one another in this order.
-use Rattle.std.proofs.Common.{◌≡◌, ◌+◌, ◌*◌, List, map, drop}
+use Rattle.std.proofs.Common.{◌≡◌, ◌+◌, ◌*◌, map, drop}
 use Rattle.cpp_lex.specs.Tokens.{lexemes_of}
 use Rattle.elab_ctx.specs.Ctx.{ctx_of, work_of, closure_of}
 use Rattle.cpp_tree.specs.Arena.{trees_of}
