@@ -11,6 +11,16 @@ pub fn is_case(line: &str) -> bool {
     !line.is_empty() && !line.starts_with('#')
 }
 
+/// The part of a text at an index, where its parts have this character between them; empty where there is no such part.
+pub fn field(text: &str, between: char, at: usize) -> &str {
+    for (index, part) in text.split(between).enumerate() {
+        if index == at {
+            return part;
+        }
+    }
+    ""
+}
+
 /// Adds a word to a line, behind a blank if it is not the first. An error is want of memory.
 pub fn add_word(line: &mut String, word: &str) -> Result<(), AllocError> {
     if !line.is_empty() {
