@@ -1,68 +1,70 @@
-// Each call once, with ample memory.
+// Names and scopes: `scopes push x=g7 ?x` opens a scope, declares `x` as the global 7 in it, and looks `x` up; `x=l8` declares
+// the local 8. The answer has a word for each step.
 
+use case_texts::add_word;
 use cpp_names::{Entity, EntityKind, NameFault, Scopes};
-use std::test::Fail;
+use std::alloc::{AllocError, Global};
 
-// The global with this number.
-fn global(id: u32) -> Entity {
+// What `g7` or `l8` names.
+fn entity_of(word: &str) -> Entity {
+    let (kind, id) = match word.strip_prefix('g') {
+        Some(id) => (EntityKind::Global, id),
+        None => (EntityKind::Local, word.strip_prefix('l').unwrap_or("")),
+    };
     Entity {
-        kind: EntityKind::Global,
-        id,
+        kind,
+        id: id.parse::<u32>().unwrap_or(0),
     }
 }
 
-// The local variable with this number.
-fn local(id: u32) -> Entity {
-    Entity {
-        kind: EntityKind::Local,
-        id,
+// A name is declared.
+fn declared(
+    alloc: Global,
+    scopes: &mut Scopes,
+    name: &str,
+    entity: Entity,
+) -> Result<String, AllocError> {
+    if scopes.is_empty() {
+        return format!(in alloc; "no-scope");
+    }
+    match scopes.declare(name.as_bytes(), entity) {
+        Ok(()) => format!(in alloc; "declared"),
+        Err(NameFault::Twice { old }) => format!(in alloc; "twice:{:?}{}", old.kind, old.id),
+        Err(NameFault::Memory) => format!(in alloc; "memory"),
     }
 }
 
-#[test]
-fn declared_twice_in_one_scope(rt: HostRuntime) -> Result<(), Fail> {
-    let mut scopes = Scopes::new(rt.alloc());
-    scopes.push()?;
-    scopes.declare(b"x", global(7))?;
-    let again = scopes.declare(b"x", local(8));
-    assert_eq!(rt; again.err(), Some(NameFault::Twice { old: global(7) }));
-    assert_eq!(rt; scopes.lookup(b"x"), Some(global(7)));
-    scopes.declare(b"xx", local(9))?;
-    assert_eq!(rt; scopes.lookup(b"xx"), Some(local(9)));
-    Ok(())
+// What a name is found to be.
+fn found(alloc: Global, scopes: &Scopes, name: &str) -> Result<String, AllocError> {
+    match scopes.lookup(name.as_bytes()) {
+        Some(entity) => format!(in alloc; "{:?}{}", entity.kind, entity.id),
+        None => format!(in alloc; "none"),
+    }
 }
 
-#[test]
-fn inner_scopes_hide_outer_names(rt: HostRuntime) -> Result<(), Fail> {
-    let mut scopes = Scopes::new(rt.alloc());
-    assert!(rt; scopes.is_empty());
-    scopes.push()?;
-    scopes.declare(b"x", global(1))?;
-    scopes.declare(b"y", global(2))?;
-    scopes.push()?;
-    scopes.declare(b"x", local(3))?;
-    scopes.push()?;
-    assert_eq!(rt; scopes.len(), 3);
-    assert_eq!(rt; scopes.lookup(b"x"), Some(local(3)));
-    assert_eq!(rt; scopes.lookup(b"y"), Some(global(2)));
-    assert_eq!(rt; scopes.lookup(b"z"), None);
-    scopes.pop();
-    scopes.pop();
-    assert_eq!(rt; scopes.lookup(b"x"), Some(global(1)));
-    Ok(())
+// A scope is opened or closed; how many are open then.
+fn moved(alloc: Global, scopes: &mut Scopes, word: &str) -> Result<String, AllocError> {
+    if word == "push" {
+        scopes.push()?;
+    } else if word == "pop" && !scopes.is_empty() {
+        scopes.pop();
+    }
+    format!(in alloc; "{}", scopes.len())
 }
 
-#[test]
-fn many_names(rt: HostRuntime) -> Result<(), Fail> {
-    let mut scopes = Scopes::new(rt.alloc());
-    scopes.push()?;
-    'declared: for id in 0..2000u32 {
-        let name = format!(in rt.alloc(); "n{id}")?;
-        scopes.declare(name.as_bytes(), global(id))?;
+/// The answers to the steps of a line.
+pub fn answer(alloc: Global, steps: &str) -> Result<String, AllocError> {
+    let mut scopes = Scopes::new(alloc);
+    let mut line = String::new(alloc);
+    for step in steps.split(' ') {
+        let word = if let Some((name, entity)) = step.split_once('=') {
+            declared(alloc, &mut scopes, name, entity_of(entity))?
+        } else if let Some(name) = step.strip_prefix('?') {
+            found(alloc, &scopes, name)?
+        } else {
+            moved(alloc, &mut scopes, step)?
+        };
+        add_word(&mut line, &word)?;
     }
-    for id in [0, 1, 999, 1999] {
-        let name = format!(in rt.alloc(); "n{id}")?;
-        assert_eq!(rt; scopes.lookup(name.as_bytes()), Some(global(id)));
-    }
-    Ok(())
+    Ok(line)
 }
