@@ -1,134 +1,22 @@
-// Types and classes of the tests, as words, and calls whose premises are tested before.
+// Layouts: calls whose premises are tested before.
 
-mod frame_rows;
-mod layout_rows;
-mod nests;
-
-ghost use Rattle.std.specs.Prelude.{◌≡◌, ◌≤◌, true, false};
+ghost use Rattle.std.specs.Prelude.{◌≡◌, ◌≤◌, true, false, map};
 ghost use Rattle.cpp_types.specs.Typ.{typ, class, typ_of, shape_form};
 ghost use Rattle.cpp_types.specs.Class.{InOrder, classes_of};
 ghost use Rattle.cpp_layout.specs.Layout.{class_extent};
 ghost use Rattle.cpp_layout.specs.Measured.{IsComplete, HoldsComplete, HasMember};
+ghost use Rattle.cpp_layout.specs.Frames.{AllComplete};
 
 use cpp_layout::extents::SizeAlign;
+use cpp_layout::frames::{FrameFault, FrameRec, frame};
 use cpp_layout::objects::{TooLarge, offset, size_align};
 use cpp_types::classes::record_at;
 use cpp_types::copyability::held_class;
-use cpp_types::{At, ClassRec, FnTy, FuncRec, MemberRec, Safety, Shape, Ty, is_in_order};
+use cpp_types::{ClassRec, Shape, Ty, is_in_order};
 use std::alloc::{AllocError, Global};
-use tx_ints::IntKind;
 
-fn plain(shape: Shape) -> Ty {
-    Ty {
-        shape,
-        is_const: false,
-        is_volatile: false,
-    }
-}
-
-// A type from a word: `p` a pointer to the rest, `r` a reference, `x` an exception, and an array of
-// as many as `count` says; then one letter for a scalar, or a capital for a class by its index.
-fn read(alloc: Global, word: &[u8]) -> Result<Ty, AllocError> {
-    let mut ty = plain(Shape::Void);
-    for letter in word.iter().rev() {
-        ty = around(alloc, *letter, ty)?;
-    }
-    Ok(ty)
-}
-
-fn around(alloc: Global, letter: u8, inner: Ty) -> Result<Ty, AllocError> {
-    Ok(plain(match letter {
-        b'p' => Shape::Ptr(Box::new(alloc, inner)?),
-        b'r' => Shape::Ref(Box::new(alloc, inner)?),
-        b'x' => Shape::TxEx(Box::new(alloc, inner)?),
-        b'0'..=b'9' | b'k' => Shape::Array(Box::new(alloc, inner)?, count(letter)),
-        _ => leaf(alloc, letter)?,
-    }))
-}
-
-fn count(letter: u8) -> u32 {
-    match letter {
-        b'0' => 1_048_576,
-        b'1' => 1_048_568,
-        b'k' => 1_024,
-        b'4' => 2_730,
-        b'6' => 65_536,
-        b'7' => 65_537,
-        b'8' => 65_528,
-        b'9' => 65_521,
-        _ => letter.saturating_sub(b'0') as u32,
-    }
-}
-
-fn leaf(alloc: Global, letter: u8) -> Result<Shape, AllocError> {
-    Ok(match letter {
-        b'b' => Shape::Int(IntKind::Bool),
-        b'c' => Shape::Int(IntKind::Char),
-        b'g' => Shape::Int(IntKind::UChar),
-        b's' => Shape::Int(IntKind::Short),
-        b'i' => Shape::Int(IntKind::Int),
-        b'l' => Shape::Int(IntKind::Long),
-        b'n' => Shape::Null,
-        b'e' => Shape::Enum {
-            name: Vec::from_slice(alloc, b"E")?,
-            scoped: false,
-        },
-        _ => Shape::Class(letter.saturating_sub(b'A') as u32),
-    })
-}
-
-fn virtual_function(alloc: Global) -> Result<FuncRec, AllocError> {
-    Ok(FuncRec {
-        name: Vec::from_slice(alloc, b"f")?,
-        ty: FnTy {
-            params: Vec::new(alloc),
-            ret: plain(Shape::Void),
-            safe: false,
-        },
-        is_const: false,
-        is_virtual: true,
-        is_override: false,
-        is_final: false,
-        pure_virtual: false,
-        safety: Safety::None,
-        considered: false,
-        no_except: false,
-        at: At {
-            source: 0,
-            offset: 0,
-        },
-    })
-}
-
-// A class with members of these types, where `number` others were completed before it.
-fn class_with(
-    alloc: Global,
-    base: Option<u32>,
-    is_virtual: bool,
-    words: &[&[u8]],
-    number: u32,
-) -> Result<ClassRec, AllocError> {
-    let mut members = Vec::new(alloc);
-    for word in words {
-        if !word.is_empty() {
-            let name = Vec::from_slice(alloc, b"m")?;
-            let ty = read(alloc, word)?;
-            members.push(MemberRec { name, ty })?;
-        }
-    }
-    let mut functions = Vec::new(alloc);
-    if is_virtual {
-        functions.push(virtual_function(alloc)?)?;
-    }
-    Ok(ClassRec {
-        name: Vec::from_slice(alloc, b"C")?,
-        base,
-        members,
-        functions,
-        is_final: false,
-        complete: Some(number),
-    })
-}
+// The members of a class whose offsets are written.
+const MEMBERS: u32 = 3;
 
 // Whether a class of the list is complete.
 #[tactic(auto, using(cpp_layout::proofs::Samples::complete_by))]
@@ -209,4 +97,65 @@ fn member_offset(classes: &[ClassRec], class: u32, member: u32) -> Option<u32> {
         return None;
     }
     Some(offset(classes, class, member))
+}
+
+// Whether each class that an item holds is complete.
+fn all_complete(items: &[Ty], classes: &[ClassRec]) -> bool
+    ensures { result ≡ true → AllComplete (classes_of classes.now) (map typ_of items.now) }
+{
+    for item in items {
+        if !holds_complete(item, classes) {
+            return false;
+        }
+    }
+    true
+}
+
+// What a type's objects take, or why there is no answer.
+fn shown(alloc: Global, found: Option<Result<SizeAlign, TooLarge>>) -> Result<String, AllocError> {
+    match found {
+        Some(Ok(extent)) => format!(in alloc; "{} {}", extent.size, extent.align),
+        Some(Err(TooLarge)) => format!(in alloc; "too large"),
+        None => format!(in alloc; "not in order, or not complete"),
+    }
+}
+
+/// The size and the alignment of a type.
+pub fn extent(alloc: Global, ty: &Ty, classes: &[ClassRec]) -> Result<String, AllocError> {
+    shown(alloc, measure(ty, classes))
+}
+
+/// The size and the alignment of a class, and the offsets of its members.
+pub fn layout(alloc: Global, classes: &[ClassRec], number: u32) -> Result<String, AllocError> {
+    let mut line = extent(alloc, &class_type(number), classes)?;
+    for member in 0..MEMBERS {
+        if let Some(at) = member_offset(classes, number, member) {
+            line.push_str(&format!(in alloc; " {at}")?)?;
+        }
+    }
+    Ok(line)
+}
+
+// The size of a frame, and the offsets of its items.
+fn listed(alloc: Global, found: &FrameRec) -> Result<String, AllocError> {
+    let mut line = format!(in alloc; "{}", found.size)?;
+    for at in &found.offsets {
+        line.push_str(&format!(in alloc; " {at}")?)?;
+    }
+    Ok(line)
+}
+
+/// The frame of some items.
+pub fn framed(alloc: Global, classes: &[ClassRec], items: &[Ty]) -> Result<String, AllocError> {
+    if !is_in_order(classes) {
+        return format!(in alloc; "not in order");
+    }
+    if !all_complete(items, classes) {
+        return format!(in alloc; "not complete");
+    }
+    match frame(alloc, items, classes) {
+        Ok(found) => listed(alloc, &found),
+        Err(FrameFault::TooLarge) => format!(in alloc; "too large"),
+        Err(FrameFault::Memory) => format!(in alloc; "memory"),
+    }
 }

@@ -1,155 +1,59 @@
-// Calls with one best candidate, with none, and with a circle of three. The choices are those of
-// g++ for the same declarations.
+// Calls: `choose long|int <- prvalue:char`. A candidate is its parameters with commas between them, behind that of its object
+// and a dot if it has one.
 
-use cpp_overload::calls::{Arg, Cand, NoBest};
+use crate::conversions::category;
+use crate::types::{plain, read, read_all};
+use cpp_overload::calls::{Arg, Cand};
 use cpp_overload::choice::choose;
-use cpp_types::{Cat, ClassRec, FnTy, Shape, Ty};
+use cpp_types::{ClassRec, FnTy, Shape};
 use std::alloc::{AllocError, Global};
-use std::test::Fail;
-use tx_ints::IntKind;
 
-fn plain(shape: Shape) -> Ty {
-    Ty {
-        shape,
-        is_const: false,
-        is_volatile: false,
-    }
-}
-
-fn int(kind: IntKind) -> Ty {
-    plain(Shape::Int(kind))
-}
-
-fn reference(alloc: Global, mut target: Ty, is_const: bool) -> Result<Ty, AllocError> {
-    target.is_const = is_const;
-    Ok(plain(Shape::Ref(Box::new(alloc, target)?)))
-}
-
-fn candidate(alloc: Global, this: Option<Ty>, a: Ty, b: Ty, c: Ty) -> Result<Cand, AllocError> {
-    let mut params = Vec::new(alloc);
-    params.push(a)?;
-    params.push(b)?;
-    params.push(c)?;
+// A candidate.
+fn candidate(alloc: Global, text: &str) -> Result<Cand, AllocError> {
+    let (this, params) = match text.split_once('.') {
+        Some((object, params)) => (Some(read(alloc, object)?), params),
+        None => (None, text),
+    };
+    let params = read_all(alloc, params, ',')?;
+    let ret = plain(Shape::Void);
+    let safe = false;
     Ok(Cand {
-        ty: FnTy {
-            params,
-            ret: plain(Shape::Void),
-            safe: false,
-        },
+        ty: FnTy { params, ret, safe },
         this,
     })
 }
 
-fn one_parameter(alloc: Global, this: Option<Ty>, a: Ty) -> Result<Cand, AllocError> {
-    let mut params = Vec::new(alloc);
-    params.push(a)?;
-    Ok(Cand {
-        ty: FnTy {
-            params,
-            ret: plain(Shape::Void),
-            safe: false,
-        },
-        this,
-    })
-}
-
-fn argument(ty: Ty, cat: Cat) -> Arg {
-    Arg {
-        ty,
-        cat,
-        null_constant: false,
+// The candidates.
+fn candidates(alloc: Global, texts: &str) -> Result<Vec<Cand>, AllocError> {
+    let mut made = Vec::new(alloc);
+    for text in texts.split('|') {
+        made.push(candidate(alloc, text)?)?;
     }
+    Ok(made)
 }
 
-#[test]
-fn three_candidates_in_a_circle_are_ambiguous(rt: HostRuntime) -> Result<(), Fail> {
-    let a = rt.alloc();
-    let i = IntKind::Int;
-    let mut cands = Vec::new(a);
-    cands.push(candidate(
-        a,
-        None,
-        reference(a, int(i), false)?,
-        int(i),
-        reference(a, int(i), true)?,
-    )?)?;
-    cands.push(candidate(
-        a,
-        None,
-        reference(a, int(i), true)?,
-        reference(a, int(i), false)?,
-        int(i),
-    )?)?;
-    cands.push(candidate(
-        a,
-        None,
-        int(i),
-        reference(a, int(i), true)?,
-        reference(a, int(i), false)?,
-    )?)?;
-    let mut args = Vec::new(a);
-    args.push(argument(int(i), Cat::Lvalue))?;
-    args.push(argument(int(i), Cat::Lvalue))?;
-    args.push(argument(int(i), Cat::Lvalue))?;
-    let classes: Vec<ClassRec> = Vec::new(a);
-    assert_eq!(rt; cands.len(), 3);
-    assert_eq!(rt;
-        choose(&cands, &args, &classes),
-        Err(NoBest::Ambiguous {
-            first: 0,
-            second: 2
-        })
-    );
-    Ok(())
+// The arguments, each with its category.
+fn arguments(alloc: Global, texts: &str) -> Result<Vec<Arg>, AllocError> {
+    let mut made = Vec::new(alloc);
+    for text in texts.split(' ') {
+        if let Some((how, word)) = text.split_once(':') {
+            made.push(Arg {
+                ty: read(alloc, word)?,
+                cat: category(how),
+                null_constant: false,
+            })?;
+        }
+    }
+    Ok(made)
 }
 
-#[test]
-fn the_best_candidate_is_chosen(rt: HostRuntime) -> Result<(), Fail> {
-    let a = rt.alloc();
-    let mut cands = Vec::new(a);
-    cands.push(one_parameter(a, None, int(IntKind::Long))?)?;
-    cands.push(one_parameter(a, None, int(IntKind::Int))?)?;
-    assert_eq!(rt; cands.len(), 2);
-    let classes: Vec<ClassRec> = Vec::new(a);
-    let mut args = Vec::new(a);
-    args.push(argument(int(IntKind::Char), Cat::Prvalue))?;
-    assert_eq!(rt; choose(&cands, &args, &classes), Ok(1));
-    let mut unsigned = Vec::new(a);
-    unsigned.push(argument(int(IntKind::UInt), Cat::Prvalue))?;
-    assert_eq!(rt;
-        choose(&cands, &unsigned, &classes),
-        Err(NoBest::Ambiguous {
-            first: 0,
-            second: 1
-        })
-    );
-    let mut pointers = Vec::new(a);
-    pointers.push(argument(plain(Shape::Null), Cat::Prvalue))?;
-    assert_eq!(rt; choose(&cands, &pointers, &classes), Err(NoBest::NoViable));
-    let none: Vec<Arg> = Vec::new(a);
-    assert_eq!(rt; choose(&cands, &none, &classes), Err(NoBest::NoViable));
-    Ok(())
-}
-
-#[test]
-fn a_prvalue_may_be_the_object(rt: HostRuntime) -> Result<(), Fail> {
-    let a = rt.alloc();
-    let mut cands = Vec::new(a);
-    cands.push(one_parameter(
-        a,
-        Some(reference(a, plain(Shape::Class(0)), true)?),
-        int(IntKind::Int),
-    )?)?;
-    cands.push(one_parameter(
-        a,
-        Some(reference(a, plain(Shape::Class(0)), false)?),
-        int(IntKind::Int),
-    )?)?;
-    assert_eq!(rt; cands.len(), 2);
-    let classes: Vec<ClassRec> = Vec::new(a);
-    let mut args = Vec::new(a);
-    args.push(argument(plain(Shape::Class(0)), Cat::Prvalue))?;
-    args.push(argument(int(IntKind::Int), Cat::Prvalue))?;
-    assert_eq!(rt; choose(&cands, &args, &classes), Ok(1));
-    Ok(())
+/// The candidate that a call means, or why there is none.
+pub fn chosen(alloc: Global, classes: &[ClassRec], question: &str) -> Result<String, AllocError> {
+    let (left, right) = question.split_once(" <-").unwrap_or((question, ""));
+    let cands = candidates(alloc, left)?;
+    let args = arguments(alloc, right)?;
+    if cands.len() > 9 {
+        return format!(in alloc; "too many");
+    }
+    format!(in alloc; "{:?}", choose(&cands, &args, classes))
 }

@@ -2,7 +2,7 @@ use Rattle.std.proofs.Common.{map, drop}
 use Rattle.cpp_types.specs.Typ.{typ_of}
 use Rattle.cpp_types.specs.Class.{classes_of}
 use Rattle.cpp_layout.specs.Frames.{AllComplete}
-use Rattle.type_tests.proofs.layouts.frame_rows.all_complete.Given as goal
+use Rattle.type_tests.proofs.layouts.all_complete.Given as goal
 
 -- all items are complete where those that are left are
 abbrev pub invariant-loop-item : goal.invariant-loop-item
