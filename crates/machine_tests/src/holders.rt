@@ -1,10 +1,10 @@
-//! Each call on its happy path, with ample memory.
+//! Who holds which word: `holders 3 read:0:65536 holds:0:65536` is a table of three threads, of which 0 takes a word.
 ghost use Rattle.std.specs.Prelude.{◌≡◌, ◌<◌};
 ghost use Rattle.own_table.specs.Table.{thread_limit};
 
-use own_table::{HoldRec, Holders, Mode};
-use std::alloc::AllocError;
-use std::test::Fail;
+use case_texts::{add_word, field};
+use own_table::{Holders, Mode};
+use std::alloc::{AllocError, Global};
 
 /// Takes the hold where no other thread blocks it, and answers whether that was so.
 fn hold(holders: &mut Holders, word: u64, t: u8, mode: Mode) -> Result<bool, AllocError>
@@ -19,56 +19,46 @@ fn hold(holders: &mut Holders, word: u64, t: u8, mode: Mode) -> Result<bool, All
     Ok(is_free)
 }
 
-#[test]
-fn two_threads_share_and_release(rt: HostRuntime) -> Result<(), Fail> {
-    let mut holders = Holders::new(rt.alloc(), 3)?;
-    assert_eq!(rt; holders.holds(65536, 1), None);
-    assert_eq!(rt; holders.release_one(1), None);
-    assert!(rt; hold(&mut holders, 65536, 0, Mode::Read)?);
-    assert!(rt; hold(&mut holders, 65536, 1, Mode::Read)?);
-    assert_eq!(rt; holders.holds(65536, 0), Some(Mode::Read));
-    assert_eq!(rt; holders.blockers(65536, 0, false), 0);
-    assert_eq!(rt; holders.blockers(65536, 0, true), 2);
-    assert_eq!(rt; holders.blockers(65536, 2, true), 3);
-    let both = HoldRec {
-        word: 65536,
-        readers: 3,
-        writer: None,
-    };
-    assert_eq!(rt; holders.stripe(0), [both].as_slice());
-    assert_eq!(rt; holders.release_one(0), Some(65536));
-    assert_eq!(rt; holders.release_one(0), None);
-    Ok(())
+/// A step of a thread: a word, the thread and a word of the memory.
+fn taken(
+    alloc: Global,
+    holders: &mut Holders,
+    threads: u8,
+    text: &str,
+) -> Result<String, AllocError>
+    requires limit { thread_limit holders.old ≡ threads }
+    ensures limit { thread_limit holders.new ≡ thread_limit holders.old }
+{
+    let name = field(text, ':', 0);
+    let t = field(text, ':', 1).parse::<u8>().unwrap_or(0);
+    let word = field(text, ':', 2).parse::<u64>().unwrap_or(0);
+    if t >= threads {
+        return format!(in alloc; "no-thread");
+    }
+    match name {
+        "read" => format!(in alloc; "{}", hold(holders, word, t, Mode::Read)?),
+        "write" => format!(in alloc; "{}", hold(holders, word, t, Mode::Write)?),
+        "release" => format!(in alloc; "{:?}", holders.release_one(t)),
+        "holds" => format!(in alloc; "{:?}", holders.holds(word, t)),
+        "before-load" => format!(in alloc; "{}", holders.blockers(word, t, false)),
+        "before-store" => format!(in alloc; "{}", holders.blockers(word, t, true)),
+        "stripe" => format!(in alloc; "{:?}", holders.stripe(t)),
+        _ => format!(in alloc; "{}", holders.stripe(t).len()),
+    }
 }
 
-#[test]
-fn a_reader_becomes_the_writer(rt: HostRuntime) -> Result<(), Fail> {
-    let mut holders = Holders::new(rt.alloc(), 2)?;
-    assert!(rt; hold(&mut holders, 65544, 1, Mode::Read)?);
-    assert!(rt; hold(&mut holders, 65544, 1, Mode::Write)?);
-    assert!(rt; !hold(&mut holders, 65544, 0, Mode::Read)?);
-    assert_eq!(rt; holders.holds(65544, 1), Some(Mode::Write));
-    assert_eq!(rt; holders.blockers(65544, 0, false), 2);
-    let alone = HoldRec {
-        word: 65544,
-        readers: 2,
-        writer: Some(1),
-    };
-    assert_eq!(rt; holders.stripe(1), [alone].as_slice());
-    Ok(())
-}
-
-#[test]
-fn the_least_word_goes_first(rt: HostRuntime) -> Result<(), Fail> {
-    let mut holders = Holders::new(rt.alloc(), 64)?;
-    assert!(rt; hold(&mut holders, 65544, 63, Mode::Write)?);
-    assert!(rt; hold(&mut holders, 65536, 63, Mode::Read)?);
-    assert!(rt; hold(&mut holders, 67584, 63, Mode::Write)?);
-    assert_eq!(rt; holders.stripe(0).len(), 2);
-    assert_eq!(rt; holders.release_one(63), Some(65536));
-    assert_eq!(rt; holders.release_one(63), Some(65544));
-    assert_eq!(rt; holders.holds(65544, 63), None);
-    assert_eq!(rt; holders.release_one(63), Some(67584));
-    assert_eq!(rt; holders.stripe(0).len(), 0);
-    Ok(())
+/// The answers to the steps of so many threads.
+pub fn answer(alloc: Global, case: &str) -> Result<String, AllocError> {
+    let (threads, steps) = case.split_once(' ').unwrap_or((case, ""));
+    let threads = threads.parse::<u8>().unwrap_or(0);
+    let mut line = String::new(alloc);
+    if threads == 0 || threads > 64 {
+        return Ok(line);
+    }
+    let mut holders = Holders::new(alloc, threads)?;
+    for step in steps.split(' ') {
+        let answer = taken(alloc, &mut holders, threads, step)?;
+        add_word(&mut line, &answer)?;
+    }
+    Ok(line)
 }

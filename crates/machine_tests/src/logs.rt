@@ -1,14 +1,12 @@
-//! Each call on its happy path, with ample memory.
+//! Logs of what words held: `log mark note:A:5 back:0 load:A` notes what the word A held, and goes back to the first mark.
+//! A and B are the first words of a memory in which both hold 7.
 ghost use Rattle.std.specs.Prelude.{◌≡◌};
 ghost use Rattle.tx_events.specs.Memory.{can_access};
 ghost use Rattle.tx_memory.specs.View.{layout_of};
 ghost use Rattle.undo_log.specs.Notes.{can_put_back};
 
-mod noted;
-
-use std::alloc::AllocError;
-use std::process::Abort;
-use std::test::Fail;
+use case_texts::{add_word, field};
+use std::alloc::{AllocError, Global};
 use tx_memory::Memory;
 use undo_log::{Log, Note};
 
@@ -70,113 +68,11 @@ fn undo_word(log: &mut Log, memory: &mut Memory, word: u64) {
 }
 
 /// A memory in which both words hold 7.
-fn sevens(rt: &(impl AllocGlobal + Abort)) -> Result<Memory, AllocError> {
-    let mut memory = Memory::new(rt.alloc(), &[], 16, 1)?;
-    assert!(rt; memory.store(WORD, 8, 7));
-    assert!(rt; memory.store(OTHER, 8, 7));
+fn sevens(alloc: Global) -> Result<Memory, AllocError> {
+    let mut memory = Memory::new(alloc, &[], 16, 1)?;
+    memory.store(WORD, 8, 7);
+    memory.store(OTHER, 8, 7);
     Ok(memory)
-}
-
-#[test]
-fn two_marks_go_back_one_by_one(rt: HostRuntime) -> Result<(), Fail> {
-    let mut memory = sevens(&rt)?;
-    let mut log = Log::new(rt.alloc());
-    assert_eq!(rt; mark(&mut log)?, 0);
-    note(&mut log, WORD, 5)?;
-    note(&mut log, WORD, 4)?;
-    assert_eq!(rt; mark(&mut log)?, 1);
-    note(&mut log, WORD, 6)?;
-    let notes = [Note { word: WORD, old: 5 }, Note { word: WORD, old: 6 }];
-    assert_eq!(rt; log.notes(), notes.as_slice());
-    assert_eq!(rt; log.marks(), [0, 1].as_slice());
-    back_to(&mut log, &mut memory, 1);
-    assert_eq!(rt; memory.load(WORD, 8), Some(6));
-    assert_eq!(rt; log.marks(), [0, 1].as_slice());
-    back_to(&mut log, &mut memory, 0);
-    assert_eq!(rt; memory.load(WORD, 8), Some(5));
-    assert_eq!(rt; memory.load(OTHER, 8), Some(7));
-    assert_eq!(rt; log.notes().len(), 0);
-    assert_eq!(rt; log.marks(), [0].as_slice());
-    log.clear();
-    assert_eq!(rt; log.marks().len(), 0);
-    Ok(())
-}
-
-#[test]
-fn a_dropped_mark_leaves_its_notes_below(rt: HostRuntime) -> Result<(), Fail> {
-    let mut memory = sevens(&rt)?;
-    let mut log = Log::new(rt.alloc());
-    let _ = mark(&mut log)?;
-    note(&mut log, WORD, 5)?;
-    let inner = mark(&mut log)?;
-    note(&mut log, WORD, 6)?;
-    drop_mark(&mut log, inner);
-    assert_eq!(rt; log.marks(), [0].as_slice());
-    back_to(&mut log, &mut memory, 0);
-    assert_eq!(rt; memory.load(WORD, 8), Some(5));
-    assert_eq!(rt; memory.load(OTHER, 8), Some(7));
-    Ok(())
-}
-
-#[test]
-fn words_are_undone_one_by_one(rt: HostRuntime) -> Result<(), Fail> {
-    let mut memory = sevens(&rt)?;
-    let mut log = Log::new(rt.alloc());
-    let _ = mark(&mut log)?;
-    note(&mut log, OTHER, 1)?;
-    let _ = mark(&mut log)?;
-    note(&mut log, OTHER, 2)?;
-    note(&mut log, WORD, 3)?;
-    undo_word(&mut log, &mut memory, OTHER);
-    assert_eq!(rt; memory.load(OTHER, 8), Some(1));
-    assert_eq!(rt; log.notes(), [Note { word: WORD, old: 3 }].as_slice());
-    assert_eq!(rt; log.marks(), [0, 0].as_slice());
-    undo_word(&mut log, &mut memory, OTHER);
-    assert_eq!(rt; memory.load(OTHER, 8), Some(1));
-    assert_eq!(rt; memory.load(WORD, 8), Some(7));
-    Ok(())
-}
-
-#[test]
-fn the_newest_mark_is_undone_word_by_word(rt: HostRuntime) -> Result<(), Fail> {
-    let mut memory = sevens(&rt)?;
-    let mut log = Log::new(rt.alloc());
-    let _ = mark(&mut log)?;
-    note(&mut log, WORD, 1)?;
-    let _ = mark(&mut log)?;
-    note(&mut log, OTHER, 2)?;
-    note(&mut log, WORD, 3)?;
-    for word in [Some(WORD), Some(OTHER), None] {
-        assert_eq!(rt; undo_newest(&mut log, &mut memory), word);
-    }
-    assert_eq!(rt; memory.load(WORD, 8), Some(3));
-    assert_eq!(rt; memory.load(OTHER, 8), Some(2));
-    assert_eq!(rt; log.notes(), [Note { word: WORD, old: 1 }].as_slice());
-    assert_eq!(rt; log.marks(), [0, 1].as_slice());
-    Ok(())
-}
-
-#[test]
-fn notes_in_order_and_a_log_that_starts_over(rt: HostRuntime) -> Result<(), Fail> {
-    let mut log = Log::new(rt.alloc());
-    let _ = mark(&mut log)?;
-    note(&mut log, WORD, 5)?;
-    note(&mut log, OTHER, 6)?;
-    log.order_newest();
-    let greatest_first = [
-        Note {
-            word: OTHER,
-            old: 6,
-        },
-        Note { word: WORD, old: 5 },
-    ];
-    assert_eq!(rt; log.notes(), greatest_first.as_slice());
-    if !log.marks().is_empty() {
-        log.start_over();
-    }
-    assert_eq!(rt; log.notes().len(), 0);
-    assert_eq!(rt; log.marks(), [0].as_slice());
-    Ok(())
 }
 
 fn undo_newest(log: &mut Log, memory: &mut Memory) -> Option<u64> {
@@ -194,4 +90,70 @@ fn undo_newest(log: &mut Log, memory: &mut Memory) -> Option<u64> {
     } else {
         None
     }
+}
+
+/// The word of a name.
+fn word_of(name: &str) -> u64 {
+    if name == "A" { WORD } else { OTHER }
+}
+
+/// A step that changes the log or the memory.
+fn change(
+    log: &mut Log,
+    memory: &mut Memory,
+    name: &str,
+    place: &str,
+    old: u64,
+) -> Result<(), AllocError> {
+    let number = place.parse::<usize>().unwrap_or(0);
+    match name {
+        "note" => note(log, word_of(place), old)?,
+        "drop" => drop_mark(log, number),
+        "back" => back_to(log, memory, number),
+        "undo" => undo_word(log, memory, word_of(place)),
+        "order" => log.order_newest(),
+        "clear" => log.clear(),
+        "restart" if !log.marks().is_empty() => log.start_over(),
+        _ => {}
+    }
+    Ok(())
+}
+
+/// What is asked of the log or the memory.
+fn asked(
+    alloc: Global,
+    log: &Log,
+    memory: &Memory,
+    name: &str,
+    place: &str,
+) -> Result<String, AllocError> {
+    match name {
+        "notes" => format!(in alloc; "{:?}", log.notes()),
+        "marks" => format!(in alloc; "{:?}", log.marks()),
+        _ => format!(in alloc; "{:?}", memory.load(word_of(place), 8)),
+    }
+}
+
+/// The answers to the steps that have one.
+pub fn answer(alloc: Global, steps: &str) -> Result<String, AllocError> {
+    let mut memory = sevens(alloc)?;
+    let mut log = Log::new(alloc);
+    let mut line = String::new(alloc);
+    for step in steps.split(' ') {
+        let name = field(step, ':', 0);
+        let place = field(step, ':', 1);
+        let old = field(step, ':', 2).parse::<u64>().unwrap_or(0);
+        match name {
+            "mark" => add_word(&mut line, &format!(in alloc; "{}", mark(&mut log)?)?)?,
+            "newest" => {
+                let word = undo_newest(&mut log, &mut memory);
+                add_word(&mut line, &format!(in alloc; "{word:?}")?)?;
+            }
+            "notes" | "marks" | "load" => {
+                add_word(&mut line, &asked(alloc, &log, &memory, name, place)?)?;
+            }
+            _ => change(&mut log, &mut memory, name, place, old)?,
+        }
+    }
+    Ok(line)
 }

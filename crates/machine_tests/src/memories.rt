@@ -1,10 +1,12 @@
-//! Each call on its happy path, with ample memory.
-use std::test::Fail;
+//! Memories: `memory load:65536:8 store:65537:1:255` loads eight bytes and stores one. Two cells of the globals have values.
+use crate::events::size_of;
+use case_texts::{add_word, field};
+use std::alloc::{AllocError, Global};
 use tx_events::GlobalCell;
 use tx_memory::Memory;
 
-#[test]
-fn cells_and_stacks(rt: HostRuntime) -> Result<(), Fail> {
+/// A memory of 16 bytes of globals and two stacks.
+fn two_cells(alloc: Global) -> Result<Memory, AllocError> {
     let cells = [
         GlobalCell {
             offset: 0,
@@ -17,37 +19,43 @@ fn cells_and_stacks(rt: HostRuntime) -> Result<(), Fail> {
             value: 0x0807,
         },
     ];
-    let mut memory = Memory::new(rt.alloc(), &cells, 16, 2)?;
-    // address, size, what a load answers
-    let rows = [
-        (65_536, 8, Some(0x0807_0000_0403_0201)),
-        (65_537, 1, Some(2)),
-        (65_542, 2, Some(0x0807)),
-        (65_542, 4, None),
-        (65_544, 8, Some(0)),
-        (65_551, 1, Some(0)),
-        (65_552, 1, None),
-        (65_535, 1, None),
-        (16_777_215, 1, None),
-        (16_777_216, 8, Some(0)),
-        (16_842_751, 1, Some(0)),
-        (16_842_752, 8, None),
-        (16_908_288, 4, Some(0)),
-        (17_039_360, 8, None),
-        (0, 8, None),
-    ];
-    for (addr, size, value) in rows {
-        assert_eq!(rt; memory.load(addr, size), value, "at {addr}");
+    Memory::new(alloc, &cells, 16, 2)
+}
+
+/// A store of 1, 4 or 8 bytes, and whether it was done.
+fn stored(memory: &mut Memory, addr: u64, size: &str, value: u64) -> bool {
+    match size {
+        "1" => memory.store(addr, 1, value & 0xff),
+        "4" => memory.store(addr, 4, value & 0xffff_ffff),
+        _ => memory.store(addr, 8, value),
     }
-    assert!(rt; memory.store(65_537, 1, 0xff));
-    assert!(rt; memory.store(16_908_292, 4, 0xdead_beef));
-    assert!(rt; !memory.store(65_538, 4, 1));
-    assert!(rt; !memory.store(65_552, 8, 1));
-    assert_eq!(rt; memory.load(65_536, 8), Some(0x0807_0000_0403_ff01));
-    assert_eq!(rt; memory.load(16_908_288, 8), Some(0xdead_beef_0000_0000));
-    assert_eq!(rt; memory.load(65_544, 8), Some(0));
-    let copy = memory.copy(rt.alloc())?;
-    assert!(rt; memory.store(65_536, 8, 0));
-    assert_eq!(rt; copy.load(65_536, 8), Some(0x0807_0000_0403_ff01));
-    Ok(())
+}
+
+/// A copy of the memory; then the first word of the memory itself is cleared.
+fn copied(alloc: Global, memory: &mut Memory) -> Result<Memory, AllocError> {
+    let copy = memory.copy(alloc)?;
+    memory.store(65_536, 8, 0);
+    Ok(copy)
+}
+
+/// The answers to loads and stores; behind `copy` they are those of a copy.
+pub fn answer(alloc: Global, steps: &str) -> Result<String, AllocError> {
+    let mut memory = two_cells(alloc)?;
+    let mut line = String::new(alloc);
+    for step in steps.split(' ') {
+        let name = field(step, ':', 0);
+        let addr = field(step, ':', 1).parse::<u64>().unwrap_or(0);
+        let size = field(step, ':', 2);
+        let value = field(step, ':', 3).parse::<u64>().unwrap_or(0);
+        let answer = match name {
+            "load" => format!(in alloc; "{:?}", memory.load(addr, size_of(size)))?,
+            "store" => format!(in alloc; "{}", stored(&mut memory, addr, size, value))?,
+            _ => {
+                memory = copied(alloc, &mut memory)?;
+                format!(in alloc; "copied")?
+            }
+        };
+        add_word(&mut line, &answer)?;
+    }
+    Ok(line)
 }

@@ -1,11 +1,13 @@
-//! Real closures behind policies and pickers.
+//! Policies and pickers, over real closures: `policy older 3 5 0` asks what a transaction of that age does at a clash with an
+//! older or a younger one, after so many waits.
 ghost use Rattle.std.specs.Prelude.{◌≡◌};
 
+use case_texts::field;
 use choosers::named::{clash_first, clash_next, listed, older, polite, round, yielding};
 use choosers::picker::Picker;
 use choosers::policy::{AnyRule, OlderRule, Policy};
 use choosers::{Choice, Clash, Seen};
-use std::test::Fail;
+use std::alloc::{AllocError, Global};
 use tx_events::TurnKind;
 
 /// A clash with one transaction.
@@ -21,21 +23,36 @@ fn clash(mine: u64, least: u64, waits: u32) -> Clash
     }
 }
 
-#[test]
-fn policies_answer(rt: HostRuntime) -> Result<(), Fail> {
-    let by_age: Policy<OlderRule, _> = Policy::new(|c: &Clash| older(c));
-    let at_once: Policy<AnyRule, _> = Policy::new(|c: &Clash| yielding(c));
-    let kind: Policy<AnyRule, _> = Policy::new(|c: &Clash| polite(c));
-    assert_eq!(rt; by_age.ask(&clash(3, 5, 0)), Choice::Wait);
-    assert_eq!(rt; by_age.ask(&clash(5, 3, 0)), Choice::Yield);
-    assert_eq!(rt; at_once.ask(&clash(3, 5, 0)), Choice::Yield);
-    assert_eq!(rt; kind.ask(&clash(5, 3, 7)), Choice::Wait);
-    assert_eq!(rt; kind.ask(&clash(3, 5, 8)), Choice::Yield);
-    Ok(())
+/// What a policy answers.
+fn chosen(name: &str, clash: &Clash) -> Choice {
+    match name {
+        "older" => {
+            let policy: Policy<OlderRule, _> = Policy::new(|c: &Clash| older(c));
+            policy.ask(clash)
+        }
+        "yield" => {
+            let policy: Policy<AnyRule, _> = Policy::new(|c: &Clash| yielding(c));
+            policy.ask(clash)
+        }
+        _ => {
+            let policy: Policy<AnyRule, _> = Policy::new(|c: &Clash| polite(c));
+            policy.ask(clash)
+        }
+    }
 }
 
-#[test]
-fn a_picker_changes_what_it_captures(rt: HostRuntime) -> Result<(), Fail> {
+/// What a picker sees of one thread.
+fn seen_alone(turn: u32, inside: bool) -> Seen {
+    Seen {
+        turn,
+        started: 1,
+        last: None,
+        inside,
+    }
+}
+
+/// What a picker picks that changes what it captures.
+fn picked(alloc: Global) -> Result<String, AllocError> {
     let mut last = 0u8;
     let mut picker = Picker::new(
         move |s: &Seen| {
@@ -46,70 +63,55 @@ fn a_picker_changes_what_it_captures(rt: HostRuntime) -> Result<(), Fail> {
         },
         3,
     );
-    assert_eq!(rt;
-        picker.pick(&Seen {
-            turn: 0,
-            started: 1,
-            last: None,
-            inside: false
-        }),
-        0
-    );
-    assert_eq!(rt;
-        picker.pick(&Seen {
-            turn: 1,
-            started: 1,
-            last: None,
-            inside: true
-        }),
-        1
-    );
-    assert_eq!(rt;
-        picker.pick(&Seen {
-            turn: 2,
-            started: 1,
-            last: None,
-            inside: false
-        }),
-        1
-    );
-    Ok(())
+    let first = picker.pick(&seen_alone(0, false));
+    let second = picker.pick(&seen_alone(1, true));
+    let third = picker.pick(&seen_alone(2, false));
+    format!(in alloc; "{first} {second} {third}")
 }
 
-#[test]
-fn named_pickers_pick(rt: HostRuntime) -> Result<(), Fail> {
+/// What is seen of three threads behind seven turns.
+fn seen_behind(last: TurnKind, inside: bool) -> Seen
+    ensures { result.started ≡ 3 }
+{
+    Seen {
+        turn: 7,
+        started: 3,
+        last: Some(last),
+        inside,
+    }
+}
+
+/// What the pickers pick that have names.
+fn named(alloc: Global) -> Result<String, AllocError> {
     let first = Seen {
         turn: 0,
         started: 3,
         last: None,
         inside: false,
     };
-    let done = Seen {
-        turn: 7,
-        started: 3,
-        last: Some(TurnKind::Ran),
-        inside: false,
-    };
-    let within = Seen {
-        turn: 7,
-        started: 3,
-        last: Some(TurnKind::Ran),
-        inside: true,
-    };
-    let idle = Seen {
-        turn: 7,
-        started: 3,
-        last: Some(TurnKind::Idle),
-        inside: false,
-    };
-    assert_eq!(rt; round(1, &first), 0);
-    assert_eq!(rt; round(1, &done), 1);
-    assert_eq!(rt; round(4, &done), 1);
-    assert_eq!(rt; clash_first(&first), 0);
-    assert_eq!(rt; clash_next(2, &done), 2);
-    assert_eq!(rt; clash_next(2, &within), 0);
-    assert_eq!(rt; clash_next(0, &idle), 1);
-    assert_eq!(rt; listed(&[2, 1, 0], &first), Some(2));
-    assert_eq!(rt; listed(&[2, 1, 0], &done), None);
-    Ok(())
+    let done = seen_behind(TurnKind::Ran, false);
+    let lists = [listed(&[2, 1, 0], &first), listed(&[2, 1, 0], &done)];
+    format!(in alloc;
+        "{} {} {} {} {} {} {} {lists:?}",
+        round(1, &first),
+        round(1, &done),
+        round(4, &done),
+        clash_first(&first),
+        clash_next(2, &done),
+        clash_next(2, &seen_behind(TurnKind::Ran, true)),
+        clash_next(0, &seen_behind(TurnKind::Idle, false))
+    )
+}
+
+/// The answer to a word.
+pub fn answer(alloc: Global, word: &str, rest: &str) -> Result<String, AllocError> {
+    let name = field(rest, ' ', 0);
+    let mine = field(rest, ' ', 1).parse::<u64>().unwrap_or(0);
+    let least = field(rest, ' ', 2).parse::<u64>().unwrap_or(0);
+    let waits = field(rest, ' ', 3).parse::<u32>().unwrap_or(0);
+    match word {
+        "policy" => format!(in alloc; "{:?}", chosen(name, &clash(mine, least, waits))),
+        "picker" => picked(alloc),
+        _ => named(alloc),
+    }
 }

@@ -1,13 +1,12 @@
-//! Runs of lists of events.
+//! Runs of lists of events: `run 24` is a run of two threads that may take 24 turns.
 use choosers::named::older;
 use choosers::picker::Picker;
 use choosers::policy::{OlderRule, Policy};
 use choosers::{Clash, Seen};
 use std::alloc::{AllocError, Global};
-use std::test::Fail;
 use tx_events::script::Script;
 use tx_events::{BlockKind, End, Event, THREAD_LIMIT, Trap};
-use tx_machine::{Counts, Finished, Unwatched, run_actor};
+use tx_machine::{Finished, Unwatched, run_actor};
 use tx_memory::Memory;
 
 /// The end of the run below.
@@ -68,42 +67,33 @@ fn crossed_words(alloc: Global, bound: u32) -> Result<Finished<Script>, AllocErr
     )
 }
 
-#[test]
-fn a_run_and_its_record(rt: HostRuntime) -> Result<(), Fail> {
-    let finished = crossed_words(rt.alloc(), 100)?;
-    assert_eq!(rt; finished.out().len(), 0);
-    assert_eq!(rt;
-        finished.counts(),
-        Counts {
-            ran: 17,
-            waited: 2,
-            rolled: 3,
-            idle: 3
-        }
-    );
-    assert_eq!(rt; finished.order(), [0, 1, 1, 0, 0].as_slice());
-    let ran = finished.into_ran::<u8>(rt.alloc(), Some(5))?;
-    assert_eq!(rt; ran.end, OVERFLOW);
-    assert_eq!(rt; ran.order.len(), 5);
-    assert_eq!(rt; ran.picked.len(), 25);
-    assert_eq!(rt; ran.rolled, 3);
-    assert_eq!(rt; ran.place, Some(5));
-    Ok(())
+/// How the run ends, how many turns there were, and whether a thread trapped.
+pub fn ended(alloc: Global, bound: u32) -> Result<String, AllocError> {
+    let finished = crossed_words(alloc, bound)?;
+    let turns = finished.picked().len();
+    format!(in alloc;
+        "{:?} {turns} {}",
+        finished.end(),
+        finished.place().is_some()
+    )
 }
 
-#[test]
-fn runs_stop_at_the_bound(rt: HostRuntime) -> Result<(), Fail> {
-    let rows = [
-        (0, End::StepsOut, 0),
-        (24, End::StepsOut, 24),
-        (25, OVERFLOW, 25),
-        (26, OVERFLOW, 25),
-    ];
-    for (bound, end, turns) in rows {
-        let finished = crossed_words(rt.alloc(), bound)?;
-        assert_eq!(rt; finished.end(), end);
-        assert_eq!(rt; finished.picked().len(), turns);
-        assert_eq!(rt; finished.place().is_some(), turns == 25);
-    }
-    Ok(())
+/// The run and its record.
+pub fn recorded(alloc: Global) -> Result<String, AllocError> {
+    let finished = crossed_words(alloc, 100)?;
+    let run = format!(in alloc;
+        "{} {:?} {:?}",
+        finished.out().len(),
+        finished.counts(),
+        finished.order()
+    )?;
+    let ran = finished.into_ran::<u8>(alloc, Some(5))?;
+    format!(in alloc;
+        "{run}, {:?} {} {} {} {:?}",
+        ran.end,
+        ran.order.len(),
+        ran.picked.len(),
+        ran.rolled,
+        ran.place
+    )
 }

@@ -1,52 +1,21 @@
-//! Worked runs of lists of events, with one policy or another.
-ghost use Rattle.std.specs.Prelude.{◌≡◌, ◌<◌, ◌≤◌, true, false, length, IfOk};
+//! Worked runs of lists of events, with one policy or another: `turns crossed older 2 | 0 0 1 | order load:65536` takes three
+//! turns of two threads, and asks for the order and a word.
+ghost use Rattle.std.specs.Prelude.{◌≡◌, ◌<◌, ◌≤◌, true, length, IfOk};
 ghost use Rattle.std.specs.Fn.{FnReturnsAt};
 ghost use Rattle.choosers.specs.Answers.{KeepsRule};
 ghost use Rattle.tx_events.specs.Script.{is_lawful};
-ghost use Rattle.tx_events.specs.declared.Event.TheVariants.{Load, Store};
 ghost use Rattle.tx_runtime.specs.Runtime.{machine_of, limit_of};
 
+use crate::events::events_of;
+use case_texts::{add_word, field};
 use choosers::named::{older, polite};
 use choosers::policy::{AnyRule, OlderRule, Policy, Rule};
 use choosers::{Choice, Clash};
-use own_table::Mode;
 use std::alloc::{AllocError, Global};
-use std::process::Abort;
-use std::test::Fail;
 use tx_events::script::Script;
-use tx_events::{Actor, BlockKind, End, Event, Trap, TurnKind};
+use tx_events::{Actor, Event};
 use tx_memory::Memory;
 use tx_runtime::Runtime;
-
-/// The first words of the globals.
-const A: u64 = 65_536;
-
-const B: u64 = 65_544;
-
-const BLOCK: Event = Event::BeginAtomic {
-    kind: BlockKind::NoExcept,
-};
-
-fn load(addr: u64) -> Event
-    ensures { result ≡ Load addr 8 false }
-{
-    Event::Load {
-        addr,
-        size: 8,
-        volatile: false,
-    }
-}
-
-fn store(addr: u64, value: u64) -> Event
-    ensures { result ≡ Store addr 8 value false }
-{
-    Event::Store {
-        addr,
-        size: 8,
-        value,
-        volatile: false,
-    }
-}
 
 /// The runtime before the first of these events, with two words of globals and one byte of input.
 fn start(alloc: Global, events: Vec<Event>, threads: u8) -> Result<Runtime<Script>, AllocError>
@@ -62,346 +31,118 @@ fn start(alloc: Global, events: Vec<Event>, threads: u8) -> Result<Runtime<Scrip
     Runtime::new(alloc, Script::new(events), memory, input, threads)
 }
 
-/// Takes these turns, each of which is of its kind.
+/// Takes these turns while the program goes on, and writes what each was.
 fn take_turns<R: Rule, F: Fn(&Clash) -> Choice>(
-    rt: &impl Abort,
+    alloc: Global,
     runtime: &mut Runtime<Script>,
     policy: &Policy<R, F>,
     threads: u8,
-    rows: &[(u8, TurnKind)],
-) -> Result<(), Fail>
-    requires few { length rows.now ≤ 100 }
+    turns: &[u8],
+) -> Result<String, AllocError>
+    requires few { length turns.now ≤ 100 }
     requires limit { limit_of runtime.old ≡ threads }
     requires births { (machine_of runtime.old).births ≡ 0 }
     requires depth { (machine_of runtime.old).lock.depth ≡ 0 }
     requires keeps { KeepsRule (F.IsAlwaysCallable policy.now.answer) (FnReturnsAt F.Fn policy.now.answer) R.allows }
 {
-    for n in 0..rows.len() {
-        let (t, kind) = rows[n];
-        assert!(rt; t < threads);
-        assert_eq!(rt; runtime.end(), None);
+    let mut line = String::new(alloc);
+    for n in 0..turns.len() {
+        let t = turns[n];
         if t < threads {
             if runtime.end().is_none() {
-                assert_eq!(rt; runtime.turn(t, policy)?, kind, "turn {n}");
+                let kind = runtime.turn(t, policy)?;
+                line.push_str(&format!(in alloc; "{kind:?}, ")?)?;
             }
         }
     }
-    Ok(())
+    Ok(line)
 }
 
-#[test]
-fn the_turn_table(rt: HostRuntime) -> Result<(), Fail> {
-    let events = vec![in rt.alloc();
-        Event::Spawn { func: 6, arg: 0 },
-        BLOCK,
-        store(A, 1),
-        store(B, 2),
-        Event::EndAtomic,
-        Event::Silent,
-        BLOCK,
-        store(B, 3),
-        store(A, 4),
-        Event::EndAtomic,
-        Event::Done,
-    ]?;
-    let policy: Policy<OlderRule, _> = Policy::new(|c: &Clash| older(c));
-    let mut runtime = start(rt.alloc(), events, 2)?;
-    let rows = [
-        (0, TurnKind::Ran),
-        (0, TurnKind::Ran),
-        (1, TurnKind::Ran),
-        (0, TurnKind::Ran),
-        (1, TurnKind::Ran),
-        (0, TurnKind::Waited { word: B, holder: 1 }),
-        (1, TurnKind::Rolled { word: A, holder: 0 }),
-        (1, TurnKind::Undone { word: B }),
-        (0, TurnKind::Ran),
-        (0, TurnKind::Ran),
-        (0, TurnKind::Released { word: A }),
-        (0, TurnKind::Released { word: B }),
-        (1, TurnKind::Ran),
-        (1, TurnKind::Ran),
-        (1, TurnKind::Ran),
-    ];
-    take_turns(&rt, &mut runtime, &policy, 2, &rows)?;
-    assert_eq!(rt; runtime.order(), [0, 0, 1].as_slice());
-    assert_eq!(rt; runtime.memory().load(A, 8), Some(4));
-    assert_eq!(rt; runtime.memory().load(B, 8), Some(3));
-    Ok(())
-}
-
-#[test]
-fn a_cancel_word_by_word(rt: HostRuntime) -> Result<(), Fail> {
-    let kind = BlockKind::Cancel;
-    let events = vec![in rt.alloc();
-        Event::BeginAtomic { kind },
-        store(A, 1),
-        store(B, 2),
-        Event::Raise {
-            kind,
-            cancels: true
-        },
-        Event::Out { byte: 7 },
-        Event::Inp,
-        Event::Stop { end: End::Exit(3) },
-    ]?;
-    let policy: Policy<OlderRule, _> = Policy::new(|c: &Clash| older(c));
-    let mut runtime = start(rt.alloc(), events, 1)?;
-    let rows = [
-        (0, TurnKind::Ran),
-        (0, TurnKind::Ran),
-        (0, TurnKind::Ran),
-        (0, TurnKind::Undone { word: A }),
-        (0, TurnKind::Undone { word: B }),
-        (0, TurnKind::Ran),
-        (0, TurnKind::Released { word: A }),
-        (0, TurnKind::Released { word: B }),
-        (0, TurnKind::Ran),
-        (0, TurnKind::Ran),
-        (0, TurnKind::Ran),
-    ];
-    take_turns(&rt, &mut runtime, &policy, 1, &rows)?;
-    assert_eq!(rt; runtime.order(), [0, 0, 0, 0].as_slice());
-    assert_eq!(rt; runtime.out(), [7].as_slice());
-    assert_eq!(rt; runtime.end(), Some(End::Exit(3)));
-    Ok(())
-}
-
-#[test]
-fn readers_share_and_a_writer_waits(rt: HostRuntime) -> Result<(), Fail> {
-    let events = vec![in rt.alloc();
-        Event::Spawn { func: 6, arg: 0 },
-        Event::Spawn { func: 10, arg: 0 },
-        BLOCK,
-        load(A),
-        Event::EndAtomic,
-        Event::Done,
-        BLOCK,
-        load(A),
-        Event::EndAtomic,
-        Event::Done,
-        BLOCK,
-        store(A, 5),
-        Event::EndAtomic,
-        Event::Done,
-    ]?;
-    let policy: Policy<OlderRule, _> = Policy::new(|c: &Clash| older(c));
-    let mut runtime = start(rt.alloc(), events, 3)?;
-    let rows = [
-        (0, TurnKind::Ran),
-        (0, TurnKind::Ran),
-        (2, TurnKind::Ran),
-        (0, TurnKind::Ran),
-        (1, TurnKind::Ran),
-        (0, TurnKind::Ran),
-        (1, TurnKind::Ran),
-        (2, TurnKind::Waited { word: A, holder: 0 }),
-        (0, TurnKind::Ran),
-        (2, TurnKind::Waited { word: A, holder: 0 }),
-        (0, TurnKind::Released { word: A }),
-        (2, TurnKind::Waited { word: A, holder: 1 }),
-        (1, TurnKind::Ran),
-        (1, TurnKind::Released { word: A }),
-        (2, TurnKind::Ran),
-    ];
-    take_turns(&rt, &mut runtime, &policy, 3, &rows)?;
-    assert_eq!(rt; runtime.started(), 3);
-    assert!(rt; runtime.inside(2));
-    assert!(rt; !runtime.inside(1));
-    assert_eq!(rt; runtime.holders().holds(A, 2), Some(Mode::Write));
-    assert_eq!(rt; runtime.holders().holds(A, 1), None);
-    assert_eq!(rt; runtime.log(2).marks(), [0].as_slice());
-    assert_eq!(rt; runtime.log(2).notes().len(), 1);
-    assert_eq!(rt; runtime.log(1).marks().len(), 0);
-    assert!(rt; runtime.actor(2).is_some());
-    assert!(rt; runtime.actor(3).is_none());
-    Ok(())
-}
-
-#[test]
-fn a_block_in_a_synchronized_block(rt: HostRuntime) -> Result<(), Fail> {
-    let events = vec![in rt.alloc();
-        Event::Spawn { func: 10, arg: 0 },
-        Event::BeginSync,
-        BLOCK,
-        store(A, 1),
-        Event::EndAtomic,
-        Event::EndSync,
-        Event::BeginSync,
-        Event::EndSync,
-        Event::Join { id: 1 },
-        Event::Done,
-        BLOCK,
-        store(B, 2),
-        Event::EndAtomic,
-        Event::Done,
-    ]?;
-    let policy: Policy<OlderRule, _> = Policy::new(|c: &Clash| older(c));
-    let mut runtime = start(rt.alloc(), events, 2)?;
-    let rows = [
-        (0, TurnKind::Ran),
-        (0, TurnKind::Ran),
-        (1, TurnKind::BlockWait { holder: 0 }),
-        (0, TurnKind::Ran),
-        (0, TurnKind::Ran),
-        (0, TurnKind::Ran),
-        (0, TurnKind::Released { word: A }),
-        (0, TurnKind::Ran),
-        (1, TurnKind::Ran),
-        (0, TurnKind::BlockWait { holder: 1 }),
-        (1, TurnKind::Ran),
-        (1, TurnKind::Ran),
-        (0, TurnKind::Ran),
-        (1, TurnKind::Released { word: B }),
-        (0, TurnKind::Ran),
-        (0, TurnKind::JoinWait { id: 1 }),
-        (1, TurnKind::Ran),
-        (0, TurnKind::Ran),
-        (1, TurnKind::Idle),
-    ];
-    take_turns(&rt, &mut runtime, &policy, 2, &rows)?;
-    assert_eq!(rt; runtime.order(), [0, 0, 0, 0, 1, 0, 0, 1, 0].as_slice());
-    Ok(())
-}
-
-#[test]
-fn polite_yields_after_eight_waits(rt: HostRuntime) -> Result<(), Fail> {
-    let events = vec![in rt.alloc();
-        Event::Spawn { func: 4, arg: 0 },
-        BLOCK,
-        store(A, 1),
-        Event::EndAtomic,
-        BLOCK,
-        store(A, 2),
-        Event::EndAtomic,
-    ]?;
-    let policy: Policy<AnyRule, _> = Policy::new(|c: &Clash| polite(c));
-    let mut runtime = start(rt.alloc(), events, 2)?;
-    let waits = TurnKind::Waited { word: A, holder: 0 };
-    let rows = [
-        (0, TurnKind::Ran),
-        (0, TurnKind::Ran),
-        (0, TurnKind::Ran),
-        (1, TurnKind::Ran),
-        (1, waits),
-        (1, waits),
-        (1, waits),
-        (1, waits),
-        (1, waits),
-        (1, waits),
-        (1, waits),
-        (1, waits),
-        (1, TurnKind::Rolled { word: A, holder: 0 }),
-        (1, waits),
-    ];
-    take_turns(&rt, &mut runtime, &policy, 2, &rows)
-}
-
-/// One turn of each thread, in turn, at which it goes on.
-fn one_turn_each(alloc: Global, threads: u8) -> Result<Vec<(u8, TurnKind)>, AllocError>
-    ensures { IfOk result (λ rows. length rows.items ≡ threads) }
-{
-    let mut rows = Vec::new(alloc);
-    for t in 0..threads {
-        rows.push((t, TurnKind::Ran))?;
+/// What is asked of a thread that was started.
+fn of_thread(
+    alloc: Global,
+    runtime: &Runtime<Script>,
+    name: &str,
+    t: u8,
+    word: u64,
+) -> Result<String, AllocError> {
+    if t >= runtime.started() {
+        return format!(in alloc; "{}", runtime.actor(t).is_some());
     }
-    Ok(rows)
+    match name {
+        "inside" => format!(in alloc; "{}", runtime.inside(t)),
+        "holds" => format!(in alloc; "{:?}", runtime.holders().holds(word, t)),
+        "marks" => format!(in alloc; "{:?}", runtime.log(t).marks()),
+        "notes" => format!(in alloc; "{}", runtime.log(t).notes().len()),
+        _ => format!(in alloc; "{}", runtime.actor(t).is_some()),
+    }
 }
 
-#[test]
-fn sixty_four_threads_and_no_more(rt: HostRuntime) -> Result<(), Fail> {
-    // Each thread starts the next one.
-    let events = vec![in rt.alloc(); Event::Spawn { func: 0, arg: 0 }]?;
-    let policy: Policy<OlderRule, _> = Policy::new(|c: &Clash| older(c));
-    let mut runtime = start(rt.alloc(), events, 64)?;
-    let rows = one_turn_each(rt.alloc(), 64)?;
-    take_turns(&rt, &mut runtime, &policy, 64, &rows)?;
-    assert_eq!(rt; runtime.started(), 64);
-    assert_eq!(rt; runtime.end(), Some(End::Trapped(Trap::TooManyThreads)));
-    Ok(())
+/// What is asked behind the turns: a name, and behind colons a thread or a word, and a word.
+fn asked(alloc: Global, runtime: &Runtime<Script>, text: &str) -> Result<String, AllocError> {
+    let name = field(text, ':', 0);
+    let number = field(text, ':', 1).parse::<u64>().unwrap_or(0);
+    let word = field(text, ':', 2).parse::<u64>().unwrap_or(0);
+    match name {
+        "order" => format!(in alloc; "{:?}", runtime.order()),
+        "out" => format!(in alloc; "{:?}", runtime.out()),
+        "end" => format!(in alloc; "{:?}", runtime.end()),
+        "started" => format!(in alloc; "{}", runtime.started()),
+        "load" => format!(in alloc; "{:?}", runtime.memory().load(number, 8)),
+        _ => of_thread(
+            alloc,
+            runtime,
+            name,
+            u8::try_from(number).unwrap_or(0),
+            word,
+        ),
+    }
 }
 
-/// The program's end after this number of turns of the only thread.
-fn ends(
-    rt: &impl Abort,
+/// The threads of the turns.
+fn turns_of(alloc: Global, text: &str) -> Result<Vec<u8>, AllocError> {
+    let mut turns = Vec::new(alloc);
+    for word in text.split(' ') {
+        turns.push(word.parse::<u8>().unwrap_or(0))?;
+    }
+    Ok(turns)
+}
+
+/// The kinds of the turns, and what is asked behind them.
+fn told<R: Rule, F: Fn(&Clash) -> Choice>(
     alloc: Global,
     events: Vec<Event>,
-    rows: &[(u8, TurnKind)],
-    end: End,
-) -> Result<(), Fail>
+    policy: &Policy<R, F>,
+    threads: u8,
+    case: &str,
+) -> Result<String, AllocError>
     requires lawful { is_lawful events.items ≡ true }
-    requires few { length rows.now ≤ 100 }
+    requires keeps { KeepsRule (F.IsAlwaysCallable policy.now.answer) (FnReturnsAt F.Fn policy.now.answer) R.allows }
 {
-    let policy: Policy<OlderRule, _> = Policy::new(|c: &Clash| older(c));
-    let mut runtime = start(alloc, events, 1)?;
-    take_turns(rt, &mut runtime, &policy, 1, rows)?;
-    assert_eq!(rt; runtime.end(), Some(end));
-    Ok(())
+    let (turns, questions) = case.split_once(" | ").unwrap_or((case, ""));
+    let turns = turns_of(alloc, turns)?;
+    if threads == 0 || threads > 64 || turns.len() > 100 {
+        return format!(in alloc; "too many");
+    }
+    let mut runtime = start(alloc, events, threads)?;
+    let mut line = take_turns(alloc, &mut runtime, policy, threads, &turns)?;
+    for question in questions.split(' ') {
+        let answer = asked(alloc, &runtime, question)?;
+        add_word(&mut line, &answer)?;
+    }
+    Ok(line)
 }
 
-#[test]
-fn each_trap(rt: HostRuntime) -> Result<(), Fail> {
-    let alloc = rt.alloc();
-    let one = [(0, TurnKind::Ran)];
-    let two = [(0, TurnKind::Ran), (0, TurnKind::Ran)];
-    let address = End::Trapped(Trap::BadAddress);
-    let join = End::Trapped(Trap::BadJoin);
-    ends(&rt, alloc, vec![in alloc; load(A + 4)]?, &one, address)?;
-    ends(&rt, alloc, vec![in alloc; store(A - 8, 1)]?, &one, address)?;
-    ends(
-        &rt,
-        alloc,
-        vec![in alloc; BLOCK, load(B + 8)]?,
-        &two,
-        address,
-    )?;
-    ends(
-        &rt,
-        alloc,
-        vec![in alloc; BLOCK, store(B + 1, 1)]?,
-        &two,
-        address,
-    )?;
-    ends(
-        &rt,
-        alloc,
-        vec![in alloc; Event::Join { id: 0 }]?,
-        &one,
-        join,
-    )?;
-    ends(
-        &rt,
-        alloc,
-        vec![in alloc; Event::Join { id: 1 }]?,
-        &one,
-        join,
-    )?;
-    ends(
-        &rt,
-        alloc,
-        vec![in alloc; Event::Join { id: -1 }]?,
-        &one,
-        join,
-    )?;
-    ends(
-        &rt,
-        alloc,
-        vec![in alloc; Event::Spawn { func: 0, arg: 0 }]?,
-        &one,
-        End::Trapped(Trap::TooManyThreads),
-    )?;
-    let kind = BlockKind::Cancel;
-    ends(
-        &rt,
-        alloc,
-        vec![in alloc;
-            Event::BeginAtomic { kind },
-            Event::Raise {
-                kind,
-                cancels: false
-            },
-        ]?,
-        &two,
-        End::Abort,
-    )
+/// The answer to a case: a list of events, a policy and a number of threads, turns and questions.
+pub fn answer(alloc: Global, case: &str) -> Result<String, AllocError> {
+    let (head, rest) = case.split_once(" | ").unwrap_or((case, ""));
+    let events = events_of(alloc, field(head, ' ', 0))?;
+    let name = field(head, ' ', 1);
+    let threads = field(head, ' ', 2).parse::<u8>().unwrap_or(1);
+    if name == "polite" {
+        let policy: Policy<AnyRule, _> = Policy::new(|c: &Clash| polite(c));
+        return told(alloc, events, &policy, threads, rest);
+    }
+    let policy: Policy<OlderRule, _> = Policy::new(|c: &Clash| older(c));
+    told(alloc, events, &policy, threads, rest)
 }

@@ -1,11 +1,10 @@
-//! A plain, slow replay of lists of events, byte by byte and with copies of all memory, compared with worlds made by
-//! hand.
-ghost use Rattle.std.specs.Prelude.{◌≡◌, true};
-ghost use Rattle.tx_events.specs.Script.{is_lawful};
+//! A plain, slow replay of lists of events, byte by byte and with copies of all memory: `world commits 0 0 0 0` replays the
+//! events of that name in this order. Each entry is enabled or not; then come the first bytes, the output, how much of the
+//! input was taken, and the end.
 
+use crate::events::events_of;
+use case_texts::add_word;
 use std::alloc::{AllocError, Global};
-use std::process::Abort;
-use std::test::*;
 use tx_events::script::Script;
 use tx_events::{Actor, BlockKind, End, Event, Reply, Trap};
 
@@ -247,348 +246,38 @@ impl Plain {
     }
 }
 
-/// A world made by hand: the first bytes, the output, how much input was taken, and the end.
-#[derive(Clone, Copy)]
-struct Hand {
-    bytes: [u8; 8],
-    out: &'static [u8],
-    taken: usize,
-    end: Option<End>,
-}
-
-/// Replays the order, in which each entry says whether it is enabled, and compares the world with that made by hand.
-fn compare(
-    rt: &impl Abort,
-    alloc: Global,
-    events: Vec<Event>,
-    order: &[(usize, bool)],
-    hand: &Hand,
-) -> Result<(), Fail>
-    requires { is_lawful events.items ≡ true }
-{
-    let mut plain = Plain::new(alloc, Script::new(events), &[7, 9], 2)?;
-    for (t, enabled) in order.iter() {
-        assert_eq!(rt; plain.step(alloc, *t)?, *enabled, "thread {t}");
+/// The plain replay of an order.
+pub fn answer(alloc: Global, case: &str) -> Result<String, AllocError> {
+    let (name, order) = case.split_once(' ').unwrap_or((case, ""));
+    let main = Script::new(events_of(alloc, name)?);
+    let mut plain = Plain::new(alloc, main, &[7, 9], 2)?;
+    let mut line = String::new(alloc);
+    for entry in order.split(' ') {
+        let is_enabled = plain.step(alloc, entry.parse::<usize>().unwrap_or(9))?;
+        add_word(&mut line, if is_enabled { "yes" } else { "no" })?;
     }
-    assert_eq!(rt; plain.bytes.get(..8), Some(hand.bytes.as_slice()));
-    assert_eq!(rt; plain.out.as_slice(), hand.out);
-    assert_eq!(rt; plain.taken, hand.taken);
-    assert_eq!(rt; plain.end, hand.end);
-    Ok(())
-}
-
-#[test]
-fn a_block_commits(rt: HostRuntime) -> Result<(), Fail> {
-    let events = vec![in rt.alloc();
-        Event::Silent,
-        Event::BeginAtomic {
-            kind: BlockKind::NoExcept
-        },
-        Event::Store {
-            addr: 65536,
-            size: 2,
-            value: 0x0102,
-            volatile: false
-        },
-        Event::Load {
-            addr: 65536,
-            size: 1,
-            volatile: false
-        },
-        Event::BeginSync,
-        Event::Store {
-            addr: 65540,
-            size: 4,
-            value: 0x03040506,
-            volatile: false
-        },
-        Event::EndSync,
-        Event::EndAtomic,
-        Event::Out { byte: 65 },
-        Event::Stop { end: End::Exit(3) },
-    ]?;
-    let hand = Hand {
-        bytes: [2, 1, 0, 0, 6, 5, 4, 3],
-        out: b"A",
-        taken: 0,
-        end: Some(End::Exit(3)),
-    };
-    compare(
-        &rt,
-        rt.alloc(),
-        events,
-        &[(0, true), (0, true), (0, true), (0, false)],
-        &hand,
+    let bytes = plain.bytes.get(..8).unwrap_or(b"");
+    let out = plain.out.escape_ascii();
+    format!(in alloc;
+        "{line} {bytes:?} out {out} taken {} {:?}",
+        plain.taken, plain.end
     )
 }
 
-#[test]
-fn one_block_cancels_inside_another(rt: HostRuntime) -> Result<(), Fail> {
-    let events = vec![in rt.alloc();
-        Event::BeginAtomic {
-            kind: BlockKind::Commit
-        },
-        Event::Store {
-            addr: 65536,
-            size: 1,
-            value: 1,
-            volatile: false
-        },
-        Event::BeginAtomic {
-            kind: BlockKind::Cancel
-        },
-        Event::Store {
-            addr: 65536,
-            size: 1,
-            value: 2,
-            volatile: false
-        },
-        Event::Store {
-            addr: 65537,
-            size: 1,
-            value: 3,
-            volatile: false
-        },
-        Event::Raise {
-            kind: BlockKind::Cancel,
-            cancels: true
-        },
-        Event::Store {
-            addr: 65538,
-            size: 1,
-            value: 4,
-            volatile: false
-        },
-        Event::Raise {
-            kind: BlockKind::Commit,
-            cancels: true
-        },
-        Event::Store {
-            addr: 65539,
-            size: 1,
-            value: 5,
-            volatile: true
-        },
-    ]?;
-    let hand = Hand {
-        bytes: [1, 0, 4, 5, 0, 0, 0, 0],
-        out: b"",
-        taken: 0,
-        end: None,
-    };
-    compare(&rt, rt.alloc(), events, &[(0, true), (0, true)], &hand)
-}
-
-#[test]
-fn a_block_aborts(rt: HostRuntime) -> Result<(), Fail> {
-    for (kind, cancels) in [(BlockKind::NoExcept, true), (BlockKind::Cancel, false)] {
-        let events = vec![in rt.alloc();
-            Event::Out { byte: 66 },
-            Event::BeginAtomic { kind },
-            Event::Raise { kind, cancels },
-            Event::Out { byte: 67 },
-        ]?;
-        let hand = Hand {
-            bytes: [0; 8],
-            out: b"B",
-            taken: 0,
-            end: Some(End::Abort),
-        };
-        compare(
-            &rt,
-            rt.alloc(),
-            events,
-            &[(0, true), (0, true), (0, false)],
-            &hand,
-        )?;
-    }
-    Ok(())
-}
-
-#[test]
-fn a_synchronized_block_beside_a_thread(rt: HostRuntime) -> Result<(), Fail> {
-    let events = vec![in rt.alloc();
-        Event::Spawn { func: 8, arg: 0 },
-        Event::BeginSync,
-        Event::Store {
-            addr: 65536,
-            size: 8,
-            value: 0x0807060504030201,
-            volatile: false
-        },
-        Event::BeginSync,
-        Event::EndSync,
-        Event::EndSync,
-        Event::Join { id: 1 },
-        Event::Stop { end: End::Exit(0) },
-        Event::BeginAtomic {
-            kind: BlockKind::NoExcept
-        },
-        Event::Store {
-            addr: 65542,
-            size: 2,
-            value: 0,
-            volatile: false
-        },
-        Event::EndAtomic,
-        Event::BeginSync,
-        Event::EndSync,
-        Event::Done,
-    ]?;
-    let hand = Hand {
-        bytes: [1, 2, 3, 4, 5, 6, 0, 0],
-        out: b"",
-        taken: 0,
-        end: Some(End::Exit(0)),
-    };
-    let order = [
-        (1, false),
-        (0, true),
-        (0, true),
-        (1, false),
-        (0, true),
-        (0, true),
-        (0, true),
-        (1, false),
-        (0, true),
-        (0, false),
-        (1, true),
-        (1, true),
-        (1, true),
-        (0, false),
-        (1, true),
-        (1, false),
-        (0, true),
-        (0, true),
-    ];
-    compare(&rt, rt.alloc(), events, order.as_slice(), &hand)
-}
-
-#[test]
-fn joins_of_bad_numbers(rt: HostRuntime) -> Result<(), Fail> {
-    for id in [0, -1, 1, 63] {
-        let events = vec![in rt.alloc(); Event::Join { id }]?;
-        let hand = Hand {
-            bytes: [0; 8],
-            out: b"",
-            taken: 0,
-            end: Some(End::Trapped(Trap::BadJoin)),
-        };
-        compare(&rt, rt.alloc(), events, &[(0, true), (0, false)], &hand)?;
-    }
-    let own = vec![in rt.alloc(); Event::Spawn { func: 1, arg: 0 }, Event::Join { id: 1 }]?;
-    let hand = Hand {
-        bytes: [0; 8],
-        out: b"",
-        taken: 0,
-        end: Some(End::Trapped(Trap::BadJoin)),
-    };
-    compare(
-        &rt,
-        rt.alloc(),
-        own,
-        &[(0, true), (1, true), (0, false)],
-        &hand,
-    )
-}
-
-#[test]
-fn traps_of_accesses_and_threads(rt: HostRuntime) -> Result<(), Fail> {
-    for (addr, size) in [(65535, 1), (65537, 2), (65540, 8), (65552, 1)] {
-        let events = vec![in rt.alloc();
-            Event::Load {
-                addr,
-                size,
-                volatile: true
-            },
-        ]?;
-        let hand = Hand {
-            bytes: [0; 8],
-            out: b"",
-            taken: 0,
-            end: Some(End::Trapped(Trap::BadAddress)),
-        };
-        compare(&rt, rt.alloc(), events, &[(0, true), (0, false)], &hand)?;
-    }
-    let events = vec![in rt.alloc(); Event::Spawn { func: 0, arg: 0 }]?;
-    let hand = Hand {
-        bytes: [0; 8],
-        out: b"",
-        taken: 0,
-        end: Some(End::Trapped(Trap::TooManyThreads)),
-    };
-    compare(
-        &rt,
-        rt.alloc(),
-        events,
-        &[(0, true), (0, false), (1, true), (0, false)],
-        &hand,
-    )
-}
-
-#[test]
-fn output_and_input_in_order(rt: HostRuntime) -> Result<(), Fail> {
-    let events = vec![in rt.alloc();
-        Event::Out { byte: 72 },
-        Event::Inp,
-        Event::Out { byte: 73 },
-        Event::Inp,
-        Event::Inp,
-        Event::Out { byte: 74 },
-    ]?;
-    let hand = Hand {
-        bytes: [0; 8],
-        out: b"HIJ",
-        taken: 2,
-        end: None,
-    };
-    compare(
-        &rt,
-        rt.alloc(),
-        events,
-        &[
-            (0, true),
-            (0, true),
-            (0, true),
-            (0, true),
-            (0, true),
-            (0, true),
-            (0, false),
-        ],
-        &hand,
-    )
-}
-
-#[test]
-fn a_list_is_kept_and_gone_back_to(rt: HostRuntime) -> Result<(), Fail> {
-    let events = vec![in rt.alloc();
-        Event::Load {
-            addr: 65536,
-            size: 1,
-            volatile: false
-        },
-        Event::Out { byte: 1 },
-    ]?;
-    let mut script = Script::new(events);
+/// A list that is kept, gone on with, and gone back to: what comes next each time.
+pub fn kept(alloc: Global) -> Result<String, AllocError> {
+    let mut script = Script::new(events_of(alloc, "kept")?);
     let kept = script.save()?;
     let copy = script.copy_saved(&kept)?;
     script.ready()?;
     script.take(Reply::Loaded { value: 255 });
-    assert_eq!(rt; script.next(), Event::Out { byte: 1 });
+    let second = script.next();
     script.restore(kept);
-    assert_eq!(rt;
-        script.next(),
-        Event::Load {
-            addr: 65536,
-            size: 1,
-            volatile: false
-        }
-    );
+    let first = script.next();
     script.restore(copy);
     script.ready()?;
     script.take(Reply::Loaded { value: 0 });
     script.ready()?;
     script.take(Reply::Nothing);
-    assert_eq!(rt; script.next(), Event::Silent);
-    Ok(())
+    format!(in alloc; "{second:?}, {first:?}, {:?}", script.next())
 }
