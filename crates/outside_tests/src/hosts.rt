@@ -1,99 +1,89 @@
-// Each host once, with ample memory.
+// Hosts: `steady a=hello | read a 10` is a host whose calls do not fail, with a file `a`; `memory fails=1` one whose call
+// number 1 fails; `counted` the real host over outputs that count, and `real` over the outputs of this program.
 
+use crate::steps::take;
+use case_texts::bytes_of;
 use std::alloc::{AllocError, Global};
 use std::cell::Cell;
 use std::fmt::Display;
 use std::io;
-use std::test::Fail;
-use tx_host::{Host, MemHost, ReadFault, RealHost, SteadyHost, WriteFault};
+use std::rt::Files;
+use tx_host::{MemHost, RealHost, SteadyHost};
 
-// One file of each name.
-fn files_of(alloc: Global, named: &[(&str, &[u8])]) -> Result<Vec<(String, Vec<u8>)>, AllocError> {
-    let mut files = Vec::new(alloc);
-    for (name, bytes) in named {
-        files.push((String::from_str(alloc, name)?, bytes.to_vec(alloc)?))?;
+// The files whose bytes are told in the end.
+const NAMES: [&str; 4] = ["a", "b", "c", "f"];
+
+// What a host begins with.
+#[derive(Drop)]
+struct Start {
+    files: Vec<(String, Vec<u8>)>,
+    fails: Vec<u64>,
+}
+
+// What the head of a case says that a host begins with.
+fn start_of(alloc: Global, head: &str) -> Result<Start, AllocError> {
+    let mut start = Start {
+        files: Vec::new(alloc),
+        fails: Vec::new(alloc),
+    };
+    for word in head.split(' ') {
+        let (name, text) = word.split_once('=').unwrap_or(("", ""));
+        if name == "fails" {
+            start.fails.push(text.parse::<u64>().unwrap_or(0))?;
+        } else if !name.is_empty() {
+            let file = (String::from_str(alloc, name)?, bytes_of(alloc, text)?);
+            start.files.push(file)?;
+        }
     }
-    Ok(files)
+    Ok(start)
 }
 
-#[test]
-fn steady_reads_fronts_and_empty_files(rt: HostRuntime) -> Result<(), Fail> {
-    let files = files_of(rt.alloc(), &[("a", b"hello"), ("b", b""), ("a", b"other")])?;
-    let mut host = SteadyHost::new(rt.alloc(), files)?;
-    for (name, limit, want) in [
-        ("a", 10, "hello"),
-        ("a", 5, "hello"),
-        ("a", 4, "hello"),
-        ("a", 3, "hell"),
-        ("a", 0, "h"),
-        ("a", u64::MAX, "hello"),
-        ("b", 3, ""),
-        ("c", 3, ""),
-    ] {
-        let bytes = host.read_file(rt.alloc(), name, limit)?;
-        assert_eq!(rt; bytes.as_slice(), want.as_bytes(), "{name} up to {limit}");
+// Adds what was written.
+fn add_outputs(alloc: Global, line: &mut String, out: &[u8], err: &[u8]) -> Result<(), AllocError> {
+    line.push_str(&format!(in alloc; "out {} err {}", out.escape_ascii(), err.escape_ascii())?)
+}
+
+// Adds a file, or how many bytes it has where it has many.
+fn add_file(
+    alloc: Global,
+    line: &mut String,
+    name: &str,
+    file: Option<&[u8]>,
+) -> Result<(), AllocError> {
+    match file {
+        Some(bytes) if bytes.len() > 100 => {
+            line.push_str(&format!(in alloc; " {name} {} bytes", bytes.len())?)
+        }
+        Some(bytes) => line.push_str(&format!(in alloc; " {name} {}", bytes.escape_ascii())?),
+        None => Ok(()),
     }
-    Ok(())
 }
 
-#[test]
-fn steady_writes(rt: HostRuntime) -> Result<(), Fail> {
-    let files = files_of(rt.alloc(), &[("a", b"hello"), ("b", b"kept")])?;
-    let mut host = SteadyHost::new(rt.alloc(), files)?;
-    host.write_file("a", b"bye")?;
-    host.write_file("c", b"new")?;
-    host.write_out(b"out")?;
-    host.write_err(b"err")?;
-    host.write_out(b"put")?;
-    for (name, want) in [("a", "bye"), ("b", "kept"), ("c", "new")] {
-        let bytes = host.read_file(rt.alloc(), name, 100)?;
-        assert_eq!(rt; bytes.as_slice(), want.as_bytes(), "{name}");
+/// What comes of a case over a host whose calls do not fail.
+pub fn steady(alloc: Global, case: &str) -> Result<String, AllocError> {
+    let (head, steps) = case.split_once(" | ").unwrap_or(("", case));
+    let start = start_of(alloc, head)?;
+    let mut host = SteadyHost::new(alloc, start.files)?;
+    let mut line = take(alloc, &mut host, steps)?;
+    add_outputs(alloc, &mut line, host.out(), host.err())?;
+    for name in NAMES.iter() {
+        add_file(alloc, &mut line, *name, host.file(*name))?;
     }
-    assert_eq!(rt; host.file("a"), Some(b"bye".as_slice()));
-    assert_eq!(rt; host.out(), b"output".as_slice());
-    assert_eq!(rt; host.err(), b"err".as_slice());
-    Ok(())
+    Ok(line)
 }
 
-#[test]
-fn listed_calls_fail(rt: HostRuntime) -> Result<(), Fail> {
-    let files = files_of(rt.alloc(), &[("a", b"hello")])?;
-    let fails = vec![in rt.alloc(); 1, 3, 5, 7]?;
-    let mut host = MemHost::new(rt.alloc(), files, fails)?;
-    assert_eq!(rt;
-        host.read_file(rt.alloc(), "a", 2)?.as_slice(),
-        b"hel".as_slice()
-    );
-    assert_eq!(rt;
-        host.read_file(rt.alloc(), "a", 2).err(),
-        Some(ReadFault::Failed)
-    );
-    host.write_out(b"12345")?;
-    assert_eq!(rt; host.write_out(b"12345").err(), Some(WriteFault::Failed));
-    host.write_err(b"xyz")?;
-    assert_eq!(rt; host.write_err(b"xyz").err(), Some(WriteFault::Failed));
-    host.write_file("b", b"whole")?;
-    assert_eq!(rt;
-        host.write_file("a", b"whole").err(),
-        Some(WriteFault::Failed)
-    );
-    assert_eq!(rt; host.faults(), 4);
-    assert_eq!(rt; host.out(), b"1234512".as_slice());
-    assert_eq!(rt; host.err(), b"xyzx".as_slice());
-    assert_eq!(rt; host.file("a"), Some(b"wh".as_slice()));
-    assert_eq!(rt; host.file("b"), Some(b"whole".as_slice()));
-    Ok(())
-}
-
-#[test]
-fn missing_file_is_a_fault(rt: HostRuntime) -> Result<(), Fail> {
-    let mut host = MemHost::new(rt.alloc(), Vec::new(rt.alloc()), Vec::new(rt.alloc()))?;
-    assert_eq!(rt;
-        host.read_file(rt.alloc(), "a", 2).err(),
-        Some(ReadFault::Failed)
-    );
-    assert_eq!(rt; host.faults(), 1);
-    Ok(())
+/// What comes of a case over a host some of whose calls fail.
+pub fn memory(alloc: Global, case: &str) -> Result<String, AllocError> {
+    let (head, steps) = case.split_once(" | ").unwrap_or(("", case));
+    let start = start_of(alloc, head)?;
+    let mut host = MemHost::new(alloc, start.files, start.fails)?;
+    let mut line = take(alloc, &mut host, steps)?;
+    line.push_str(&format!(in alloc; "faults {} ", host.faults())?)?;
+    add_outputs(alloc, &mut line, host.out(), host.err())?;
+    for name in NAMES.iter() {
+        add_file(alloc, &mut line, *name, host.file(*name))?;
+    }
+    Ok(line)
 }
 
 // An output that counts the bytes that it takes, up to a limit.
@@ -122,8 +112,22 @@ impl Print for Counter {
     }
 }
 
-#[test]
-fn real_outputs(rt: HostRuntime) -> Result<(), Fail> {
+/// What comes of steps of the real host over these outputs.
+pub fn real<F: Files, O: Print, E: Print>(
+    files: &F,
+    out: &O,
+    err: &E,
+    alloc: Global,
+    steps: &str,
+) -> Result<String, AllocError> {
+    let mut host = RealHost::new(files, out, err, alloc);
+    let mut line = take(alloc, &mut host, steps)?;
+    line.push_str(&format!(in alloc; "faults {}", host.faults())?)?;
+    Ok(line)
+}
+
+/// The same over an output that takes 20 bytes and one that takes 6, and how many they took.
+pub fn counted<F: Files>(files: &F, alloc: Global, steps: &str) -> Result<String, AllocError> {
     let out = Counter {
         taken: Cell::new(0),
         limit: 20,
@@ -132,52 +136,6 @@ fn real_outputs(rt: HostRuntime) -> Result<(), Fail> {
         taken: Cell::new(0),
         limit: 6,
     };
-    let mut host = RealHost::new(&rt, &out, &err, rt.alloc());
-    host.write_out(b"output")?;
-    host.write_out(b"")?;
-    host.write_err(b"error")?;
-    assert_eq!(rt; host.faults(), 0);
-    assert_eq!(rt; host.write_err(b"more").err(), Some(WriteFault::Failed));
-    assert_eq!(rt; host.faults(), 1);
-    assert_eq!(rt; out.taken.get(), 6);
-    assert_eq!(rt; err.taken.get(), 5);
-    Ok(())
-}
-
-#[test]
-fn real_files(rt: HostRuntime) -> Result<(), Fail> {
-    let (out, err) = (rt.stdout(), rt.stderr());
-    let mut host = RealHost::new(&rt, &out, &err, rt.alloc());
-    let mut long = Vec::new(rt.alloc());
-    for i in 0..10000u32 {
-        long.push((i % 251) as u8)?;
-    }
-    host.write_file("made", long.as_slice())?;
-    host.write_file("short", b"hello")?;
-    host.write_file("short", b"bye")?;
-    host.write_out(b"written\n")?;
-    host.write_err(b"written too\n")?;
-    let all = host.read_file(rt.alloc(), "made", 10000)?;
-    assert_eq!(rt; all.as_slice(), long.as_slice());
-    for (name, limit, count) in [
-        ("made", 9999, 10000),
-        ("made", 9998, 9999),
-        ("made", 4095, 4096),
-        ("made", 0, 1),
-        ("short", 100, 3),
-    ] {
-        let bytes = host.read_file(rt.alloc(), name, limit)?;
-        assert_eq!(rt; bytes.len(), count, "{name} up to {limit}");
-    }
-    assert_eq!(rt; host.faults(), 0);
-    assert_eq!(rt;
-        host.read_file(rt.alloc(), "none", 9).err(),
-        Some(ReadFault::Failed)
-    );
-    assert_eq!(rt;
-        host.write_file("none/a", b"x").err(),
-        Some(WriteFault::Failed)
-    );
-    assert_eq!(rt; host.faults(), 2);
-    Ok(())
+    let line = real(files, &out, &err, alloc, steps)?;
+    format!(in alloc; "{line} out {} err {}", out.taken.get(), err.taken.get())
 }
