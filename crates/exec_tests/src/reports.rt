@@ -1,9 +1,8 @@
-//! A run that trapped, as it is written.
+// A run that trapped, as it is written.
 
 use command_io::write_all;
 use run_report::run_writes;
-use std::alloc::Global;
-use std::test::Fail;
+use std::alloc::{AllocError, Global};
 use tx_code::{Body, Image, ImageFunc, Instr, LineRow};
 use tx_events::{End, Trap};
 use tx_host::SteadyHost;
@@ -11,7 +10,7 @@ use tx_machine::Ran;
 use vm_thread::Here;
 
 // `main` of `a.cc`, with line 3 from index 1 on.
-fn image_of(alloc: Global) -> Result<Image, Fail> {
+fn image_of(alloc: Global) -> Result<Image, AllocError> {
     let plain = Body {
         code: vec![in alloc; Instr::Push(0), Instr::Ret(1)]?,
         rows: Vec::new(alloc),
@@ -36,11 +35,9 @@ fn image_of(alloc: Global) -> Result<Image, Fail> {
     })
 }
 
-#[test]
-fn a_trap(rt: HostRuntime) -> Result<(), Fail> {
-    let alloc = rt.alloc();
-    let image = image_of(alloc)?;
-    let ran = Ran {
+// A run of `main` that trapped at index 1.
+fn trapped(alloc: Global) -> Result<Ran<Here>, AllocError> {
+    Ok(Ran {
         out: b"A".to_vec(alloc)?,
         end: End::Trapped(Trap::Overflow),
         order: b"\x00\x01\x01".to_vec(alloc)?,
@@ -54,16 +51,21 @@ fn a_trap(rt: HostRuntime) -> Result<(), Fail> {
             safe: false,
             index: 1,
         }),
-    };
+    })
+}
+
+/// What is written of the run: the output, the error output, and the order as the file `o`.
+pub fn answer(alloc: Global) -> Result<String, AllocError> {
     let order = Some(String::from_str(alloc, "o")?);
-    let writes = run_writes(alloc, &image, &ran, &order, &None)?;
+    let writes = run_writes(alloc, &image_of(alloc)?, &trapped(alloc)?, &order, &None)?;
     let mut host = SteadyHost::new(alloc, Vec::new(alloc))?;
-    assert!(rt; write_all(&mut host, writes.as_slice()).is_ok());
-    assert_eq!(rt; host.out(), b"A".as_slice());
-    assert_eq!(rt;
-        host.err(),
-        b"trap Overflow a.cc:3\nturns ran 4 waited 0 rolled 0 idle 0\n".as_slice()
-    );
-    assert_eq!(rt; host.file("o"), Some(b"0\n1*2\n".as_slice()));
-    Ok(())
+    if write_all(&mut host, writes.as_slice()).is_err() {
+        return format!(in alloc; "memory");
+    }
+    format!(in alloc;
+        "out {} err {} o {}",
+        host.out().escape_ascii(),
+        host.err().escape_ascii(),
+        host.file("o").unwrap_or(b"none").escape_ascii()
+    )
 }
