@@ -1,11 +1,12 @@
-//! Tables by hand.
+// Tables by hand.
+
 use link_tables::kept::numbered_funcs;
 use link_tables::places::numbers;
 use link_tables::symbols::{Numbered, Symbol};
-use std::test::Fail;
+use std::alloc::{AllocError, Global};
 
-#[test]
-fn an_own_definition_comes_first(rt: HostRuntime) -> Result<(), Fail> {
+/// The numbers of two definitions, of which that of the object itself comes first, and how many functions no objects have.
+pub fn answer(alloc: Global) -> Result<String, AllocError> {
     let seen = Numbered {
         symbol: Symbol {
             place: 0,
@@ -22,14 +23,7 @@ fn an_own_definition_comes_first(rt: HostRuntime) -> Result<(), Fail> {
         },
         number: 9,
     };
-    let table = numbers(rt.alloc(), 1, &[0, 0], &[seen, own])?;
-    assert_eq!(rt; table.as_slice(), [Some(7), Some(9)].as_slice());
-    Ok(())
-}
-
-#[test]
-fn nothing_is_numbered(rt: HostRuntime) -> Result<(), Fail> {
-    let defs = numbered_funcs(rt.alloc(), &[])?;
-    assert_eq!(rt; defs.len(), 0);
-    Ok(())
+    let table = numbers(alloc, 1, &[0, 0], &[seen, own])?;
+    let none = numbered_funcs(alloc, &[])?;
+    format!(in alloc; "{:?} {}", table.as_slice(), none.len())
 }

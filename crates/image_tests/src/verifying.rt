@@ -1,7 +1,7 @@
-//! The public call on images made by hand.
-use code_verify::{BadCode, verify};
+// The public call on images made by hand.
+
+use code_verify::verify;
 use std::alloc::{AllocError, Global};
-use std::test::Fail;
 use tx_code::{Body, Image, ImageFunc, Instr};
 
 // An image of `main()` alone, with this body.
@@ -33,9 +33,17 @@ fn image_of(alloc: Global, code: Vec<Instr>) -> Result<Image, AllocError> {
     })
 }
 
-#[test]
-fn a_sound_image(rt: HostRuntime) -> Result<(), Fail> {
-    let alloc = rt.alloc();
+// Whether the image of this body is sound, or which rule it breaks first.
+fn verified(alloc: Global, code: &[Instr]) -> Result<String, AllocError> {
+    let image = image_of(alloc, Vec::from_slice(alloc, code)?)?;
+    match verify(alloc, image) {
+        Ok(_) => format!(in alloc; "sound"),
+        Err(fault) => format!(in alloc; "{fault:?}"),
+    }
+}
+
+/// A sound image.
+pub fn sound(alloc: Global) -> Result<String, AllocError> {
     let code = [
         Instr::Push(65),
         Instr::Out,
@@ -43,24 +51,10 @@ fn a_sound_image(rt: HostRuntime) -> Result<(), Fail> {
         Instr::Push(0),
         Instr::Ret(1),
     ];
-    let image = image_of(alloc, Vec::from_slice(alloc, &code)?)?;
-    let is_good = verify(alloc, image).is_ok();
-    assert!(rt; is_good);
-    Ok(())
+    verified(alloc, &code)
 }
 
-#[test]
-fn a_missing_word(rt: HostRuntime) -> Result<(), Fail> {
-    let alloc = rt.alloc();
-    let image = image_of(alloc, Vec::from_slice(alloc, &[Instr::Ret(1)])?)?;
-    let is_refused = matches!(
-        verify(alloc, image),
-        Err(BadCode::Rule {
-            func: 0,
-            index: 0,
-            rule: 5
-        })
-    );
-    assert!(rt; is_refused);
-    Ok(())
+/// One whose `ret` finds no word.
+pub fn missing(alloc: Global) -> Result<String, AllocError> {
+    verified(alloc, &[Instr::Ret(1)])
 }
