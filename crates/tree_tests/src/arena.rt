@@ -2,8 +2,7 @@
 
 use cpp_tree::{ElabFault, IllRule, TKind, TNodeId, UnitTree, add_binary, add_leaf, add_unary};
 use cpp_types::{At, Cat, Shape, Ty};
-use std::alloc::AllocError;
-use std::test::Fail;
+use std::alloc::{AllocError, Global};
 use tx_ints::{BinOp, IntKind};
 
 const AT: At = At {
@@ -23,10 +22,8 @@ fn int_type() -> Ty {
     plain(Shape::Int(IntKind::Int))
 }
 
-// `return 1 + 2;`
-#[test]
-fn a_sum_is_returned(rt: HostRuntime) -> Result<(), Fail> {
-    let alloc = rt.alloc();
+// `return 1 + 2;`: its nodes.
+fn returned(alloc: Global) -> Result<UnitTree, AllocError> {
     let mut nodes = Vec::new(alloc);
     let one = TKind::Literal { word: 1 };
     let one = add_leaf(alloc, &mut nodes, one, int_type(), Cat::Prvalue, AT)?;
@@ -47,7 +44,7 @@ fn a_sum_is_returned(rt: HostRuntime) -> Result<(), Fail> {
         two,
     )?;
     let void = plain(Shape::Void);
-    let root = add_unary(
+    add_unary(
         alloc,
         &mut nodes,
         TKind::Return,
@@ -56,33 +53,30 @@ fn a_sum_is_returned(rt: HostRuntime) -> Result<(), Fail> {
         AT,
         sum,
     )?;
-    let unit = UnitTree {
+    Ok(UnitTree {
         nodes,
         funcs: Vec::new(alloc),
         globals: Vec::new(alloc),
         classes: Vec::new(alloc),
-    };
-    assert_eq!(rt; root.0, 3);
-    assert!(rt; unit.nodes.len() > 3);
-    let node = unit.tnode(root);
-    assert_eq!(rt; node.kind, TKind::Return);
-    assert_eq!(rt; node.kids.as_slice(), [sum].as_slice());
-    let operands = unit.tnode(TNodeId(2));
-    assert_eq!(rt; operands.kids.as_slice(), [one, two].as_slice());
-    Ok(())
+    })
 }
 
-#[test]
-fn faults_have_texts(rt: HostRuntime) -> Result<(), Fail> {
-    let alloc = rt.alloc();
+/// The nodes of `return 1 + 2;`.
+pub fn sum(alloc: Global) -> Result<String, AllocError> {
+    let unit = returned(alloc)?;
+    if unit.nodes.len() != 4 {
+        return format!(in alloc; "{} nodes", unit.nodes.len());
+    }
+    let root = unit.tnode(TNodeId(3));
+    let operands = unit.tnode(TNodeId(2));
+    format!(in alloc; "{:?} {:?} {:?}", root.kind, root.kids, operands.kids)
+}
+
+/// The texts of faults.
+pub fn faults(alloc: Global) -> Result<String, AllocError> {
     let ill = ElabFault::Ill {
         at: AT,
         rule: IllRule::NoMember,
     };
-    assert_eq!(rt;
-        format!(in alloc; "{ill}")?.as_str(),
-        "ill-formed: NoMember"
-    );
-    assert_eq!(rt; ElabFault::from(AllocError), ElabFault::Memory);
-    Ok(())
+    format!(in alloc; "{ill}, {:?}", ElabFault::from(AllocError))
 }

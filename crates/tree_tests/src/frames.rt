@@ -4,7 +4,6 @@ use cpp_tree::{FuncKind, Linkage, Program, TFunc, UnitTree};
 use cpp_types::{At, FnTy, FuncRec, Safety, Shape, Ty};
 use src_mean::frame_of;
 use std::alloc::{AllocError, Global};
-use std::test::Fail;
 use tx_ints::IntKind;
 
 fn plain(shape: Shape) -> Ty {
@@ -58,9 +57,8 @@ fn function(alloc: Global, items: u32) -> Result<TFunc, AllocError> {
     })
 }
 
-#[test]
-fn the_frame_is_that_of_the_function(rt: HostRuntime) -> Result<(), Fail> {
-    let alloc = rt.alloc();
+// A program of two functions.
+fn program(alloc: Global) -> Result<Program, AllocError> {
     let mut funcs = Vec::new(alloc);
     funcs.push(function(alloc, 1)?)?;
     funcs.push(function(alloc, 3)?)?;
@@ -71,14 +69,22 @@ fn the_frame_is_that_of_the_function(rt: HostRuntime) -> Result<(), Fail> {
         globals: Vec::new(alloc),
         classes: Vec::new(alloc),
     })?;
-    let program = Program {
+    Ok(Program {
         units,
         classes: Vec::new(alloc),
         slots: Vec::new(alloc),
-    };
-    assert_eq!(rt; program.units.len(), 1);
-    assert_eq!(rt; program.units[0].funcs.len(), 2);
-    assert_eq!(rt; frame_of(&program, 0, 0).len(), 1);
-    assert_eq!(rt; frame_of(&program, 0, 1).len(), 3);
-    Ok(())
+    })
+}
+
+/// How many items the frames of the functions have.
+pub fn answer(alloc: Global) -> Result<String, AllocError> {
+    let program = program(alloc)?;
+    if program.units.len() != 1 || program.units[0].funcs.len() != 2 {
+        return format!(in alloc; "other functions");
+    }
+    format!(in alloc;
+        "{} {}",
+        frame_of(&program, 0, 0).len(),
+        frame_of(&program, 0, 1).len()
+    )
 }

@@ -1,16 +1,17 @@
-//! Programs made by hand.
+// Programs made by hand: `well-formed 13 | local:1;int;lvalue; ..` has functions whose bodies are these nodes, and the nodes,
+// each of a kind, a type, a category and kids.
+
+use case_texts::field;
 use cpp_tree::{FuncKind, Linkage, Program, TFunc, TKind, TNode, TNodeId, TParam, UnitTree};
 use cpp_types::{At, Cat, FnTy, FuncRec, Safety, Shape, Ty};
 use std::alloc::{AllocError, Global};
+use tree_check::is_well_formed;
 use tx_ints::{BinOp, IntKind};
 
 const AT: At = At {
     source: 0,
     offset: 0,
 };
-
-/// A node: what it is, whether its type is `int` and not `void`, and its kids.
-pub(crate) type Row = (TKind, bool, Cat, &'static [u32]);
 
 fn plain(shape: Shape) -> Ty {
     Ty {
@@ -24,35 +25,83 @@ fn int_type() -> Ty {
     plain(Shape::Int(IntKind::Int))
 }
 
-fn type_of(is_int: bool) -> Ty {
-    if is_int {
-        int_type()
-    } else {
-        plain(Shape::Void)
+// The kind of a node.
+fn kind_of(text: &str) -> TKind {
+    let (name, number) = text.split_once(':').unwrap_or((text, ""));
+    let volatile = false;
+    match name {
+        "literal" => TKind::Literal {
+            word: number.parse::<u64>().unwrap_or(0),
+        },
+        "local" => TKind::Local {
+            place: number.parse::<u32>().unwrap_or(0),
+        },
+        "load" => TKind::Load {
+            kind: IntKind::Int,
+            volatile,
+        },
+        "load-long" => TKind::Load {
+            kind: IntKind::Long,
+            volatile,
+        },
+        "store" => TKind::Store {
+            kind: IntKind::Int,
+            volatile,
+        },
+        "sum" => TKind::Binary {
+            op: BinOp::Add,
+            kind: IntKind::Int,
+        },
+        "convert" => TKind::Convert { to: IntKind::Int },
+        "init" => TKind::Init,
+        "return" => TKind::Return,
+        _ => TKind::Block { subobjects: false },
     }
 }
 
-/// The nodes of these rows.
-fn nodes_of(alloc: Global, rows: &[Row]) -> Result<Vec<TNode>, AllocError> {
-    let mut nodes = Vec::new(alloc);
-    for (kind, is_int, cat, ids) in rows {
-        let mut kids = Vec::new(alloc);
-        for id in *ids {
-            kids.push(TNodeId(*id))?;
+// The numbers of some nodes, with commas between them.
+fn ids_of(alloc: Global, text: &str) -> Result<Vec<TNodeId>, AllocError> {
+    let mut ids = Vec::new(alloc);
+    for word in text.split(',') {
+        if let Ok(id) = word.parse::<u32>() {
+            ids.push(TNodeId(id))?;
         }
-        nodes.push(TNode {
-            kind: *kind,
-            ty: type_of(*is_int),
-            cat: *cat,
-            at: AT,
-            kids,
-        })?;
+    }
+    Ok(ids)
+}
+
+// A node.
+fn node_of(alloc: Global, text: &str) -> Result<TNode, AllocError> {
+    let kind = kind_of(field(text, ';', 0));
+    let ty = match field(text, ';', 1) {
+        "int" => int_type(),
+        _ => plain(Shape::Void),
+    };
+    let cat = match field(text, ';', 2) {
+        "lvalue" => Cat::Lvalue,
+        _ => Cat::Prvalue,
+    };
+    let kids = ids_of(alloc, field(text, ';', 3))?;
+    Ok(TNode {
+        kind,
+        ty,
+        cat,
+        at: AT,
+        kids,
+    })
+}
+
+// The nodes of some words.
+fn nodes_of(alloc: Global, words: &str) -> Result<Vec<TNode>, AllocError> {
+    let mut nodes = Vec::new(alloc);
+    for word in words.split(' ') {
+        nodes.push(node_of(alloc, word)?)?;
     }
     Ok(nodes)
 }
 
-/// `int f(int p)`, with an `int` behind `p` in its frame and this body.
-fn function(alloc: Global, root: u32) -> Result<TFunc, AllocError> {
+// `int f(int p)`, with an `int` behind `p` in its frame and this body.
+fn function(alloc: Global, root: TNodeId) -> Result<TFunc, AllocError> {
     let mut types = Vec::new(alloc);
     types.push(int_type())?;
     let mut params = Vec::new(alloc);
@@ -91,20 +140,20 @@ fn function(alloc: Global, root: u32) -> Result<TFunc, AllocError> {
         words: 1,
         params,
         frame,
-        body: Some(TNodeId(root)),
+        body: Some(root),
         closed_at: 0,
     })
 }
 
-/// The program of one unit with these nodes, and of functions with these bodies.
-pub(crate) fn program(alloc: Global, rows: &[Row], roots: &[u32]) -> Result<Program, AllocError> {
+// The program of one unit with these nodes, and of functions with these bodies.
+fn program(alloc: Global, nodes: Vec<TNode>, roots: &[TNodeId]) -> Result<Program, AllocError> {
     let mut funcs = Vec::new(alloc);
     for root in roots {
         funcs.push(function(alloc, *root)?)?;
     }
     let mut units = Vec::new(alloc);
     units.push(UnitTree {
-        nodes: nodes_of(alloc, rows)?,
+        nodes,
         funcs,
         globals: Vec::new(alloc),
         classes: Vec::new(alloc),
@@ -116,29 +165,10 @@ pub(crate) fn program(alloc: Global, rows: &[Row], roots: &[u32]) -> Result<Prog
     })
 }
 
-pub(crate) const BLOCK: TKind = TKind::Block { subobjects: false };
-
-pub(crate) const READ: TKind = TKind::Load {
-    kind: IntKind::Int,
-    volatile: false,
-};
-
-pub(crate) const SUM: TKind = TKind::Binary {
-    op: BinOp::Add,
-    kind: IntKind::Int,
-};
-
-pub(crate) const STORE: TKind = TKind::Store {
-    kind: IntKind::Int,
-    volatile: false,
-};
-
-/// A number.
-pub(crate) fn number(word: u64) -> Row {
-    (TKind::Literal { word }, true, Cat::Prvalue, &[])
-}
-
-/// An item of the frame.
-pub(crate) fn local(place: u32) -> Row {
-    (TKind::Local { place }, true, Cat::Lvalue, &[])
+/// Whether a program is well formed.
+pub fn answer(alloc: Global, case: &str) -> Result<String, AllocError> {
+    let (roots, nodes) = case.split_once(" | ").unwrap_or((case, ""));
+    let roots = ids_of(alloc, roots)?;
+    let program = program(alloc, nodes_of(alloc, nodes)?, &roots)?;
+    format!(in alloc; "{}", is_well_formed(alloc, &program)?)
 }

@@ -1,16 +1,14 @@
-// Programs that are made node by node and checked, and the texts of faults.
+// Programs that are made node by node and checked for safety.
 
 ghost use Rattle.std.specs.Prelude.{◌≡◌, ◌<◌, true, IfOk, OnOk, Some, length};
 ghost use Rattle.cpp_tree.specs.Arena.{IsOrdered, are_below};
 ghost use Rattle.tx_safety.specs.Marks.{AreReadable};
 
 use cpp_tree::{
-    Builtin, FuncKind, Linkage, Program, TFunc, TKind, TNode, TNodeId, UnitTree, UnsafeReason,
-    add_node,
+    Builtin, FuncKind, Linkage, Program, TFunc, TKind, TNode, TNodeId, UnitTree, add_node,
 };
 use cpp_types::{At, Cat, FnTy, FuncRec, Safety, Shape, Ty};
 use std::alloc::{AllocError, Global};
-use std::test::Fail;
 use tx_events::BlockKind;
 use tx_safety::{SafetyFault, check};
 
@@ -121,50 +119,35 @@ fn program(alloc: Global, nodes: Vec<TNode>, root: TNodeId) -> Result<Program, A
     })
 }
 
-// `int main() { atomic_noexcept { putchar(65); } .. }`
-#[test]
-fn output_in_a_block(rt: HostRuntime) -> Result<(), Fail> {
-    let alloc = rt.alloc();
+// A call of `putchar`.
+const PUT: TKind = TKind::Builtin {
+    which: Builtin::PutChar,
+};
+
+/// `int main() { atomic_noexcept { putchar(65); } .. }`: the fault, and its text.
+pub fn in_a_block(alloc: Global) -> Result<String, AllocError> {
     let mut nodes = Vec::new(alloc);
-    let put = TKind::Builtin {
-        which: Builtin::PutChar,
-    };
-    let id = add(alloc, &mut nodes, put, 31, None)?;
+    let id = add(alloc, &mut nodes, PUT, 31, None)?;
     let block = TKind::Atomic {
         kind: BlockKind::NoExcept,
     };
     let root = add(alloc, &mut nodes, block, 13, Some(id))?;
     let program = program(alloc, nodes, root)?;
-    let fault = check(alloc, program).err();
-    let expected = SafetyFault::Unsafe {
-        at: at(31),
-        reason: UnsafeReason::CallsUnsafe,
-    };
-    assert_eq!(rt; fault, Some(expected));
-    assert_eq!(rt;
-        format!(in alloc; "{expected}")?.as_str(),
-        "transaction-unsafe: CallsUnsafe"
-    );
-    assert_eq!(rt; SafetyFault::from(AllocError), SafetyFault::Memory);
-    Ok(())
+    match check(alloc, program) {
+        Ok(_) => format!(in alloc; "safe"),
+        Err(fault) => format!(in alloc; "{fault:?}, {fault}, {:?}", SafetyFault::from(AllocError)),
+    }
 }
 
-// `int main() { putchar(65); .. }`
-#[test]
-fn output_outside(rt: HostRuntime) -> Result<(), Fail> {
-    let alloc = rt.alloc();
+/// `int main() { putchar(65); .. }`: whether the function is safe, and how many units there are.
+pub fn outside(alloc: Global) -> Result<String, AllocError> {
     let mut nodes = Vec::new(alloc);
-    let put = TKind::Builtin {
-        which: Builtin::PutChar,
-    };
-    let root = add(alloc, &mut nodes, put, 31, None)?;
+    let root = add(alloc, &mut nodes, PUT, 31, None)?;
     let program = program(alloc, nodes, root)?;
     let Ok(safe) = check(alloc, program) else {
-        assert!(rt; false);
-        return Ok(());
+        return format!(in alloc; "unsafe");
     };
-    assert!(rt; !safe.is_safe(0, 0));
-    assert_eq!(rt; safe.program().units.len(), 1);
-    assert_eq!(rt; safe.into_program().units.len(), 1);
-    Ok(())
+    let is_safe = safe.is_safe(0, 0);
+    let units = safe.program().units.len();
+    format!(in alloc; "{is_safe} {units} {}", safe.into_program().units.len())
 }
