@@ -8,8 +8,8 @@ use Rattle.clap.specs.Values.{IsUnsignedIn}
 use Rattle.clap.proofs.ValueTestLemmas.{accepts-Accepts}
 use Rattle.clap.specs.declared.builder.value_parser.ValueParser.TheVariants as vp
 use Rattle.clap.specs.Simple.{Shape, built, names_of, argument_words, built_leaf, inherited, with_leaf_noted, marked_built, subcommand_of}
-use Rattle.tx_words.specs.Line.{txcc_app, run_app, check_app, selftest_app, build_app, exec_app, replay_app, dis_app, asm_app, races_app}
-use Rattle.tx_words.specs.Reads.{Fits, FitsRun, FitsSelftest, FitsBuild, FitsExec, FitsReplay, FitsAsm, FitsRaces, HasText, HasTexts}
+use Rattle.tx_words.specs.Line.{txcc_app, run_app, check_app, selftest_app, build_app, exec_app, replay_app, dis_app, asm_app, races_app, explain_app}
+use Rattle.tx_words.specs.Reads.{Fits, FitsRun, FitsCheck, FitsSelftest, FitsBuild, FitsExec, FitsReplay, FitsAsm, FitsRaces, HasText, HasTexts}
 use Rattle.tx_words.proofs.Walks.{nil_both}
 use Rattle.tx_words.proofs.Tops.{Passes, after, text_at, texts_at, number_at, one_at, flag_text, Each, entered_ok, level_checked}
 
@@ -25,9 +25,12 @@ run_fits ws e = record {
   sources = texts_at (in_line run_app.top) 7 ws refl refl e;
 }
 
-check_fits : (ws : List Text) → Passes (in_line check_app.top) ws → HasTexts (codes "sources") (after (in_line check_app.top) ws)
+check_fits : (ws : List Text) → Passes (in_line check_app.top) ws → FitsCheck (after (in_line check_app.top) ws)
 unfolding clap_on_literals txcc_app
-check_fits ws e = texts_at (in_line check_app.top) 0 ws refl refl e
+check_fits ws e = record {
+  dumps = one_at _ (in_line check_app.top) 0 ws refl refl flag_text e;
+  sources = texts_at (in_line check_app.top) 1 ws refl refl e;
+}
 
 selftest_fits : (ws : List Text) → Passes (in_line selftest_app.top) ws → FitsSelftest (after (in_line selftest_app.top) ws)
 unfolding clap_on_literals txcc_app
@@ -81,9 +84,13 @@ races_fits ws e = record {
   report = text_at (in_line races_app.top) 7 ws refl refl refl e;
 }
 
+explain_fits : (ws : List Text) → Passes (in_line explain_app.top) ws → HasText (codes "rule") (after (in_line explain_app.top) ws)
+unfolding clap_on_literals txcc_app
+explain_fits ws e = text_at (in_line explain_app.top) 0 ws refl refl refl e
+
 each : Each (λ p. Fits p.0 p.1) (built txcc_app).subs
 unfolding clap_on_literals txcc_app
-each = (run_fits, (check_fits, (selftest_fits, (build_fits, (exec_fits, (replay_fits, (dis_fits, (asm_fits, (races_fits, tt)))))))))
+each = (run_fits, (check_fits, (selftest_fits, (build_fits, (exec_fits, (replay_fits, (dis_fits, (asm_fits, (races_fits, (explain_fits, tt))))))))))
 
 -- what the code asks of the matches
 pub entered_fits : (words : List Text) → fault_of txcc_app words ≡ [] → IfSome (subcommand_of txcc_app words) (λ p. Fits p.0 p.1)

@@ -57,7 +57,7 @@ abbrev pub run_app : App
 run_app = command_app (codes "run") (run_options ++ fold_rule ∷ words_rule (codes "sources") ∷ [])
 
 abbrev pub check_app : App
-check_app = command_app (codes "check") (words_rule (codes "sources") ∷ [])
+check_app = command_app (codes "check") (flag_rule (codes "dump") ∷ words_rule (codes "sources") ∷ [])
 
 abbrev pub selftest_app : App
 selftest_app = command_app (codes "selftest") (size_rule ∷ [])
@@ -86,8 +86,11 @@ asm_app = command_app (codes "asm") (required_rule (codes "to") ∷ word_rule (c
 abbrev pub races_app : App
 races_app = command_app (codes "races") (run_options ++ fold_rule ∷ required_rule (codes "report") ∷ words_rule (codes "sources") ∷ [])
 
+abbrev pub explain_app : App
+explain_app = command_app (codes "explain") (word_rule (codes "rule") ∷ [])
+
 abbrev pub commands : List App
-commands = run_app ∷ check_app ∷ selftest_app ∷ build_app ∷ exec_app ∷ replay_app ∷ dis_app ∷ asm_app ∷ races_app ∷ []
+commands = run_app ∷ check_app ∷ selftest_app ∷ build_app ∷ exec_app ∷ replay_app ∷ dis_app ∷ asm_app ∷ races_app ∷ explain_app ∷ []
 
 -- the words begin with the command's name, there is no command `help`, and a command has to be given
 abbrev pub bare_app : App

@@ -11,6 +11,7 @@ use Rattle.tx_words.specs.declared.command.PolicyName.{PolicyName}
 use Rattle.tx_words.specs.declared.command.PickerName.{PickerName}
 use Rattle.tx_words.specs.declared.command.RunOptions.{RunOptions}
 use Rattle.tx_words.specs.declared.command.Run.{Run}
+use Rattle.tx_words.specs.declared.command.Check.{Check}
 use Rattle.tx_words.specs.declared.command.Build.{Build}
 use Rattle.tx_words.specs.declared.command.Exec.{Exec}
 use Rattle.tx_words.specs.declared.command.Replay.{Replay}
@@ -65,6 +66,10 @@ pub record IsRun (rows : Rows) (r : Run) : Type 0 where
   pub folds : r.fold ≡ flag_of (codes "fold") rows
   pub sources : AreTexts (codes "sources") rows (map string_bytes r.sources.items)
 
+pub record IsCheck (rows : Rows) (c : Check) : Type 0 where
+  pub dumps : c.dump ≡ flag_of (codes "dump") rows
+  pub sources : AreTexts (codes "sources") rows (map string_bytes c.sources.items)
+
 pub record IsSelftest (rows : Rows) (n : ℕ) : Type 0 where
   pub number : number_of (codes "n") rows ≡ Some n
   pub least : 1 ≤ n
@@ -97,7 +102,7 @@ pub record IsRaces (rows : Rows) (r : Races) : Type 0 where
 -- the command of a subcommand's name and rows
 abbrev pub IsCommand : Text → Rows → Command → Type 0
 IsCommand name rows (command.Run r) = (name ≡ codes "run") × IsRun rows r
-IsCommand name rows (command.Check sources) = (name ≡ codes "check") × AreTexts (codes "sources") rows (map string_bytes sources.items)
+IsCommand name rows (command.Check c) = (name ≡ codes "check") × IsCheck rows c
 IsCommand name rows (command.Selftest n) = (name ≡ codes "selftest") × IsSelftest rows n
 IsCommand name rows (command.Build b) = (name ≡ codes "build") × IsBuild rows b
 IsCommand name rows (command.Exec e) = (name ≡ codes "exec") × IsExec rows e
@@ -105,6 +110,7 @@ IsCommand name rows (command.Replay r) = (name ≡ codes "replay") × IsReplay r
 IsCommand name rows (command.Dis object) = (name ≡ codes "dis") × IsText (codes "object") rows (string_bytes object)
 IsCommand name rows (command.Asm a) = (name ≡ codes "asm") × IsAsm rows a
 IsCommand name rows (command.Races r) = (name ≡ codes "races") × IsRaces rows r
+IsCommand name rows (command.Explain rule) = (name ≡ codes "explain") × IsText (codes "rule") rows (string_bytes rule)
 
 -- clap takes the words, and their matches are those of the command
 pub record Says (words : List Text) (c : Command) : Type 0 where
@@ -151,6 +157,10 @@ pub record FitsRun (rows : Rows) : Type 0 where
   pub folds : IsFlag (codes "fold") rows
   pub sources : HasTexts (codes "sources") rows
 
+pub record FitsCheck (rows : Rows) : Type 0 where
+  pub dumps : IsFlag (codes "dump") rows
+  pub sources : HasTexts (codes "sources") rows
+
 pub record FitsSelftest (rows : Rows) : Type 0 where
   pub size : IsWithin (codes "n") 1 400 rows
   pub given : is_some (one_of (codes "n") rows) ≡ true
@@ -184,11 +194,12 @@ where_true false here rest = rest
 
 abbrev pub Fits : Text → Rows → Type 0
 Fits name rows = where_true (bytes_eq name (codes "run")) (FitsRun rows)
-    (where_true (bytes_eq name (codes "check")) (HasTexts (codes "sources") rows)
+    (where_true (bytes_eq name (codes "check")) (FitsCheck rows)
     (where_true (bytes_eq name (codes "selftest")) (FitsSelftest rows)
     (where_true (bytes_eq name (codes "build")) (FitsBuild rows)
     (where_true (bytes_eq name (codes "exec")) (FitsExec rows)
     (where_true (bytes_eq name (codes "replay")) (FitsReplay rows)
     (where_true (bytes_eq name (codes "dis")) (HasText (codes "object") rows)
     (where_true (bytes_eq name (codes "asm")) (FitsAsm rows)
-    (where_true (bytes_eq name (codes "races")) (FitsRaces rows) ⊥))))))))
+    (where_true (bytes_eq name (codes "races")) (FitsRaces rows)
+    (where_true (bytes_eq name (codes "explain")) (HasText (codes "rule") rows) ⊥)))))))))

@@ -12,6 +12,7 @@ taken =
     (codes "run" ∷ codes "a.cc" ∷ [])
     ∷ full_run
     ∷ (codes "check" ∷ codes "a.cc" ∷ codes "b.cc" ∷ [])
+    ∷ (codes "check" ∷ codes "a.cc" ∷ codes "--dump" ∷ [])
     ∷ (codes "selftest" ∷ codes "400" ∷ [])
     ∷ (codes "build" ∷ codes "a.cc" ∷ codes "--to" ∷ codes "a.o" ∷ [])
     ∷ (codes "exec" ∷ codes "--order" ∷ codes "o" ∷ codes "a.o" ∷ codes "b.o" ∷ [])
@@ -19,6 +20,7 @@ taken =
     ∷ (codes "dis" ∷ codes "a.o" ∷ [])
     ∷ (codes "asm" ∷ codes "--to" ∷ codes "a.o" ∷ codes "a.s" ∷ [])
     ∷ (codes "races" ∷ codes "--report" ∷ codes "j" ∷ codes "a.cc" ∷ [])
+    ∷ (codes "explain" ∷ codes "Narrowing" ∷ [])
     ∷ []
 
 abbrev pub refused : List (List Text)
@@ -36,6 +38,7 @@ refused =
     ∷ (codes "replay" ∷ codes "a.cc" ∷ [])
     ∷ (codes "races" ∷ codes "a.cc" ∷ [])
     ∷ (codes "dis" ∷ codes "a.o" ∷ codes "b.o" ∷ [])
+    ∷ (codes "explain" ∷ [])
     ∷ (codes "help" ∷ [])
     ∷ (codes "--version" ∷ [])
     ∷ []

@@ -50,6 +50,15 @@ pub struct Run {
     pub sources: Vec<String>,
 }
 
+/// The command `check`: the sources up to their check for safety.
+#[derive(Debug, PartialEq, Drop)]
+pub struct Check {
+    /// `--dump`: the typed program is written where the sources are accepted.
+    pub dump: bool,
+    /// One source file or more.
+    pub sources: Vec<String>,
+}
+
 /// The command `build`: write the object of one source.
 #[derive(Debug, PartialEq, Drop)]
 pub struct Build {
@@ -102,8 +111,7 @@ pub struct Races {
 #[derive(Debug, PartialEq, Drop)]
 pub enum Command {
     Run(Run),
-    /// `check FILE..`: the sources up to their check for safety.
-    Check(Vec<String>),
+    Check(Check),
     /// `selftest N`: run the program that is made from N, 1 to 400.
     Selftest(u32),
     Build(Build),
@@ -113,4 +121,6 @@ pub enum Command {
     Dis(String),
     Asm(Asm),
     Races(Races),
+    /// `explain RULE`: write what a refusal of this name means.
+    Explain(String),
 }

@@ -11,6 +11,6 @@ mod names;
 mod reader;
 
 pub use command::{
-    Asm, Build, Command, Exec, PickerName, PolicyName, Races, Replay, Run, RunOptions,
+    Asm, Build, Check, Command, Exec, PickerName, PolicyName, Races, Replay, Run, RunOptions,
 };
 pub use reader::read;

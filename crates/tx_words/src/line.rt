@@ -4,7 +4,7 @@ ghost use Rattle.std.specs.String.{string_bytes};
 ghost use Rattle.clap.specs.Words.{App, app_of, rule_of, takes, fault_of, subcommand_of, subcommand_rows_of, new_app, with_rule};
 ghost use Rattle.clap.specs.declared.builder.command.Command.TheViews.{out-Command as fields_of};
 ghost use Rattle.tx_words.specs.Line.{option_rule, required_rule, number_rule, flag_rule, word_rule, words_rule, size_rule, run_options, with_rules};
-ghost use Rattle.tx_words.specs.Line.{run_app, check_app, selftest_app, build_app, exec_app, replay_app, dis_app, asm_app, races_app, bare_app, txcc_app};
+ghost use Rattle.tx_words.specs.Line.{run_app, check_app, selftest_app, build_app, exec_app, replay_app, dis_app, asm_app, races_app, explain_app, bare_app, txcc_app};
 
 use clap::error::ErrorKind;
 use clap::{Arg, ArgAction, ArgMatches, Command};
@@ -111,7 +111,8 @@ fn check<'a>(alloc: Global) -> Result<Command<'a>, AllocError>
     ensures app { IfOk result (λ c. app_of c ≡ check_app) }
     ensures local { IfOk result (λ c. (fields_of c).has_globals ≡ false) }
 {
-    with(Command::new(alloc, "check"), words(alloc, "sources"))
+    let command = with(Command::new(alloc, "check"), flag(alloc, "dump"))?;
+    with(command, words(alloc, "sources"))
 }
 
 fn selftest<'a>(alloc: Global) -> Result<Command<'a>, AllocError>
@@ -171,6 +172,13 @@ fn races<'a>(alloc: Global) -> Result<Command<'a>, AllocError>
     with(command, words(alloc, "sources"))
 }
 
+fn explain<'a>(alloc: Global) -> Result<Command<'a>, AllocError>
+    ensures app { IfOk result (λ c. app_of c ≡ explain_app) }
+    ensures local { IfOk result (λ c. (fields_of c).has_globals ≡ false) }
+{
+    with(Command::new(alloc, "explain"), word(alloc, "rule"))
+}
+
 /// The command line before it has a command.
 fn bare<'a>(alloc: Global) -> Command<'a>
     ensures { app_of result ≡ bare_app }
@@ -194,7 +202,8 @@ fn txcc<'a>(alloc: Global) -> Result<Command<'a>, AllocError>
         .subcommand(replay(alloc)?)?
         .subcommand(dis(alloc)?)?
         .subcommand(asm(alloc)?)?
-        .subcommand(races(alloc)?)
+        .subcommand(races(alloc)?)?
+        .subcommand(explain(alloc)?)
 }
 
 /// The matches of the words, or none where clap does not take them.

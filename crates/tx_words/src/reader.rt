@@ -3,12 +3,12 @@ ghost use Rattle.std.specs.Prelude.{◌≡◌, ◌≤◌, ◌⊎◌, IfOk, IfSom
 ghost use Rattle.std.specs.String.{string_bytes};
 ghost use Rattle.clap.specs.Words.{takes, rows_of, found_of, first_of};
 ghost use Rattle.tx_words.specs.Line.{txcc_app};
-ghost use Rattle.tx_words.specs.Reads.{number_of, flag_of, IsText, AreTexts, AreOptions, IsRun, IsSelftest, IsBuild, IsExec, IsReplay, IsAsm, IsRaces, IsCommand, Says};
+ghost use Rattle.tx_words.specs.Reads.{number_of, flag_of, IsText, AreTexts, AreOptions, IsRun, IsCheck, IsSelftest, IsBuild, IsExec, IsReplay, IsAsm, IsRaces, IsCommand, Says};
 ghost use Rattle.tx_words.specs.Reads.{HasNoSuchName, TakesOptions, HasUnknown};
-ghost use Rattle.tx_words.specs.Reads.{IsWithin, IsFlag, HasText, HasTexts, FitsRun, FitsSelftest, FitsBuild, FitsExec, FitsReplay, FitsAsm, FitsRaces, Fits};
+ghost use Rattle.tx_words.specs.Reads.{IsWithin, IsFlag, HasText, HasTexts, FitsRun, FitsCheck, FitsSelftest, FitsBuild, FitsExec, FitsReplay, FitsAsm, FitsRaces, Fits};
 ghost use Rattle.tx_words.specs.declared.command.Command.{Command as Commands};
 
-use crate::command::{Asm, Build, Command, Exec, Races, Replay, Run, RunOptions};
+use crate::command::{Asm, Build, Check, Command, Exec, Races, Replay, Run, RunOptions};
 use crate::line::matches_of;
 use crate::names::{picker_named, policy_named};
 use clap::ArgMatches;
@@ -128,6 +128,15 @@ fn run_of(alloc: Global, matches: &ArgMatches<'_>) -> Result<Option<Run>, AllocE
     }))
 }
 
+fn check_of(alloc: Global, matches: &ArgMatches<'_>) -> Result<Check, AllocError>
+    requires { FitsCheck (rows_of (found_of matches.now)) }
+    ensures { IfOk result (IsCheck (rows_of (found_of matches.now))) }
+{
+    let dump = flag(matches, "dump");
+    let sources = given_texts(alloc, matches, "sources")?;
+    Ok(Check { dump, sources })
+}
+
 fn exec_of(alloc: Global, matches: &ArgMatches<'_>) -> Result<Option<Exec>, AllocError>
     requires { FitsExec (rows_of (found_of matches.now)) }
     ensures some { IfOk result (λ o. IfSome o (IsExec (rows_of (found_of matches.now)))) }
@@ -213,7 +222,7 @@ fn command_of(
     if name == "run" {
         Ok(run_of(alloc, matches)?.map(Command::Run))
     } else if name == "check" {
-        Ok(Some(Command::Check(given_texts(alloc, matches, "sources")?)))
+        Ok(Some(Command::Check(check_of(alloc, matches)?)))
     } else if name == "selftest" {
         Ok(Some(Command::Selftest(selftest_of(matches))))
     } else if name == "build" {
@@ -228,6 +237,8 @@ fn command_of(
         Ok(Some(Command::Asm(asm_of(alloc, matches)?)))
     } else if name == "races" {
         Ok(races_of(alloc, matches)?.map(Command::Races))
+    } else if name == "explain" {
+        Ok(Some(Command::Explain(given_text(alloc, matches, "rule")?)))
     } else {
         unreachable!()
     }

@@ -16,7 +16,7 @@ has_slot (File name) h = tt
 
 pub can_do : (words : List (List ℕ)) (c : Command) → Says words c → CanDo c
 can_do words (command.Run r) h = tt
-can_do words (command.Check sources) h = tt
+can_do words (command.Check c) h = tt
 can_do words (command.Selftest n) h = tt
 can_do words (command.Build b) h = tt
 can_do words (command.Exec e) h = record { steps = h.says.1.options.bound; slot = has_slot e.options.picker h.says.1.options.picker.bounds }
@@ -24,3 +24,4 @@ can_do words (command.Replay r) h = tt
 can_do words (command.Dis object) h = tt
 can_do words (command.Asm m) h = tt
 can_do words (command.Races r) h = tt
+can_do words (command.Explain rule) h = tt

@@ -14,6 +14,7 @@ use Rattle.txcc_core.specs.FirstPath.{IsFirstPath, DecidesOn, wants_of}
 use Rattle.tx_answers.specs.Ends.{Ends, bare, on_one}
 use Rattle.text_commands.specs.TextCommands.{Disassembles, Assembles}
 use Rattle.exec_command.specs.Exec.{CanRun, Executes}
+use Rattle.explain_command.specs.Explain.{DecidesExplanation}
 
 -- the words say no command
 abbrev pub SaysNothing : List (List ℕ) → Type 0
@@ -35,7 +36,7 @@ pub data Runs (r : Run) (old new : HostState) (a : Answer) : Type 0 where
 -- what each command comes to. Those that the program does not have yet are usage
 abbrev pub Does : Command → HostState → HostState → Answer → Type 0
 Does (command.Run r) old new a = Runs r old new a
-Does (command.Check sources) old new a = Ends no_files DecidesUsage old new a
+Does (command.Check c) old new a = Ends no_files DecidesUsage old new a
 Does (command.Selftest n) old new a = Ends no_files DecidesUsage old new a
 Does (command.Build b) old new a = Ends no_files DecidesUsage old new a
 Does (command.Exec e) old new a = Executes e old new a
@@ -43,11 +44,12 @@ Does (command.Replay r) old new a = Ends no_files DecidesUsage old new a
 Does (command.Dis object) old new a = Ends (wanted kind.Object (string_bytes object) ∷ []) (on_one (Disassembles (string_bytes object))) old new a
 Does (command.Asm m) old new a = Ends (wanted kind.Text (string_bytes m.text) ∷ []) (on_one (Assembles (string_bytes m.text) (string_bytes m.object_file))) old new a
 Does (command.Races r) old new a = Ends no_files DecidesUsage old new a
+Does (command.Explain rule) old new a = Ends no_files (DecidesExplanation (string_bytes rule)) old new a
 
 -- a command whose options are such as the words can say
 abbrev pub CanDo : Command → Type 0
 CanDo (command.Run r) = Unit {0}
-CanDo (command.Check sources) = Unit {0}
+CanDo (command.Check c) = Unit {0}
 CanDo (command.Selftest n) = Unit {0}
 CanDo (command.Build b) = Unit {0}
 CanDo (command.Exec e) = CanRun e.options
@@ -55,6 +57,7 @@ CanDo (command.Replay r) = Unit {0}
 CanDo (command.Dis object) = Unit {0}
 CanDo (command.Asm m) = Unit {0}
 CanDo (command.Races r) = Unit {0}
+CanDo (command.Explain rule) = Unit {0}
 
 pub data Answers (words : List (List ℕ)) (old new : HostState) (a : Answer) : Type 0 where
   -- the words say this command

@@ -8,6 +8,7 @@ ghost use Rattle.txcc_core.specs.TopCall.{Answers, CanDo, Does, Runs, DecidesUsa
 use crate::run::{form_of, run_file};
 use command_io::Write;
 use exec_command::exec;
+use explain_command::explain;
 use std::alloc::{AllocError, Global};
 use text_commands::{asm, dis};
 use tx_answers::{Answer, Decision, Status, bare, settle};
@@ -58,6 +59,7 @@ fn execute<H: Host>(alloc: Global, command: &Command, host: &mut H) -> Answer
             host,
         ),
         Command::Exec(options) => exec(alloc, options, host),
+        Command::Explain(rule) => explain(alloc, rule.as_str(), host),
         Command::Check(_)
         | Command::Selftest(_)
         | Command::Build(_)

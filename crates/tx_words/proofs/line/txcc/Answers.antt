@@ -7,7 +7,8 @@ use Rattle.tx_words.proofs.line.txcc.Goals as goal
 pub returns : goal.returns
 unfolding txcc_app
 returns c =
-    IfOk-weaker c.subcommand-9.result _ _ (λ x h. h.shape c.in_ok-races.ensures.local ∙ ap₂ with_subcommand
+    IfOk-weaker c.subcommand-10.result _ _ (λ x h. h.shape c.in_ok-explain.ensures.local ∙ ap₂ with_subcommand
+    (c.in_ok-subcommand-9.ensures.shape c.in_ok-races.ensures.local ∙ ap₂ with_subcommand
     (c.in_ok-subcommand-8.ensures.shape c.in_ok-asm.ensures.local ∙ ap₂ with_subcommand
     (c.in_ok-subcommand-7.ensures.shape c.in_ok-dis.ensures.local ∙ ap₂ with_subcommand
     (c.in_ok-subcommand-6.ensures.shape c.in_ok-replay.ensures.local ∙ ap₂ with_subcommand
@@ -19,4 +20,4 @@ returns c =
     (ap (λ (a : App). a.top) c.in_ok-check.ensures.app)) (ap (λ (a : App). a.top) c.in_ok-selftest.ensures.app))
     (ap (λ (a : App). a.top) c.in_ok-build.ensures.app)) (ap (λ (a : App). a.top) c.in_ok-exec.ensures.app))
     (ap (λ (a : App). a.top) c.in_ok-replay.ensures.app)) (ap (λ (a : App). a.top) c.in_ok-dis.ensures.app))
-    (ap (λ (a : App). a.top) c.in_ok-asm.ensures.app)) (ap (λ (a : App). a.top) c.in_ok-races.ensures.app)) c.subcommand-9.ensures
+    (ap (λ (a : App). a.top) c.in_ok-asm.ensures.app)) (ap (λ (a : App). a.top) c.in_ok-races.ensures.app)) (ap (λ (a : App). a.top) c.in_ok-explain.ensures.app)) c.subcommand-10.ensures

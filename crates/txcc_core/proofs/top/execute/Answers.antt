@@ -3,6 +3,7 @@ use Rattle.command_io.specs.Reads.{wanted}
 use Rattle.command_io.specs.declared.files.FileKind.TheVariants.{Object, Text}
 use Rattle.tx_words.specs.declared.command.Command.{Command}
 use Rattle.tx_answers.specs.Ends.{Ends, on_one}
+use Rattle.explain_command.specs.Explain.{DecidesExplanation}
 use Rattle.text_commands.specs.TextCommands.{Disassembles, Assembles}
 use Rattle.txcc_core.specs.TopCall.{CanDo, Does}
 use Rattle.txcc_core.proofs.top.execute.Goals as goal
@@ -48,3 +49,10 @@ returns-in-Check g c =
         ]
       ]
     ]
+
+pub returns-in-Explain : goal.returns-in-Explain
+returns-in-Explain g c =
+    let before = g.H.Host.state c.args.host.now in
+    let after = g.H.Host.state c.explain.new.host in
+    subst (λ k. Does k before after c.explain.result) (sym c.in-Explain.is)
+    (subst (λ (n : List ℕ). Ends [] (DecidesExplanation n) before after c.explain.result) c.as_str-in-Explain.ensures.value c.explain.ensures)
