@@ -1,0 +1,4 @@
+pub mod Declarators
+pub mod Deducing
+pub mod Inits
+pub mod Variables

@@ -1,0 +1,6 @@
+pub mod Behind
+pub mod Choices
+pub mod Labelling
+pub mod Makings
+pub mod Standing
+pub mod Wholly
