@@ -1,4 +1,5 @@
 pub mod Behind
+pub mod Catching
 pub mod Choices
 pub mod Labelling
 pub mod Makings

@@ -41,8 +41,8 @@ Catches old new (Err e) x = Faults e x
 
 -- The same, step by step
 
-abbrev pub typed_handler : List Lexeme → State → At → Typ → Option ℕ → Result Caught ElabFault
-typed_handler s st at t name = and_then (caught_type st.ctx at t) (λ (u : Typ). named_handler s st at at t u name)
+abbrev pub typed_handler : List Lexeme → State → At → At → Typ → Option ℕ → Result Caught ElabFault
+typed_handler s st at p t name = and_then (caught_type st.ctx p t) (λ (u : Typ). named_handler s st at p t u name)
 
-abbrev pub parameter_caught : List Lexeme → State → At → syntax.Tree → syntax.Tree → Result Caught ElabFault
-parameter_caught s st at base d = and_then (type_of_specifiers s st.ctx st.work base) (λ (t : Typ). and_then (declared_by s st.ctx st.work at t d) (λ (r : Declared). typed_handler s st at r.typ r.name))
+abbrev pub parameter_caught : List Lexeme → State → At → At → syntax.Tree → syntax.Tree → Result Caught ElabFault
+parameter_caught s st at p base d = and_then (type_of_specifiers s st.ctx st.work base) (λ (t : Typ). and_then (declared_by s st.ctx st.work p t d) (λ (r : Declared). typed_handler s st at p r.typ r.name))

@@ -107,17 +107,18 @@ pub fn place_variable(
     Ok(place)
 }
 
-// A handler with a name, or without one.
+// A handler with a name, or without one. What it catches is declared at a place.
 fn named_handler(
     alloc: Global,
     tokens: &Tokens,
     st: &mut State,
     at: At,
+    place: At,
     ty: Ty,
     inner: &Ty,
     name: Option<u32>,
 ) -> Result<Caught, ElabFault>
-    ensures { Catches st.old st.new result (named_handler_of (lexemes_of tokens.now) (state_of st.old) at at (typ_of ty) (typ_of inner.now) name) }
+    ensures { Catches st.old st.new result (named_handler_of (lexemes_of tokens.now) (state_of st.old) at place (typ_of ty) (typ_of inner.now) name) }
 {
     let Some(name) = name else {
         return Ok(Caught {
@@ -126,13 +127,13 @@ fn named_handler(
             fields: Vec::new(alloc),
         });
     };
-    let Ok(place) = place_variable(alloc, st, at, spelling(tokens, name), inner) else {
+    let Ok(slot) = place_variable(alloc, st, place, spelling(tokens, name), inner) else {
         return Err(ElabFault::Memory);
     };
     let fields = fields(alloc, &st.env, &mut st.work.nodes, at, inner)?;
     Ok(Caught {
         ty,
-        place: Some(place),
+        place: Some(slot),
         fields,
     })
 }
@@ -143,32 +144,36 @@ fn typed_handler(
     tokens: &Tokens,
     st: &mut State,
     at: At,
+    place: At,
     ty: Ty,
     name: Option<u32>,
 ) -> Result<Caught, ElabFault>
-    ensures { Catches st.old st.new result (typed_handler_of (lexemes_of tokens.now) (state_of st.old) at (typ_of ty) name) }
+    ensures { Catches st.old st.new result (typed_handler_of (lexemes_of tokens.now) (state_of st.old) at place (typ_of ty) name) }
 {
-    let inner = caught_type(alloc, &st.env, at, &ty)?;
-    named_handler(alloc, tokens, st, at, ty, &inner, name)
+    let inner = caught_type(alloc, &st.env, place, &ty)?;
+    named_handler(alloc, tokens, st, at, place, ty, &inner, name)
 }
 
-// What a handler of a declared type catches.
+// What a handler of a declared type catches, which is declared at a place.
 fn parameter_caught(
     alloc: Global,
     tokens: &Tokens,
     nodes: &Nodes,
     at: At,
+    place: At,
     base: NodeId,
     declarator: NodeId,
     st: &mut State,
 ) -> Result<Caught, ElabFault>
     requires base { base.0 < length nodes.now }
     requires declarator { declarator.0 < length nodes.now }
-    ensures { Catches st.old st.new result (parameter_caught_of (lexemes_of tokens.now) (state_of st.old) at (syntax_at (syntax_of nodes.now) base) (syntax_at (syntax_of nodes.now) declarator)) }
+    ensures { Catches st.old st.new result (parameter_caught_of (lexemes_of tokens.now) (state_of st.old) at place (syntax_at (syntax_of nodes.now) base) (syntax_at (syntax_of nodes.now) declarator)) }
 {
     let ty = specified(alloc, &st.env, tokens, nodes, base, &st.work)?;
-    let found = declared_by(alloc, &st.env, tokens, nodes, at, &ty, declarator, &st.work)?;
-    typed_handler(alloc, tokens, st, at, found.ty, found.name)
+    let found = declared_by(
+        alloc, &st.env, tokens, nodes, place, &ty, declarator, &st.work,
+    )?;
+    typed_handler(alloc, tokens, st, at, place, found.ty, found.name)
 }
 
 /// What a handler catches: with `...`, anything.
@@ -189,8 +194,8 @@ pub fn handler_type(
             let Kids::Two(base, declarator) = kids_of(&node.kids) else {
                 return Err(ElabFault::Memory);
             };
-            let at = place(node.at);
-            parameter_caught(alloc, tokens, nodes, at, base, declarator, st)
+            let here = place(node.at);
+            parameter_caught(alloc, tokens, nodes, at, here, base, declarator, st)
         }
         _ => Ok(Caught {
             ty: plain_type(Shape::Void),

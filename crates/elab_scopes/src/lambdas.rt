@@ -1,10 +1,11 @@
 // What makes lambdas (C++14 5.1.2).
 
-ghost use Rattle.std.specs.Prelude.{◌≡◌, ◌<◌, length, Some, None, IfOk, option_map};
+ghost use Rattle.std.specs.Prelude.{◌≡◌, ◌<◌, length, true};
 ghost use Rattle.cpp_lex.specs.Tokens.{lexemes_of};
-ghost use Rattle.elab_rules.specs.Lambdas.{no_lambda, first_lambda as first_lambda_of};
+ghost use Rattle.cpp_ast.specs.Orders.{are_below};
+ghost use Rattle.elab_rules.specs.Lambdas.{no_lambda, first_of, first_lambda as first_lambda_of};
 ghost use Rattle.elab_rules.specs.Statements.{Lambdas};
-ghost use Rattle.elab_types.specs.Syntax.{syntax_of, tree_at};
+ghost use Rattle.elab_types.specs.Syntax.{syntax_of, tree_at, trees_at};
 ghost use Rattle.elab_scopes.specs.States.{state_of};
 ghost use Rattle.elab_scopes.specs.Says.{Changes};
 
@@ -57,16 +58,27 @@ impl MakeLambdas for NoLambdas {
 }
 
 /// The place of the first lambda in a tree.
+#[cycle(lambdas)]
 pub fn first_lambda(nodes: &Nodes, id: NodeId) -> Option<At>
     requires { id.0 < length nodes.now }
     ensures { result ≡ first_lambda_of (tree_at (syntax_of nodes.now) id) }
 {
     let node = node_at(nodes, id);
-    if matches!(node.kind, NodeKind::Lambda) {
-        return Some(place(node.at));
+    match node.kind {
+        NodeKind::Lambda => Some(place(node.at)),
+        _ => first_among(nodes, id, &node.kids),
     }
-    for kid in &node.kids {
-        if let Some(at) = first_lambda(nodes, *kid) {
+}
+
+// The place of the first lambda in some trees, which are kids of a node.
+#[cycle(lambdas)]
+fn first_among(nodes: &Nodes, parent: NodeId, ids: &[NodeId]) -> Option<At>
+    requires within { parent.0 < length nodes.now }
+    requires lower { are_below parent.0 ids.now ≡ true }
+    ensures { result ≡ first_of (trees_at (syntax_of nodes.now) ids.now) }
+{
+    for id in ids {
+        if let Some(at) = first_lambda(nodes, *id) {
             return Some(at);
         }
     }

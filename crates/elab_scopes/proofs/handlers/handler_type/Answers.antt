@@ -3,11 +3,9 @@ use Rattle.cpp_types.specs.declared.classes.At.{At}
 use Rattle.cpp_lex.specs.Tokens.{lexemes_of}
 use Rattle.cpp_ast.specs.declared.kinds.NodeKind.TheVariants.{ParameterDeclaration}
 use Rattle.cpp_ast.specs.Trees.{node, none, more}
-use Rattle.elab_rules.specs.Statements.{handler_type}
 use Rattle.elab_types.specs.Syntax.{syntax_of, tree_at}
 use Rattle.elab_scopes.specs.States.{state_of}
-use Rattle.elab_scopes.specs.Caught.{parameter_caught}
-use Rattle.elab_scopes.proofs.Choices.{catches_same}
+use Rattle.elab_scopes.proofs.Catching.{parameter_catches}
 use Rattle.elab_scopes.proofs.handlers.handler_type.Goals as goal
 
 pub returns-in-Two : goal.returns-in-Two
@@ -15,4 +13,4 @@ returns-in-Two c =
     let syn = syntax_of c.args.nodes.now in
     let n = c.node_at-node.result.now in
     let e : tree_at syn c.args.id ≡ node ParameterDeclaration n.at n.token (more (tree_at syn c.in-Two.base) (more (tree_at syn c.in-Two.declarator) none)) = search rules in
-    catches_same _ _ _ _ _ (ap (handler_type (lexemes_of c.args.tokens.now) (state_of c.args.st.now) c.args.at) e ∙ ap (λ (z : At). parameter_caught (lexemes_of c.args.tokens.now) (state_of c.args.st.now) z (tree_at syn c.in-Two.base) (tree_at syn c.in-Two.declarator)) (sym c.place-at.ensures)) c.parameter_caught.ensures
+    parameter_catches _ _ _ (lexemes_of c.args.tokens.now) (state_of c.args.st.now) c.args.at n.at c.place-here.result n.token (tree_at syn c.args.id) (tree_at syn c.in-Two.base) (tree_at syn c.in-Two.declarator) e c.place-here.ensures c.parameter_caught.ensures
