@@ -1,12 +1,12 @@
 -- Statements, one behind the other.
-use Rattle.std.proofs.Common.{◌≡◌, ◌<◌, ◌≤◌, ◌+◌, ◌++◌, ◌∷◌, ℕ, true, List, [], length, drop, get_or, refl, sym, ap, ◌∙◌, subst, Result, Ok, Err, append-nil}
+use Rattle.std.proofs.Common.{◌≡◌, ◌<◌, ◌≤◌, ◌+◌, ◌++◌, ◌∷◌, ℕ, true, List, [], length, drop, get_or, refl, sym, ap, ◌∙◌, subst, Result, Ok, Err}
 use Rattle.cpp_ast.specs.Trees as syntax
 use Rattle.cpp_ast.specs.declared.arena.NodeId.{NodeId}
 use Rattle.cpp_tree.specs.declared.faults.ElabFault.{ElabFault}
 use Rattle.cpp_tree.specs.declared.faults.ElabFault.TheVariants.{Ill, Override, JumpIntoBlock, Limit, Memory}
 use Rattle.cpp_tree.specs.declared.arena.TNodeId.{TNodeId}
 use Rattle.cpp_tree.specs.Trees.{Tree, Trees, none, one}
-use Rattle.cpp_tree.specs.Arena.{tree_at, trees_at, Grows}
+use Rattle.cpp_tree.specs.Arena.{tree_at, trees_at}
 use Rattle.elab_ctx.specs.Steps.{and_then}
 use Rattle.elab_ctx.specs.Says.{Faults, are_within}
 use Rattle.elab_ctx.proofs.Making.{faults_in, faults_same}

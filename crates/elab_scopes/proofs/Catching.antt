@@ -1,5 +1,5 @@
 -- A handler of a declared type.
-use Rattle.std.proofs.Common.{◌≡◌, ◌∙◌, ℕ, List, Option, Result, refl, sym, ap, subst}
+use Rattle.std.proofs.Common.{◌≡◌, ◌∙◌, ℕ, List, Option, Result, refl, sym, ap}
 use Rattle.cpp_lex.specs.Tokens.{Lexeme}
 use Rattle.cpp_types.specs.declared.classes.At.{At}
 use Rattle.cpp_ast.specs.declared.arena.At.{At as SyntaxAt}
@@ -7,7 +7,7 @@ use Rattle.cpp_ast.specs.declared.kinds.NodeKind.TheVariants as k
 use Rattle.cpp_ast.specs.Trees as syntax
 use Rattle.cpp_tree.specs.declared.faults.ElabFault.{ElabFault}
 use Rattle.elab_ctx.specs.Steps.{at_of}
-use Rattle.elab_rules.specs.Statements.{State, Caught, handler_type}
+use Rattle.elab_rules.specs.Statements.{State, handler_type}
 use Rattle.elab_scopes.specs.declared.state.State.{State as StateRec}
 use Rattle.elab_scopes.specs.declared.state.Caught.{Caught as CaughtRec}
 use Rattle.elab_scopes.specs.Caught.{Catches, parameter_caught}

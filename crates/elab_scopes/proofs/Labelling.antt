@@ -1,5 +1,5 @@
 -- A label from its expression, step by step.
-use Rattle.std.proofs.Common.{◌≡◌, ℕ, Bool, List, refl, sym, ap, ◌∙◌, subst, Result, Ok, Err}
+use Rattle.std.proofs.Common.{◌≡◌, ℕ, Bool, List, refl, sym, ap, ◌∙◌, Result, Ok, Err}
 use Rattle.cpp_lex.specs.Tokens.{Lexeme}
 use Rattle.cpp_types.specs.declared.classes.At.{At}
 use Rattle.cpp_ast.specs.Trees as syntax
@@ -15,7 +15,7 @@ use Rattle.elab_rules.specs.Initialising.{initial}
 use Rattle.elab_rules.specs.Constants.{constant}
 use Rattle.elab_rules.specs.Operators.{value}
 use Rattle.elab_rules.specs.Expressions.{expression_of, chosen_operand}
-use Rattle.elab_rules.specs.Statements.{State, Done, label_here, case_fits, case_label}
+use Rattle.elab_rules.specs.Statements.{State, label_here, case_fits, case_label}
 use Rattle.elab_scopes.specs.Labelled.{word_of, label_word, case_word, case_of}
 use Rattle.elab_scopes.specs.declared.state.State.{State as StateRec}
 use Rattle.elab_scopes.specs.States.{state_of}

@@ -1,5 +1,5 @@
 -- The lambdas of several expressions, one behind the other.
-use Rattle.std.proofs.Common.{◌≡◌, refl, sym, ap, ◌∙◌, Result, Ok, Err}
+use Rattle.std.proofs.Common.{◌≡◌, refl, ap, ◌∙◌, Result, Ok}
 use Rattle.cpp_tree.specs.declared.faults.ElabFault.{ElabFault}
 use Rattle.elab_ctx.specs.Steps.{and_then}
 use Rattle.elab_ctx.specs.Says.{Faults}

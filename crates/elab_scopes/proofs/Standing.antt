@@ -1,21 +1,19 @@
 -- What stays of a state, in several steps.
-use Rattle.std.proofs.Common.{◌≡◌, ◌<◌, ◌++◌, ℕ, List, [], length, refl, sym, ap, ◌∙◌, append_assoc, append-nil, subst, Result, Ok, Err, IfOk, take}
+use Rattle.std.proofs.Common.{◌≡◌, ◌<◌, ◌++◌, ℕ, List, [], length, refl, sym, ap, ◌∙◌, append_assoc, append-nil, subst, Result, Ok, Err, IfOk}
 use Rattle.std.specs.declared.alloc.AllocError.{AllocError}
 use Rattle.cpp_tree.specs.declared.faults.ElabFault.{ElabFault}
 use Rattle.cpp_tree.specs.declared.arena.TNodeId.{TNodeId}
 use Rattle.cpp_tree.specs.Trees.{Tree, one}
-use Rattle.cpp_tree.specs.Arena.{tree_at, Grows, Adds}
-use Rattle.elab_ctx.specs.Ctx.{Ctx, Labels, ctx_of}
+use Rattle.cpp_tree.specs.Arena.{tree_at, Grows}
+use Rattle.elab_ctx.specs.Ctx.{Labels, ctx_of}
 use Rattle.elab_ctx.specs.Steps.{and_then}
-use Rattle.elab_ctx.specs.Says.{Faults}
 use Rattle.elab_ctx.proofs.Looks.{grows_refl, grows_trans}
 use Rattle.elab_ctx.proofs.Making.{faults_same}
-use Rattle.elab_rules.specs.Statements.{State, Done, Full, Switched, done}
+use Rattle.elab_rules.specs.Statements.{State, Done, Switched, done}
 use Rattle.elab_scopes.specs.declared.state.State.{State as StateRec}
 use Rattle.elab_scopes.specs.declared.state.SwitchedOn.{SwitchedOn}
-use Rattle.elab_ctx.specs.declared.operand.Operand.{Operand as OperandRec}
 use Rattle.elab_scopes.specs.States.{state_of, made, KeepsLabels, Grown}
-use Rattle.elab_scopes.specs.Says.{Changes, Fulls, OneDone, Does, AllDone, DoesAll, Switches}
+use Rattle.elab_scopes.specs.Says.{Changes, OneDone, Does, Switches}
 
 pub keeps_refl : (l : Labels) → KeepsLabels l l
 keeps_refl l = record { typ = refl; extra = []; words = sym (append-nil l.words) }

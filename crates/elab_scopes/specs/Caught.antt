@@ -1,5 +1,5 @@
 -- Variables with their places, and what handlers catch.
-use Rattle.std.specs.Prelude.{◌≡◌, ℕ, true, List, length, Some, Option, Result, Ok, Err}
+use Rattle.std.specs.Prelude.{◌≡◌, ℕ, true, List, length, Option, Result, Ok, Err}
 use Rattle.cpp_types.specs.Typ.{Typ, typ_of}
 use Rattle.cpp_types.specs.declared.classes.At.{At}
 use Rattle.cpp_tree.specs.declared.faults.ElabFault.{ElabFault}

@@ -1,5 +1,5 @@
 -- Labels of a `switch`, step by step.
-use Rattle.std.specs.Prelude.{ℕ, ◌==◌, Bool, not, List, [], ◌∷◌, ◌++◌, Result, Ok}
+use Rattle.std.specs.Prelude.{ℕ, ◌==◌, not, List, [], ◌∷◌, ◌++◌, Result, Ok}
 use Rattle.std.specs.List.{list_any}
 use Rattle.cpp_types.specs.declared.classes.At.{At}
 use Rattle.cpp_lex.specs.Tokens.{Lexeme}

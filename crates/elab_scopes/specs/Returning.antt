@@ -1,5 +1,5 @@
 -- `return`, step by step.
-use Rattle.std.specs.Prelude.{Bool, false, ◌||◌, Option, Some, None, Result, Ok, Err}
+use Rattle.std.specs.Prelude.{false, ◌||◌, Option, Some, None, Result}
 use Rattle.cpp_types.specs.Typ.{Typ}
 use Rattle.cpp_types.specs.declared.classes.At.{At}
 use Rattle.cpp_tree.specs.declared.faults.ElabFault.{ElabFault}
@@ -11,7 +11,7 @@ use Rattle.elab_ctx.specs.Ctx.{Returns, known, deduced}
 use Rattle.elab_ctx.specs.Steps.{and_then, check, Made}
 use Rattle.elab_rules.specs.Initialising.{initial, class_from}
 use Rattle.elab_rules.specs.Operators.{value, is_throw}
-use Rattle.elab_rules.specs.Statements.{State, Done, Full, done, full, with_work, statement, return_node, result_object, with_deduced, same_deduction, return_value}
+use Rattle.elab_rules.specs.Statements.{State, Done, Full, done, full, with_work, statement, return_node, result_object, with_deduced, same_deduction}
 
 abbrev pub void_returned : At → At → Tree → Tree
 void_returned at place e = statement (forms.Block false) at (two (full place e) (return_node at none))

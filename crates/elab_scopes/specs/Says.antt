@@ -5,7 +5,7 @@ use Rattle.cpp_types.specs.declared.classes.At.{At}
 use Rattle.cpp_tree.specs.declared.faults.ElabFault.{ElabFault}
 use Rattle.cpp_tree.specs.declared.faults.IllRule.TheVariants.{Redeclared}
 use Rattle.cpp_tree.specs.declared.arena.TNodeId.{TNodeId}
-use Rattle.cpp_tree.specs.Trees.{Tree, Trees, one}
+use Rattle.cpp_tree.specs.Trees.{Trees, one}
 use Rattle.cpp_tree.specs.Arena.{tree_at, trees_at}
 use Rattle.elab_ctx.specs.declared.operand.Operand.{Operand as OperandRec}
 use Rattle.elab_ctx.specs.Ctx.{Ctx, with_variable}

@@ -1,13 +1,13 @@
 // What handlers catch (C++14 15.3).
 
-ghost use Rattle.std.specs.Prelude.{◌≡◌, ◌<◌, length, OnOk, option_map};
+ghost use Rattle.std.specs.Prelude.{◌≡◌, ◌<◌, length};
 ghost use Rattle.cpp_lex.specs.Tokens.{lexemes_of};
 ghost use Rattle.cpp_types.specs.Typ.{typ_of};
 ghost use Rattle.cpp_tree.specs.Typing.{form_in};
 ghost use Rattle.elab_ctx.specs.Ctx.{ctx_of};
 ghost use Rattle.elab_ctx.specs.Says.{Tells};
 ghost use Rattle.elab_rules.specs.Objects.{traits_at as traits_at_of};
-ghost use Rattle.elab_rules.specs.Statements.{caught_form as caught_form_of, caught_type as caught_type_of, placed_variable as placed_variable_of, named_handler as named_handler_of, handler_type as handler_type_of};
+ghost use Rattle.elab_rules.specs.Statements.{caught_form as caught_form_of, caught_type as caught_type_of, named_handler as named_handler_of, handler_type as handler_type_of};
 ghost use Rattle.elab_types.specs.Shown.{Says};
 ghost use Rattle.elab_types.specs.Syntax.{syntax_of, tree_at as syntax_at};
 ghost use Rattle.elab_scopes.specs.States.{state_of};
@@ -18,7 +18,7 @@ use crate::scopes::declare;
 use crate::state::{Caught, State};
 use cpp_ast::{NodeId, NodeKind, Nodes};
 use cpp_lex::Tokens;
-use cpp_tree::{ElabFault, IllRule, TNodeId};
+use cpp_tree::{ElabFault, IllRule};
 use cpp_types::{At, Shape, Ty, copy};
 use elab_ctx::{Env, add_item, traits_of_class};
 use elab_make::fields;
@@ -26,7 +26,7 @@ use elab_names::parts::plain_type;
 use elab_types::kids::{Kids, kids_of};
 use elab_types::specifiers::ill;
 use elab_types::syntax::{node_at, place, spelling};
-use std::alloc::{AllocError, Global};
+use std::alloc::Global;
 
 fn is_copied_bytewise(env: &Env, class: u32) -> bool
     ensures { result ≡ (traits_at_of (ctx_of env.now) class).is_trivially_copyable }

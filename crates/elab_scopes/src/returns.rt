@@ -1,6 +1,6 @@
 // `return` (C++14 6.6.3).
 
-ghost use Rattle.std.specs.Prelude.{◌≡◌, ◌<◌, length, true, IfOk, Some, None, option_map, if◌then◌else◌};
+ghost use Rattle.std.specs.Prelude.{◌≡◌, ◌<◌, length, true, IfOk, Some, None, option_map};
 ghost use Rattle.cpp_lex.specs.Tokens.{lexemes_of};
 ghost use Rattle.cpp_ast.specs.Orders.{are_below};
 ghost use Rattle.cpp_types.specs.Typ.{typ_of};
@@ -8,7 +8,7 @@ ghost use Rattle.cpp_tree.specs.Arena.{trees_of, tree_at, Adds};
 ghost use Rattle.cpp_tree.specs.Trees.{kind_of};
 ghost use Rattle.elab_ctx.specs.Ctx.{ctx_of, returns_of};
 ghost use Rattle.elab_rules.specs.Operators.{is_throw as is_throw_of};
-ghost use Rattle.elab_rules.specs.Statements.{returned as returned_of, return_by as return_by_of, return_nothing as return_nothing_of, return_value as return_value_of, deduced_return as deduced_return_of, same_deduction as same_deduction_of, result_object as result_object_of};
+ghost use Rattle.elab_rules.specs.Statements.{returned as returned_of, return_by as return_by_of, return_nothing as return_nothing_of, return_value as return_value_of, same_deduction as same_deduction_of, result_object as result_object_of};
 ghost use Rattle.elab_types.specs.Syntax.{syntax_of, trees_at as syntaxes_at};
 ghost use Rattle.elab_scopes.specs.States.{state_of, made, full_in};
 ghost use Rattle.elab_scopes.specs.Returning.{void_returned, object_returned as object_returned_of, return_object as return_object_of, return_void as return_void_of, return_scalar as return_scalar_of, return_known, return_deduced, return_deduced_by, object_built as object_built_of, scalar_returned as scalar_returned_of};

@@ -1,6 +1,6 @@
 // Into scopes and out of them (C++14 3.3.3), and names of variables.
 
-ghost use Rattle.std.specs.Prelude.{◌≡◌, ◌++◌, ◌∷◌, [], map, true, false, OnOk, IfOk, option_map};
+ghost use Rattle.std.specs.Prelude.{◌≡◌, ◌++◌, ◌∷◌, [], true, false, OnOk, IfOk, option_map};
 ghost use Rattle.cpp_types.specs.Typ.{typ_of};
 ghost use Rattle.elab_ctx.specs.Ctx.{ctx_of, opened, closed, labels_of};
 ghost use Rattle.elab_rules.specs.Statements.{inner_label as inner_label_of, block_label as block_label_of, no_labels as no_labels_of};

@@ -1,5 +1,4 @@
-use Rattle.std.proofs.Common.{◌≡◌, ◌∙◌, sym, ap, rules}
-use Rattle.cpp_types.specs.declared.classes.At.{At}
+use Rattle.std.proofs.Common.{◌≡◌, ◌∙◌, rules}
 use Rattle.cpp_lex.specs.Tokens.{lexemes_of}
 use Rattle.cpp_ast.specs.declared.kinds.NodeKind.TheVariants.{ParameterDeclaration}
 use Rattle.cpp_ast.specs.Trees.{node, none, more}

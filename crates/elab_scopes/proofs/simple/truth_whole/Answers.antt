@@ -1,7 +1,6 @@
 use Rattle.std.proofs.Common.{ap, refl, Result, Ok}
 use Rattle.cpp_tree.specs.declared.faults.ElabFault.{ElabFault}
 use Rattle.cpp_tree.specs.Trees.{Tree}
-use Rattle.cpp_tree.specs.Arena.{tree_at, trees_of}
 use Rattle.elab_ctx.specs.Ctx.{work_of}
 use Rattle.elab_ctx.specs.Steps.{and_then}
 use Rattle.elab_scopes.specs.States.{full_in}
