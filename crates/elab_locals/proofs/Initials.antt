@@ -1,5 +1,5 @@
 -- Initialisers as they are written, and variables with them.
-use Rattle.std.proofs.Common.{◌≡◌, ◌<◌, ◌-◌, ◌++◌, ◌∷◌, ℕ, zero, suc, Bool, true, false, List, [], length, Option, Some, None, Result, Ok, Err, refl, sym, ap, ◌∙◌, subst}
+use Rattle.std.proofs.Common.{◌≡◌, ◌<◌, ◌-◌, ◌++◌, ◌∷◌, ℕ, zero, suc, Bool, true, false, List, [], length, Option, Some, None, Result, Ok, Err, refl, sym, ap, ◌∙◌, subst, arith}
 use Rattle.cpp_lex.specs.Tokens.{Lexeme}
 use Rattle.cpp_ast.specs.declared.kinds.NodeKind.TheVariants as k
 use Rattle.cpp_ast.specs.Trees as syntax
@@ -48,8 +48,7 @@ length_more [] x = refl
 length_more (y ∷ xs) x = ap suc (length_more xs x)
 
 length_last : (xs : List Variable) (x : Variable) → length (xs ++ x ∷ []) - 1 ≡ length xs
-length_last [] x = refl
-length_last (y ∷ xs) x = length_more xs x
+length_last xs x = omega (arith, length_more xs x)
 
 auto_is : (lams : Lambdas) (s : List Lexeme) (st : State) (name : List ℕ) (t : Typ) (at : At) (before : Option Typ) (e : syntax.Tree) → auto_variable lams s (declared_variable st name None) (length st.ctx.variables) t at before e ≡ auto_declared lams s (declared_variable st name None) t at before e
 auto_is lams s st name t at before e = then_same (full_operand lams s (declared_variable st name None) e) _ _ (λ (f : Full). ap (λ (n : ℕ). auto_from n t at before f) (sym (length_last st.ctx.variables (record { typ = None; place = length st.work.frame }))))

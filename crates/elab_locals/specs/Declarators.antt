@@ -13,7 +13,7 @@ use Rattle.elab_ctx.specs.Ctx.{Ctx}
 use Rattle.elab_ctx.specs.Steps.{and_then, check}
 use Rattle.elab_ctx.specs.Says.{Faults}
 use Rattle.elab_rules.specs.Types.{Declared}
-use Rattle.elab_rules.specs.Expressions.{type_of_specifiers}
+use Rattle.elab_rules.specs.Expressions.{type_of_specifiers, declared_by}
 use Rattle.elab_rules.specs.Statements.{Lambdas, State, Done, Deduction, Declaring, done, variable, name_of, is_own_name, declared_more, is_direct_label, may_be_skipped, block_declarators}
 use Rattle.elab_scopes.specs.declared.state.State.{State as StateRec}
 use Rattle.elab_locals.specs.Deducing.{declaring_of, DeclaringAt}
@@ -23,6 +23,10 @@ past_ctx t init c = record c { labels = record c.labels { is_past = c.labels.is_
 
 abbrev pub declared_from : Lambdas → List Lexeme → At → Declaring → Declared → syntax.Trees → Result Declaring ElabFault
 declared_from lams s at d r init = and_then (check at BadDeclaration (is_own_name r)) (λ z. and_then (variable lams s d.state (name_of s r.name) r.typ at d.auto init) (λ (y : Deduction). Ok (declared_more d r.typ init y)))
+
+-- a declarator of a type, with the initialiser behind it
+abbrev pub init_declarator : Lambdas → List Lexeme → At → Typ → Declaring → syntax.Tree → syntax.Trees → Result Declaring ElabFault
+init_declarator lams s at t d x init = and_then (declared_by s d.state.ctx d.state.work at t x) (λ (r : Declared). declared_from lams s at d r init)
 
 -- behind a type
 abbrev pub specified_by : Lambdas → List Lexeme → State → syntax.Tree → syntax.Trees → Result Done ElabFault

@@ -1,17 +1,18 @@
 // Variables whose type their initialiser gives (C++14 7.1.6.4).
 
-ghost use Rattle.std.specs.Prelude.{◌≡◌, ◌<◌, Some, MatchOption, length, true, slice_set, option_map, IfOk};
+ghost use Rattle.std.specs.Prelude.{◌≡◌, ◌<◌, ◌+◌, Some, MatchOption, length, true, slice_set, option_map, IfOk};
 ghost use Rattle.cpp_lex.specs.Tokens.{lexemes_of};
 ghost use Rattle.cpp_ast.specs.Orders.{are_below};
 ghost use Rattle.cpp_types.specs.Typ.{typ_of};
-ghost use Rattle.elab_ctx.specs.Ctx.{ctx_of};
-ghost use Rattle.elab_rules.specs.Statements.{same_deduction as same_deduction_of, only_expression as only_expression_of, replaced as replaced_of};
+ghost use Rattle.elab_ctx.specs.Ctx.{ctx_of, work_of, next_place};
+ghost use Rattle.elab_rules.specs.Statements.{same_deduction as same_deduction_of, replaced as replaced_of};
 ghost use Rattle.elab_types.specs.Syntax.{syntax_of, tree_at, trees_at};
 ghost use Rattle.elab_scopes.specs.States.{state_of, made, full_in};
 ghost use Rattle.elab_scopes.specs.Says.{OneDone, Does};
 ghost use Rattle.cpp_tree.specs.Arena.{tree_at as tree_in};
 ghost use Rattle.elab_locals.specs.Variables.{auto_node, auto_of_type as auto_of_type_of, auto_from as auto_from_of, auto_read, auto_declared as auto_declared_of};
 ghost use Rattle.elab_locals.specs.Deducing.{Variables};
+ghost use Rattle.elab_locals.specs.Values.{only_value as only_value_of, plain_value as plain_value_of, equal_value as equal_value_of, expression_in as expression_in_of, value_of as value_of_of};
 
 use crate::deduction::{deduced_type, replaced};
 use crate::inits::{init_node, local};
@@ -20,7 +21,7 @@ use cpp_lex::Tokens;
 use cpp_tree::{ElabFault, IllRule, TNodeId};
 use cpp_types::{At, Ty, copy, equal_types};
 use elab_braces::copy_initialised;
-use elab_ctx::{Env, Operand, Variable, add_item};
+use elab_ctx::{Env, Operand, Variable, Work, add_item};
 use elab_scopes::full::full_operand;
 use elab_scopes::scopes::declare;
 use elab_scopes::{MakeLambdas, State};
@@ -142,26 +143,67 @@ fn auto_from(
     Ok(made)
 }
 
+// What stands alone among these kids of a node.
+fn only_value(nodes: &Nodes, parent: NodeId, ids: &[NodeId]) -> Option<NodeId>
+    requires within { parent.0 < length nodes.now }
+    requires lower { are_below parent.0 ids.now ≡ true }
+    ensures is { option_map (tree_at (syntax_of nodes.now)) result ≡ only_value_of (trees_at (syntax_of nodes.now) ids.now) }
+    ensures lower { MatchOption result (Unit {0}) (λ found. found.0 < parent.0) }
+{
+    match kids_of(ids) {
+        Kids::One(kid) => Some(kid),
+        Kids::None | Kids::Two(_, _) | Kids::Three(_, _, _) | Kids::Many => None,
+    }
+}
+
+// The same, if it is not in braces.
+fn plain_value(nodes: &Nodes, id: NodeId) -> Option<NodeId>
+    requires { id.0 < length nodes.now }
+    ensures is { option_map (tree_at (syntax_of nodes.now)) result ≡ plain_value_of (tree_at (syntax_of nodes.now) id) }
+    ensures lower { MatchOption result (Unit {0}) (λ found. found.0 < (id.0 + 1)) }
+{
+    match node_at(nodes, id).kind {
+        NodeKind::BracedInitList => None,
+        _ => Some(id),
+    }
+}
+
+// What stands alone behind `=`, if it is not in braces.
+fn equal_value(nodes: &Nodes, parent: NodeId, ids: &[NodeId]) -> Option<NodeId>
+    requires within { parent.0 < length nodes.now }
+    requires lower { are_below parent.0 ids.now ≡ true }
+    ensures is { option_map (tree_at (syntax_of nodes.now)) result ≡ equal_value_of (trees_at (syntax_of nodes.now) ids.now) }
+    ensures lower { MatchOption result (Unit {0}) (λ found. found.0 < parent.0) }
+{
+    match kids_of(ids) {
+        Kids::One(kid) => plain_value(nodes, kid),
+        Kids::None | Kids::Two(_, _) | Kids::Three(_, _, _) | Kids::Many => None,
+    }
+}
+
 // The one expression of an initialiser.
+fn expression_in(nodes: &Nodes, id: NodeId) -> Option<NodeId>
+    requires { id.0 < length nodes.now }
+    ensures is { option_map (tree_at (syntax_of nodes.now)) result ≡ expression_in_of (tree_at (syntax_of nodes.now) id) }
+    ensures lower { MatchOption result (Unit {0}) (λ found. found.0 < (id.0 + 1)) }
+{
+    let node = node_at(nodes, id);
+    match node.kind {
+        NodeKind::EqualInitializer => equal_value(nodes, id, &node.kids),
+        _ => only_value(nodes, id, &node.kids),
+    }
+}
+
+// The one expression of the initialiser that these kids of a node are.
 fn only_expression(nodes: &Nodes, parent: NodeId, ids: &[NodeId]) -> Option<NodeId>
     requires within { parent.0 < length nodes.now }
     requires lower { are_below parent.0 ids.now ≡ true }
-    ensures is { option_map (tree_at (syntax_of nodes.now)) result ≡ only_expression_of (trees_at (syntax_of nodes.now) ids.now) }
-    ensures lower { MatchOption result (Unit {0}) (λ id. id.0 < parent.0) }
+    ensures is { option_map (tree_at (syntax_of nodes.now)) result ≡ value_of_of (trees_at (syntax_of nodes.now) ids.now) }
+    ensures lower { MatchOption result (Unit {0}) (λ found. found.0 < parent.0) }
 {
-    let Kids::One(id) = kids_of(ids) else {
-        return None;
-    };
-    let node = node_at(nodes, id);
-    let Kids::One(kid) = kids_of(&node.kids) else {
-        return None;
-    };
-    match node.kind {
-        NodeKind::EqualInitializer => match node_at(nodes, kid).kind {
-            NodeKind::BracedInitList => None,
-            _ => Some(kid),
-        },
-        _ => Some(kid),
+    match kids_of(ids) {
+        Kids::One(kid) => expression_in(nodes, kid),
+        Kids::None | Kids::Two(_, _) | Kids::Three(_, _, _) | Kids::Many => None,
     }
 }
 
@@ -190,6 +232,16 @@ fn auto_declared<L: MakeLambdas>(
     auto_from(alloc, st, index, pattern, at, auto, o)
 }
 
+// The place of the item that comes next.
+fn following_place(work: &Work) -> Result<u32, AllocError>
+    ensures { IfOk result (λ place. place ≡ next_place (work_of work.now)) }
+{
+    let Ok(place) = u32::try_from(work.frame.len()) else {
+        return Err(AllocError);
+    };
+    Ok(place)
+}
+
 /// A variable of a block whose type its initialiser gives.
 pub fn auto_variable<L: MakeLambdas>(
     alloc: Global,
@@ -208,9 +260,7 @@ pub fn auto_variable<L: MakeLambdas>(
     requires lower { are_below parent.0 ids.now ≡ true }
     ensures { Variables st.old st.new auto.new result (auto_read (L.lambdas lams.now) (lexemes_of tokens.now) (state_of st.old) name.now (typ_of pattern.now) at (option_map typ_of auto.old) (trees_at (syntax_of nodes.now) ids.now)) }
 {
-    let Ok(place) = u32::try_from(st.work.frame.len()) else {
-        return Err(ElabFault::Memory);
-    };
+    let place = following_place(&st.work)?;
     declare(&mut st.env, at, name, None, place)?;
     let Some(id) = only_expression(nodes, parent, ids) else {
         return Err(ill(at, IllRule::BadInit));

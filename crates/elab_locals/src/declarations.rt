@@ -1,20 +1,19 @@
 // Declarations of blocks (C++14 clause 7, 6.7).
 
 ghost use Rattle.std.specs.Prelude.{◌≡◌, ◌<◌, List, length, true, Some, None, IfOk, OnOk};
-ghost use Rattle.cpp_lex.specs.Tokens.{Lexeme, lexemes_of};
+ghost use Rattle.cpp_lex.specs.Tokens.{lexemes_of};
 ghost use Rattle.cpp_ast.specs.Trees.{Tree, none};
-ghost use Rattle.cpp_types.specs.declared.classes.At.{At as AtOf};
 ghost use Rattle.cpp_ast.specs.Orders.{are_below};
 ghost use Rattle.cpp_types.specs.Typ.{typ_of};
-ghost use Rattle.elab_ctx.specs.Ctx.{ctx_of};
+ghost use Rattle.elab_ctx.specs.Ctx.{ctx_of, special_of};
 ghost use Rattle.elab_ctx.specs.Says.{are_within};
-ghost use Rattle.elab_rules.specs.Statements.{class_is_skipped as class_is_skipped_of, may_be_skipped as may_be_skipped_of, is_own_name as is_own_name_of, name_of as name_of_of, Lambdas, State as StateOf, block_declarator as block_declarator_of, block_declarators as block_declarators_of, block_declaration as block_declaration_of};
+ghost use Rattle.elab_rules.specs.Statements.{is_trivial as is_trivial_of, is_direct_label as is_direct_label_of, class_is_skipped as class_is_skipped_of, may_be_skipped as may_be_skipped_of, is_own_name as is_own_name_of, name_of as name_of_of, block_declarator as block_declarator_of, block_declarators as block_declarators_of, block_declaration as block_declaration_of};
 ghost use Rattle.elab_types.specs.Shown.{declared_of};
 ghost use Rattle.elab_types.specs.Syntax.{syntax_of, tree_at, trees_at};
 ghost use Rattle.elab_scopes.specs.States.{state_of, made};
 ghost use Rattle.elab_scopes.specs.Says.{DoesAll};
 ghost use Rattle.elab_locals.specs.Deducing.{declaring_of, Declares};
-ghost use Rattle.elab_locals.specs.Declarators.{declared_from as declared_from_of, past_ctx, specified_by, DeclaresAll};
+ghost use Rattle.elab_locals.specs.Declarators.{declared_from as declared_from_of, init_declarator as init_declarator_of, past_ctx, specified_by, DeclaresAll};
 
 use crate::variables::variable;
 use cpp_ast::{NodeId, NodeKind, Nodes};
@@ -31,15 +30,21 @@ use elab_types::specifiers::ill;
 use elab_types::syntax::{node_at, place, spelling};
 use std::alloc::{AllocError, Global};
 
+fn is_trivial(special: Special) -> bool
+    ensures { result ≡ is_trivial_of (special_of special) }
+{
+    match special {
+        Special::Trivial => true,
+        Special::Absent | Special::Function(_) => false,
+    }
+}
+
 // Whether objects of a class may be passed by a jump.
 fn class_is_skipped(env: &Env, class: u32) -> bool
     ensures { result ≡ class_is_skipped_of (ctx_of env.now) (Some class) }
 {
     match traits_of_class(env, class) {
-        Some(found) => {
-            matches!(found.default, Special::Trivial)
-                && matches!(found.destructor, Special::Trivial)
-        }
+        Some(found) => is_trivial(found.default) && is_trivial(found.destructor),
         None => false,
     }
 }
@@ -55,14 +60,32 @@ fn may_be_skipped(alloc: Global, env: &Env, ty: &Ty) -> Result<bool, AllocError>
     }
 }
 
+// The same of a declaration with an initialiser, or without one.
+fn is_skipped(alloc: Global, env: &Env, ty: &Ty, ids: &[NodeId]) -> Result<bool, AllocError>
+    ensures { (trees : List Tree) → IfOk result (λ b. b ≡ may_be_skipped_of (ctx_of env.now) (typ_of ty.now) (trees_at trees ids.now)) }
+{
+    match first_kid(ids) {
+        None => may_be_skipped(alloc, env, ty),
+        Some(_) => Ok(false),
+    }
+}
+
+fn is_direct_label(label: Label) -> bool
+    ensures { result ≡ is_direct_label_of label }
+{
+    match label {
+        Label::Direct => true,
+        Label::Outside | Label::Inside | Label::InBlock => false,
+    }
+}
+
 // What a declaration says to labels behind it.
 fn past_declaration(alloc: Global, env: &mut Env, ty: &Ty, ids: &[NodeId]) -> Result<(), AllocError>
     ensures { (trees : List Tree) → OnOk result (ctx_of env.new ≡ past_ctx (typ_of ty.now) (trees_at trees ids.now) (ctx_of env.old)) }
 {
-    let is_skipped = ids.is_empty() && may_be_skipped(alloc, env, ty)?;
-    if matches!(env.label, Label::Direct) && !is_skipped {
-        env.labels.is_past = true;
-    }
+    let skipped = is_skipped(alloc, env, ty, ids)?;
+    let is_direct = is_direct_label(env.label);
+    env.labels.is_past = env.labels.is_past || (is_direct && !skipped);
     Ok(())
 }
 
@@ -114,6 +137,33 @@ fn declared_from<L: MakeLambdas>(
     Ok(())
 }
 
+// What is declared of a type by a declarator that has a name, with the initialiser behind it.
+fn init_declarator<L: MakeLambdas>(
+    alloc: Global,
+    lams: &L,
+    tokens: &Tokens,
+    nodes: &Nodes,
+    parent: NodeId,
+    kid: NodeId,
+    ids: &[NodeId],
+    st: &mut State,
+    ty: &Ty,
+    at: At,
+    auto: &mut Option<Ty>,
+    list: &mut Vec<TNodeId>,
+) -> Result<(), ElabFault>
+    requires within { parent.0 < length nodes.now }
+    requires kid { kid.0 < parent.0 }
+    requires lower { are_below parent.0 ids.now ≡ true }
+    requires list { are_within (length (made st.old)) list.old.items ≡ true }
+    ensures { Declares st.old st.new list.new.items auto.new result (init_declarator_of (L.lambdas lams.now) (lexemes_of tokens.now) at (typ_of ty.now) (declaring_of st.old list.old.items auto.old) (tree_at (syntax_of nodes.now) kid) (trees_at (syntax_of nodes.now) ids.now)) }
+{
+    let found = declared_by(alloc, &st.env, tokens, nodes, at, ty, kid, &st.work)?;
+    declared_from(
+        alloc, lams, tokens, nodes, parent, ids, st, &found, at, auto, list,
+    )
+}
+
 // One declarator.
 fn declarator<L: MakeLambdas>(
     alloc: Global,
@@ -132,26 +182,28 @@ fn declarator<L: MakeLambdas>(
 {
     let node = node_at(nodes, id);
     let at = place(node.at);
-    if !matches!(node.kind, NodeKind::InitDeclarator) {
-        return Err(ill(at, IllRule::OutOfProfile));
+    match node.kind {
+        NodeKind::InitDeclarator => {
+            let Some(kid) = first_kid(&node.kids) else {
+                return Err(ill(at, IllRule::OutOfProfile));
+            };
+            init_declarator(
+                alloc,
+                lams,
+                tokens,
+                nodes,
+                id,
+                kid,
+                &node.kids[1..],
+                st,
+                ty,
+                at,
+                auto,
+                list,
+            )
+        }
+        _ => Err(ill(at, IllRule::OutOfProfile)),
     }
-    let Some(kid) = first_kid(&node.kids) else {
-        return Err(ill(at, IllRule::OutOfProfile));
-    };
-    let found = declared_by(alloc, &st.env, tokens, nodes, at, ty, kid, &st.work)?;
-    declared_from(
-        alloc,
-        lams,
-        tokens,
-        nodes,
-        id,
-        &node.kids[1..],
-        st,
-        &found,
-        at,
-        auto,
-        list,
-    )
 }
 
 // Several declarators, one behind the other.
@@ -171,9 +223,9 @@ fn declarators<L: MakeLambdas>(
     requires list { are_within (length (made st.old)) list.old.items ≡ true }
     ensures { DeclaresAll st.old st.new list.new.items result (block_declarators_of (L.lambdas lams.now) (lexemes_of tokens.now) (typ_of ty.now) (declaring_of st.old list.old.items None) (trees_at (syntax_of nodes.now) ids.now)) }
 {
-    let mut auto = None;
+    let mut deduced = None;
     for id in ids {
-        declarator(alloc, lams, tokens, nodes, *id, st, ty, &mut auto, list)?;
+        declarator(alloc, lams, tokens, nodes, *id, st, ty, &mut deduced, list)?;
     }
     Ok(())
 }
@@ -203,24 +255,7 @@ fn specified<L: MakeLambdas>(
     Ok(())
 }
 
-// The kids behind attributes.
-fn behind_attributes<'a>(nodes: &Nodes, parent: NodeId, ids: &'a [NodeId]) -> &'a [NodeId]
-    requires within { parent.0 < length nodes.now }
-    requires lower { are_below parent.0 ids.now ≡ true }
-    ensures lower { are_below parent.0 result.now ≡ true }
-    ensures same { (lams : Lambdas) (s : List Lexeme) (st : StateOf) (at : AtOf) → block_declaration_of lams s st at (trees_at (syntax_of nodes.now) ids.now) ≡ block_declaration_of lams s st at (trees_at (syntax_of nodes.now) result.now) }
-{
-    let mut rest = ids;
-    while let Some((first, others)) = rest.split_first() {
-        if !matches!(node_at(nodes, *first).kind, NodeKind::Attribute) {
-            return rest;
-        }
-        rest = others;
-    }
-    rest
-}
-
-/// A declaration in a block: a variable for each declarator.
+/// A declaration in a block: a variable for each declarator. Attributes may stand before it.
 pub fn block_declaration<L: MakeLambdas>(
     alloc: Global,
     lams: &L,
@@ -237,22 +272,32 @@ pub fn block_declaration<L: MakeLambdas>(
     requires out { are_within (length (made st.old)) out.old.items ≡ true }
     ensures { DoesAll st.old st.new out.old.items out.new.items result (block_declaration_of (L.lambdas lams.now) (lexemes_of tokens.now) (state_of st.old) at (trees_at (syntax_of nodes.now) ids.now)) }
 {
-    let kids = behind_attributes(nodes, parent, ids);
-    let Some(first) = first_kid(kids) else {
+    let Some(first) = first_kid(ids) else {
         return Err(ill(at, IllRule::OutOfProfile));
     };
-    if !matches!(node_at(nodes, first).kind, NodeKind::TypeSpecifierSeq) {
-        return Err(ill(at, IllRule::OutOfProfile));
+    match node_at(nodes, first).kind {
+        NodeKind::Attribute => block_declaration(
+            alloc,
+            lams,
+            tokens,
+            nodes,
+            parent,
+            &ids[1..],
+            st,
+            at,
+            out,
+        ),
+        NodeKind::TypeSpecifierSeq => specified(
+            alloc,
+            lams,
+            tokens,
+            nodes,
+            parent,
+            first,
+            &ids[1..],
+            st,
+            out,
+        ),
+        _ => Err(ill(at, IllRule::OutOfProfile)),
     }
-    specified(
-        alloc,
-        lams,
-        tokens,
-        nodes,
-        parent,
-        first,
-        &kids[1..],
-        st,
-        out,
-    )
 }

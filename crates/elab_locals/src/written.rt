@@ -11,7 +11,7 @@ ghost use Rattle.elab_rules.specs.Braces.{is_char_array as is_char_array_of, str
 ghost use Rattle.elab_types.specs.Syntax.{syntax_of, tree_at, trees_at};
 ghost use Rattle.elab_scopes.specs.States.{state_of, made, full_in};
 ghost use Rattle.elab_scopes.specs.Says.{Does};
-ghost use Rattle.elab_braces.specs.Forms.{form_of};
+ghost use Rattle.elab_braces.specs.Forms.{form_of, shown_in, IsLower};
 ghost use Rattle.elab_locals.specs.Inits.{nothing_made as nothing_made_of, expression_made as expression_made_of, by_value_in, by_string_in, by_expression_in, values_made as values_made_of, kids_read, by_values_in, braces_made as braces_made_of, by_braces_in, initialised_by};
 
 use crate::inits::init_node;
@@ -293,6 +293,33 @@ fn by_braces<L: MakeLambdas>(
     braces_made(alloc, tokens, nodes, id, st, variable, ty, at)
 }
 
+// By what is written.
+fn by_written<L: MakeLambdas>(
+    alloc: Global,
+    lams: &L,
+    tokens: &Tokens,
+    nodes: &Nodes,
+    form: Written,
+    st: &mut State,
+    variable: TNodeId,
+    ty: &Ty,
+    at: At,
+) -> Result<TNodeId, ElabFault>
+    requires form { IsLower (length nodes.now) form }
+    requires variable { variable.0 < length (made st.old) }
+    ensures { Does st.old st.new result (initialised_by (L.lambdas lams.now) (lexemes_of tokens.now) (tree_in (made st.old) variable) (state_of st.old) (typ_of ty.now) at (shown_in (syntax_of nodes.now) form)) }
+{
+    match form {
+        Written::Nothing => nothing_made(alloc, st, variable, ty, at),
+        Written::Values(id) => by_values(alloc, lams, tokens, nodes, id, st, variable, ty, at),
+        Written::Braces(id) => by_braces(alloc, lams, tokens, nodes, id, st, variable, ty, at),
+        Written::Expression(id) => {
+            by_expression(alloc, lams, tokens, nodes, id, st, variable, ty, at)
+        }
+        Written::Other => Err(ill(at, IllRule::OutOfProfile)),
+    }
+}
+
 /// A variable, which a node stands for, with the initialiser that is written.
 pub fn initialised<L: MakeLambdas>(
     alloc: Global,
@@ -311,13 +338,6 @@ pub fn initialised<L: MakeLambdas>(
     requires variable { variable.0 < length (made st.old) }
     ensures { Does st.old st.new result (initialised_by (L.lambdas lams.now) (lexemes_of tokens.now) (tree_in (made st.old) variable) (state_of st.old) (typ_of ty.now) at (form_of (trees_at (syntax_of nodes.now) ids.now))) }
 {
-    match read_initialiser(nodes, parent, ids) {
-        Written::Nothing => nothing_made(alloc, st, variable, ty, at),
-        Written::Values(id) => by_values(alloc, lams, tokens, nodes, id, st, variable, ty, at),
-        Written::Braces(id) => by_braces(alloc, lams, tokens, nodes, id, st, variable, ty, at),
-        Written::Expression(id) => {
-            by_expression(alloc, lams, tokens, nodes, id, st, variable, ty, at)
-        }
-        Written::Other => Err(ill(at, IllRule::OutOfProfile)),
-    }
+    let form = read_initialiser(nodes, parent, ids);
+    by_written(alloc, lams, tokens, nodes, form, st, variable, ty, at)
 }

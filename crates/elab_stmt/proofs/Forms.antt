@@ -76,7 +76,7 @@ pub then_then : {A B C : Type 0} (x : Result A ElabFault) (f : A → Result B El
 then_then (Ok a) f g = refl
 then_then (Err e) f g = refl
 
-abbrev back : State → Done → Result Done ElabFault
+abbrev pub back : State → Done → Result Done ElabFault
 back st y = done y.trees (outer st y.state)
 
 last_body : (x : Result Done ElabFault) (at q : At) (st : State) (g : Tree → Tree) → and_then (and_then (and_then x (λ (d : Done). done (one (block q d.trees)) d.state)) (λ (y : Done). done (one (g (the_tree at y.trees))) y.state)) (back st) ≡ and_then x (λ (y : Done). done (one (g (block q y.trees))) (outer st y.state))

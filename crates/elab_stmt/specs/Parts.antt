@@ -60,6 +60,12 @@ if_other lams s st at test a b = and_then (inner_part lams s st at b) (λ (z : D
 abbrev pub if_both : Lambdas → List Lexeme → State → At → Tree → syntax.Tree → syntax.Tree → Result Done ElabFault
 if_both lams s st at test a b = and_then (inner_part lams s st at a) (λ (y : Done). if_other lams s y.state at test (the_tree at y.trees) b)
 
+abbrev pub if_short : Lambdas → List Lexeme → State → At → syntax.Tree → syntax.Tree → Result Done ElabFault
+if_short lams s st at e a = and_then (condition lams s st e) (λ (x : Done). if_alone lams s x.state at (the_tree at x.trees) a)
+
+abbrev pub if_long : Lambdas → List Lexeme → State → At → syntax.Tree → syntax.Tree → syntax.Tree → Result Done ElabFault
+if_long lams s st at e a b = and_then (condition lams s st e) (λ (x : Done). if_both lams s x.state at (the_tree at x.trees) a b)
+
 -- loops
 
 abbrev pub while_body : Lambdas → List Lexeme → State → At → Tree → syntax.Tree → Result Done ElabFault

@@ -3,10 +3,10 @@
 ghost use Rattle.std.specs.Prelude.{◌≡◌, ◌<◌, ◌∷◌, true, length, IfOk};
 ghost use Rattle.cpp_types.specs.Typ.{typ_of};
 ghost use Rattle.cpp_tree.specs.declared.kinds.TKind.TheVariants.{Switch, Try};
-ghost use Rattle.cpp_tree.specs.Trees.{more};
+ghost use Rattle.cpp_tree.specs.Trees.{more, none};
 ghost use Rattle.cpp_tree.specs.Arena.{trees_of, tree_at, trees_at, Adds};
 ghost use Rattle.elab_ctx.specs.Says.{are_within};
-ghost use Rattle.elab_rules.specs.Statements.{statement as statement_of, handler_node as handler_node_of};
+ghost use Rattle.elab_rules.specs.Statements.{statement as statement_of, block as block_of, handler_node as handler_node_of};
 ghost use Rattle.elab_stmt.specs.Parts.{for_loop};
 
 use cpp_tree::{TKind, TNode, TNodeId, add_node};
@@ -24,6 +24,13 @@ fn with_first(alloc: Global, first: TNodeId, others: &[TNodeId]) -> Result<Vec<T
     keep(&mut kids, first)?;
     keep_all(&mut kids, others)?;
     Ok(kids)
+}
+
+/// A block without statements.
+pub fn empty_block(alloc: Global, nodes: &mut Vec<TNode>, at: At) -> Result<TNodeId, AllocError>
+    ensures { IfOk result (λ r. Adds (trees_of nodes.old.items) (trees_of nodes.new.items) r (block_of at none)) }
+{
+    block(nodes, at, Vec::new(alloc))
 }
 
 /// A `switch` on a value.

@@ -14,9 +14,11 @@ ghost use Rattle.elab_scopes.specs.States.{state_of, made};
 ghost use Rattle.elab_scopes.specs.Says.{Does, DoesAll};
 ghost use Rattle.elab_stmt.specs.Parts as parts;
 ghost use Rattle.elab_stmt.specs.Parts.{is_single};
+ghost use Rattle.elab_stmt.specs.Fours.{IsFour};
 
-use crate::nodes::{for_node, handler_node, switch_node, try_node};
-use crate::simple::{atomic_kind, for_first, for_step, for_test, one_part};
+use crate::fours::{Four, four_of};
+use crate::nodes::{empty_block, for_node, handler_node, switch_node, try_node};
+use crate::simple::{atomic_kind, for_first, for_step, for_test, may_stand, one_part};
 use cpp_ast::{NodeId, NodeKind, Nodes};
 use cpp_lex::Tokens;
 use cpp_tree::{ElabFault, IllRule, TKind, TNodeId};
@@ -30,7 +32,7 @@ use elab_scopes::returns::returned;
 use elab_scopes::scopes::{enter, enter_block, enter_loop, enter_switch, leave, leave_switch};
 use elab_scopes::simple::{condition, expression_statement, jump, switched};
 use elab_scopes::{Caught, MakeLambdas, State, mark_here};
-use elab_types::kids::{Kids, kids_of};
+use elab_types::kids::{Kids, first_kid, kids_of};
 use elab_types::specifiers::ill;
 use elab_types::syntax::{node_at, place};
 use std::alloc::Global;
@@ -58,11 +60,7 @@ pub fn statement<L: MakeLambdas>(
         }
         NodeKind::CaseStatement => case_statement(alloc, lams, tokens, nodes, id, st, out),
         NodeKind::DefaultStatement => default_statement(alloc, lams, tokens, nodes, id, st, out),
-        _ => {
-            let made = single(alloc, lams, tokens, nodes, id, st)?;
-            keep(out, made)?;
-            Ok(())
-        }
+        _ => other_statement(alloc, lams, tokens, nodes, id, st, out),
     }
 }
 
@@ -86,6 +84,27 @@ pub fn statements<L: MakeLambdas>(
     for id in ids {
         statement(alloc, lams, tokens, nodes, *id, st, out)?;
     }
+    Ok(())
+}
+
+// A statement of which one tree is made, behind others.
+#[cycle(statements)]
+fn other_statement<L: MakeLambdas>(
+    alloc: Global,
+    lams: &L,
+    tokens: &Tokens,
+    nodes: &Nodes,
+    id: NodeId,
+    st: &mut State,
+    out: &mut Vec<TNodeId>,
+) -> Result<(), ElabFault>
+    requires within { id.0 < length nodes.now }
+    requires single { is_single (kind_of (tree_at (syntax_of nodes.now) id)) ≡ true }
+    requires out { are_within (length (made st.old)) out.old.items ≡ true }
+    ensures { DoesAll st.old st.new out.old.items out.new.items result (statement_of (L.lambdas lams.now) (lexemes_of tokens.now) (state_of st.old) (tree_at (syntax_of nodes.now) id)) }
+{
+    let made = single(alloc, lams, tokens, nodes, id, st)?;
+    keep(out, made)?;
     Ok(())
 }
 
@@ -158,7 +177,7 @@ fn single<L: MakeLambdas>(
     match node.kind {
         NodeKind::CompoundStatement => compound(alloc, lams, tokens, nodes, id, st),
         NodeKind::NullStatement => {
-            let made = block(&mut st.work.nodes, at, Vec::new(alloc))?;
+            let made = empty_block(alloc, &mut st.work.nodes, at)?;
             Ok(made)
         }
         NodeKind::ExpressionStatement => {
@@ -311,15 +330,61 @@ fn if_statement<L: MakeLambdas>(
     let at = place(node.at);
     match kids_of(&node.kids) {
         Kids::Two(first, second) => {
-            let test = condition(alloc, lams, tokens, nodes, first, st)?;
-            if_alone(alloc, lams, tokens, nodes, second, st, at, test)
+            if_short(alloc, lams, tokens, nodes, id, first, second, st, at)
         }
         Kids::Three(first, second, third) => {
-            let test = condition(alloc, lams, tokens, nodes, first, st)?;
-            if_both(alloc, lams, tokens, nodes, id, second, third, st, at, test)
+            if_long(alloc, lams, tokens, nodes, id, first, second, third, st, at)
         }
         Kids::None | Kids::One(_) | Kids::Many => Err(ElabFault::Memory),
     }
+}
+
+// A condition and what it chooses, kids of a node.
+#[cycle(statements)]
+fn if_short<L: MakeLambdas>(
+    alloc: Global,
+    lams: &L,
+    tokens: &Tokens,
+    nodes: &Nodes,
+    parent: NodeId,
+    first: NodeId,
+    second: NodeId,
+    st: &mut State,
+    at: At,
+) -> Result<TNodeId, ElabFault>
+    requires within { parent.0 < length nodes.now }
+    requires first { first.0 < parent.0 }
+    requires second { second.0 < parent.0 }
+    ensures { Does st.old st.new result (parts.if_short (L.lambdas lams.now) (lexemes_of tokens.now) (state_of st.old) at (tree_at (syntax_of nodes.now) first) (tree_at (syntax_of nodes.now) second)) }
+{
+    let test = condition(alloc, lams, tokens, nodes, first, st)?;
+    if_alone(alloc, lams, tokens, nodes, second, st, at, test)
+}
+
+// The same with `else`.
+#[cycle(statements)]
+fn if_long<L: MakeLambdas>(
+    alloc: Global,
+    lams: &L,
+    tokens: &Tokens,
+    nodes: &Nodes,
+    parent: NodeId,
+    first: NodeId,
+    second: NodeId,
+    third: NodeId,
+    st: &mut State,
+    at: At,
+) -> Result<TNodeId, ElabFault>
+    requires within { parent.0 < length nodes.now }
+    requires first { first.0 < parent.0 }
+    requires second { second.0 < parent.0 }
+    requires third { third.0 < parent.0 }
+    ensures { Does st.old st.new result (parts.if_long (L.lambdas lams.now) (lexemes_of tokens.now) (state_of st.old) at (tree_at (syntax_of nodes.now) first) (tree_at (syntax_of nodes.now) second) (tree_at (syntax_of nodes.now) third)) }
+{
+    let test = condition(alloc, lams, tokens, nodes, first, st)?;
+    if_both(
+        alloc, lams, tokens, nodes, parent, second, third, st, at, test,
+    )
 }
 
 // Behind the condition, without `else`.
@@ -339,7 +404,7 @@ fn if_alone<L: MakeLambdas>(
     ensures { Does st.old st.new result (parts.if_alone (L.lambdas lams.now) (lexemes_of tokens.now) (state_of st.old) at (tree_in (made st.old) test) (tree_at (syntax_of nodes.now) id)) }
 {
     let chosen = inner_part(alloc, lams, tokens, nodes, id, st, at)?;
-    let other = block(&mut st.work.nodes, at, Vec::new(alloc))?;
+    let other = empty_block(alloc, &mut st.work.nodes, at)?;
     let made = ternary_statement(
         alloc,
         &mut st.work.nodes,
@@ -446,7 +511,7 @@ fn while_body<L: MakeLambdas>(
     ensures { Does st.old st.new result (parts.while_body (L.lambdas lams.now) (lexemes_of tokens.now) (state_of st.old) at (tree_in (made st.old) test) (tree_at (syntax_of nodes.now) id)) }
 {
     let inside = loop_part(alloc, lams, tokens, nodes, id, st, at)?;
-    let step = block(&mut st.work.nodes, at, Vec::new(alloc))?;
+    let step = empty_block(alloc, &mut st.work.nodes, at)?;
     let made = ternary_statement(
         alloc,
         &mut st.work.nodes,
@@ -498,7 +563,7 @@ fn do_test<L: MakeLambdas>(
     ensures { Does st.old st.new result (parts.do_test (L.lambdas lams.now) (lexemes_of tokens.now) (state_of st.old) at (tree_in (made st.old) inside) (tree_at (syntax_of nodes.now) id)) }
 {
     let test = condition(alloc, lams, tokens, nodes, id, st)?;
-    let step = block(&mut st.work.nodes, at, Vec::new(alloc))?;
+    let step = empty_block(alloc, &mut st.work.nodes, at)?;
     let made = ternary_statement(
         alloc,
         &mut st.work.nodes,
@@ -547,22 +612,32 @@ fn for_inside<L: MakeLambdas>(
 {
     let node = node_at(nodes, id);
     let at = place(node.at);
-    if node.kids.len() != 4 {
+    let Some(four) = four_of(&node.kids) else {
         return Err(ElabFault::Memory);
-    }
+    };
+    for_all(alloc, lams, tokens, nodes, id, four, st, at)
+}
+
+// What is done first, and all behind it.
+#[cycle(statements)]
+fn for_all<L: MakeLambdas>(
+    alloc: Global,
+    lams: &L,
+    tokens: &Tokens,
+    nodes: &Nodes,
+    parent: NodeId,
+    four: Four,
+    st: &mut State,
+    at: At,
+) -> Result<TNodeId, ElabFault>
+    requires within { parent.0 < length nodes.now }
+    requires four { IsFour parent.0 four }
+    ensures { Does st.old st.new result (parts.for_inside (L.lambdas lams.now) (lexemes_of tokens.now) (state_of st.old) at (tree_at (syntax_of nodes.now) four.first) (tree_at (syntax_of nodes.now) four.test) (tree_at (syntax_of nodes.now) four.step) (tree_at (syntax_of nodes.now) four.body)) }
+{
     let mut first = Vec::new(alloc);
-    for_first(alloc, lams, tokens, nodes, node.kids[0], st, &mut first)?;
+    for_first(alloc, lams, tokens, nodes, four.first, st, &mut first)?;
     for_tested(
-        alloc,
-        lams,
-        tokens,
-        nodes,
-        node.kids[1],
-        node.kids[2],
-        node.kids[3],
-        st,
-        at,
-        first,
+        alloc, lams, tokens, nodes, four.test, four.step, four.body, st, at, first,
     )
 }
 
@@ -847,10 +922,10 @@ fn try_block<L: MakeLambdas>(
     ensures { Does st.old st.new result (statement_of (L.lambdas lams.now) (lexemes_of tokens.now) (state_of st.old) (tree_at (syntax_of nodes.now) id)) }
 {
     let node = node_at(nodes, id);
-    if node.kids.is_empty() {
+    let Some(kid) = first_kid(&node.kids) else {
         return Err(ElabFault::Memory);
-    }
-    let inside = tried(alloc, lams, tokens, nodes, node.kids[0], st)?;
+    };
+    let inside = tried(alloc, lams, tokens, nodes, kid, st)?;
     try_handlers(
         alloc,
         lams,
@@ -932,7 +1007,7 @@ fn handler<L: MakeLambdas>(
     let Kids::Two(first, second) = kids_of(&node.kids) else {
         return Err(ElabFault::Memory);
     };
-    if !is_last && matches!(node_at(nodes, first).kind, NodeKind::Ellipsis) {
+    if !may_stand(nodes, first, is_last) {
         return Err(ill(at, IllRule::BadCatch));
     }
     handler_scope(alloc, lams, tokens, nodes, first, second, st, at)

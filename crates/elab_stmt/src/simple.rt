@@ -1,17 +1,18 @@
 // Parts of statements that hold no statements.
 
-ghost use Rattle.std.specs.Prelude.{◌≡◌, ◌<◌, true, length, IfOk};
+ghost use Rattle.std.specs.Prelude.{◌≡◌, ◌<◌, true, length, IfOk, not, ◌||◌};
 ghost use Rattle.cpp_lex.specs.Tokens.{lexemes_of};
 ghost use Rattle.cpp_tree.specs.declared.kinds.TKind.TheVariants.{Atomic};
 ghost use Rattle.cpp_tree.specs.Arena.{trees_of, trees_at as trees_in, Adds};
 ghost use Rattle.elab_ctx.specs.Says.{are_within};
 ghost use Rattle.elab_ctx.specs.Steps.{spelling as spelling_of};
-ghost use Rattle.elab_rules.specs.Statements.{block_kind, the_tree, beginning as beginning_of, for_first as for_first_of, for_test as for_test_of, for_step as for_step_of};
+ghost use Rattle.elab_rules.specs.Statements.{block_kind, the_tree, beginning as beginning_of, for_first as for_first_of, for_test as for_test_of, for_step as for_step_of, expression_statement as expression_statement_of, is_ellipsis as is_ellipsis_of};
 ghost use Rattle.elab_types.specs.Syntax.{syntax_of, tree_at};
 ghost use Rattle.elab_scopes.specs.States.{state_of, made};
 ghost use Rattle.elab_scopes.specs.Says.{OneDone, Does, DoesAll};
 ghost use Rattle.elab_stmt.specs.Parts.{one_part as one_part_of};
 
+use crate::nodes::empty_block;
 use cpp_ast::{NodeId, NodeKind, Nodes};
 use cpp_lex::Tokens;
 use cpp_tree::{ElabFault, TKind, TNode, TNodeId};
@@ -53,12 +54,12 @@ fn beginning(tokens: &Tokens, nodes: &Nodes, id: NodeId) -> At
     ensures { result ≡ beginning_of (lexemes_of tokens.now) (tree_at (syntax_of nodes.now) id) }
 {
     let node = node_at(nodes, id);
-    if !matches!(node.kind, NodeKind::SimpleDeclaration) {
-        return place(node.at);
-    }
-    match node.token {
-        Some(token) => token_place(tokens, node.at.source, token),
-        None => place(node.at),
+    match node.kind {
+        NodeKind::SimpleDeclaration => match node.token {
+            Some(token) => token_place(tokens, node.at.source, token),
+            None => place(node.at),
+        },
+        _ => place(node.at),
     }
 }
 
@@ -75,7 +76,7 @@ fn only(
     if list.len() == 1 {
         return Ok(list[0]);
     }
-    block(nodes, at, Vec::new(alloc))
+    empty_block(alloc, nodes, at)
 }
 
 /// The trees of a statement as those of a part of another: a declaration stands in a block of its own.
@@ -92,11 +93,32 @@ pub fn one_part(
     requires list { are_within (length (made st.old)) list.items ≡ true }
     ensures { IfOk result (λ r. OneDone st.old st.new r (one_part_of (lexemes_of tokens.now) at (tree_at (syntax_of nodes.now) id) (record { trees = trees_in (made st.old) list.items; state = state_of st.old }))) }
 {
-    if matches!(node_at(nodes, id).kind, NodeKind::SimpleDeclaration) {
-        let at = beginning(tokens, nodes, id);
-        return block(&mut st.work.nodes, at, list);
+    match node_at(nodes, id).kind {
+        NodeKind::SimpleDeclaration => {
+            let begins = beginning(tokens, nodes, id);
+            block(&mut st.work.nodes, begins, list)
+        }
+        _ => only(alloc, &mut st.work.nodes, at, &list),
     }
-    only(alloc, &mut st.work.nodes, at, &list)
+}
+
+// An expression as a statement, behind others.
+fn first_expression<L: MakeLambdas>(
+    alloc: Global,
+    lams: &L,
+    tokens: &Tokens,
+    nodes: &Nodes,
+    id: NodeId,
+    st: &mut State,
+    out: &mut Vec<TNodeId>,
+) -> Result<(), ElabFault>
+    requires within { id.0 < length nodes.now }
+    requires out { are_within (length (made st.old)) out.old.items ≡ true }
+    ensures { DoesAll st.old st.new out.old.items out.new.items result (expression_statement_of (L.lambdas lams.now) (lexemes_of tokens.now) (state_of st.old) (tree_at (syntax_of nodes.now) id)) }
+{
+    let made = expression_statement(alloc, lams, tokens, nodes, id, st)?;
+    keep(out, made)?;
+    Ok(())
 }
 
 /// What a `for` does first.
@@ -120,11 +142,7 @@ pub fn for_first<L: MakeLambdas>(
             let at = place(node.at);
             block_declaration(alloc, lams, tokens, nodes, id, &node.kids, st, at, out)
         }
-        _ => {
-            let made = expression_statement(alloc, lams, tokens, nodes, id, st)?;
-            keep(out, made)?;
-            Ok(())
-        }
+        _ => first_expression(alloc, lams, tokens, nodes, id, st, out),
     }
 }
 
@@ -165,9 +183,27 @@ pub fn for_step<L: MakeLambdas>(
 {
     match node_at(nodes, id).kind {
         NodeKind::Absent => {
-            let made = block(&mut st.work.nodes, at, Vec::new(alloc))?;
+            let made = empty_block(alloc, &mut st.work.nodes, at)?;
             Ok(made)
         }
         _ => expression_statement(alloc, lams, tokens, nodes, id, st),
     }
+}
+
+fn is_ellipsis(nodes: &Nodes, id: NodeId) -> bool
+    requires { id.0 < length nodes.now }
+    ensures { result ≡ is_ellipsis_of (tree_at (syntax_of nodes.now) id) }
+{
+    match node_at(nodes, id).kind {
+        NodeKind::Ellipsis => true,
+        _ => false,
+    }
+}
+
+/// Whether a handler may stand where it does: `...` stands last.
+pub fn may_stand(nodes: &Nodes, id: NodeId, is_last: bool) -> bool
+    requires { id.0 < length nodes.now }
+    ensures { result ≡ (not (is_ellipsis_of (tree_at (syntax_of nodes.now) id)) || is_last) }
+{
+    !is_ellipsis(nodes, id) || is_last
 }

@@ -26,7 +26,16 @@ abbrev pub decreases-handler : goal.decreases-handler
 decreases-handler g l = l.id.0 * 16 + 5
 
 abbrev pub decreases-if_both : goal.decreases-if_both
-decreases-if_both g l = l.parent.0 * 16 + 1
+decreases-if_both g l = l.parent.0 * 16 + 0
+
+abbrev pub decreases-if_short : goal.decreases-if_short
+decreases-if_short g l = l.parent.0 * 16 + 1
+
+abbrev pub decreases-if_long : goal.decreases-if_long
+decreases-if_long g l = l.parent.0 * 16 + 1
+
+abbrev pub decreases-for_all : goal.decreases-for_all
+decreases-for_all g l = l.parent.0 * 16 + 1
 
 abbrev pub decreases-compound : goal.decreases-compound
 decreases-compound g l = l.id.0 * 16 + 2
@@ -82,41 +91,44 @@ decreases-default_statement g l = l.id.0 * 16 + 2
 abbrev pub decreases-single : goal.decreases-single
 decreases-single g l = l.id.0 * 16 + 4
 
+abbrev pub decreases-other_statement : goal.decreases-other_statement
+decreases-other_statement g l = l.id.0 * 16 + 5
+
 abbrev pub decreases-statement : goal.decreases-statement
-decreases-statement g l = l.id.0 * 16 + 5
+decreases-statement g l = l.id.0 * 16 + 6
 
 abbrev pub decreases-part : goal.decreases-part
-decreases-part g l = l.id.0 * 16 + 6
+decreases-part g l = l.id.0 * 16 + 7
 
 abbrev pub decreases-inner_part : goal.decreases-inner_part
-decreases-inner_part g l = l.id.0 * 16 + 7
+decreases-inner_part g l = l.id.0 * 16 + 8
 
 abbrev pub decreases-loop_part : goal.decreases-loop_part
-decreases-loop_part g l = l.id.0 * 16 + 7
+decreases-loop_part g l = l.id.0 * 16 + 8
 
 abbrev pub decreases-if_alone : goal.decreases-if_alone
-decreases-if_alone g l = l.id.0 * 16 + 8
+decreases-if_alone g l = l.id.0 * 16 + 9
 
 abbrev pub decreases-if_other : goal.decreases-if_other
-decreases-if_other g l = l.id.0 * 16 + 8
+decreases-if_other g l = l.id.0 * 16 + 9
 
 abbrev pub decreases-while_body : goal.decreases-while_body
-decreases-while_body g l = l.id.0 * 16 + 8
+decreases-while_body g l = l.id.0 * 16 + 9
 
 abbrev pub decreases-for_body : goal.decreases-for_body
-decreases-for_body g l = l.id.0 * 16 + 7
+decreases-for_body g l = l.id.0 * 16 + 8
 
 abbrev pub decreases-for_last : goal.decreases-for_last
-decreases-for_last g l = l.id.0 * 16 + 8
+decreases-for_last g l = l.id.0 * 16 + 9
 
 abbrev pub decreases-for_stepped : goal.decreases-for_stepped
-decreases-for_stepped g l = l.id.0 * 16 + 9
+decreases-for_stepped g l = l.id.0 * 16 + 10
 
 abbrev pub decreases-for_tested : goal.decreases-for_tested
-decreases-for_tested g l = l.id.0 * 16 + 10
+decreases-for_tested g l = l.id.0 * 16 + 11
 
 abbrev pub invariant-statements-loop-id : goal.invariant-statements-loop-id
 invariant-statements-loop-id g l = SoFar l.fn.st l.st l.fn.out.items l.out.items (statements_of (g.L.MakeLambdas.lambdas l.lams) (lexemes_of l.tokens) (state_of l.st) (trees_at (syntax_of l.nodes) (drop l.id-index l.ids))) (statements_of (g.L.MakeLambdas.lambdas l.lams) (lexemes_of l.tokens) (state_of l.fn.st) (trees_at (syntax_of l.nodes) l.ids))
 
-abbrev pub invariant-handlers-loop-id : goal.invariant-handlers-loop-id
-invariant-handlers-loop-id g l = SoFar l.fn.st l.st l.fn.out.items l.out.items (handlers_of (g.L.MakeLambdas.lambdas l.lams) (lexemes_of l.tokens) (state_of l.st) (trees_at (syntax_of l.nodes) (drop l.id-index l.ids))) (handlers_of (g.L.MakeLambdas.lambdas l.lams) (lexemes_of l.tokens) (state_of l.fn.st) (trees_at (syntax_of l.nodes) l.ids))
+abbrev pub invariant-handlers-loop-i : goal.invariant-handlers-loop-i
+invariant-handlers-loop-i g l = SoFar l.fn.st l.st l.fn.out.items l.out.items (handlers_of (g.L.MakeLambdas.lambdas l.lams) (lexemes_of l.tokens) (state_of l.st) (trees_at (syntax_of l.nodes) (drop l.i l.ids))) (handlers_of (g.L.MakeLambdas.lambdas l.lams) (lexemes_of l.tokens) (state_of l.fn.st) (trees_at (syntax_of l.nodes) l.ids))
