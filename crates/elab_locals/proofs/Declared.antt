@@ -1,5 +1,5 @@
 -- Declarators of a declaration, one behind the other.
-use Rattle.std.proofs.Common.{◌≡◌, ◌≢◌, ◌<◌, ◌+◌, ◌-◌, take, ◌++◌, ◌∷◌, ℕ, Bool, true, false, List, [], length, drop, get_or, Option, Some, None, option_map, Result, Ok, Err, IfOk, refl, sym, ap, ◌∙◌, subst, append-nil, arith}
+use Rattle.std.proofs.Common.{◌≡◌, ◌≢◌, ◌<◌, ◌+◌, ◌-◌, take, ◌++◌, ◌∷◌, ℕ, Bool, true, false, List, [], length, drop, Option, None, option_map, Result, Ok, Err, IfOk, refl, sym, ap, ◌∙◌, subst, append-nil, arith}
 use Rattle.std.specs.declared.alloc.AllocError.{AllocError}
 use Rattle.cpp_lex.specs.Tokens.{Lexeme}
 use Rattle.cpp_types.specs.Typ.{Typ, typ_of}
@@ -17,7 +17,7 @@ use Rattle.cpp_tree.specs.declared.faults.IllRule.TheVariants.{BadDeclaration, O
 use Rattle.cpp_tree.specs.declared.arena.TNodeId.{TNodeId}
 use Rattle.cpp_tree.specs.Trees.{Tree, Trees, none, one}
 use Rattle.cpp_tree.specs.Arena.{tree_at, trees_at, Grows}
-use Rattle.elab_ctx.specs.Ctx.{Ctx, Labels, ctx_of}
+use Rattle.elab_ctx.specs.Ctx.{Ctx, ctx_of}
 use Rattle.elab_ctx.specs.Steps.{and_then, check, at_of}
 use Rattle.elab_ctx.specs.Says.{Faults, are_within}
 use Rattle.elab_ctx.proofs.Looks.{grows_refl}
@@ -34,7 +34,7 @@ use Rattle.elab_scopes.specs.States.{state_of, made, KeepsLabels, Grown}
 use Rattle.elab_scopes.specs.Says.{AllDone, DoesAll, behind}
 use Rattle.elab_scopes.proofs.Standing.{grown_refl, grown_trans}
 use Rattle.elab_locals.specs.Deducing.{VariableAt, declaring_of, DeclaringAt, Declares}
-use Rattle.elab_locals.specs.Declarators.{past_ctx, declared_from, init_declarator, specified_by, AllDeclared, DeclaresAll}
+use Rattle.elab_locals.specs.Declarators.{past_ctx, declared_from, init_declarator, specified_by, AllDeclared}
 
 -- behind a declaration, of which labels know
 past_grown : (b c : StateRec) (t : Typ) (init : syntax.Trees) → made c ≡ made b → ctx_of c.env ≡ past_ctx t init (ctx_of b.env) → Grown b c
@@ -115,8 +115,8 @@ declared_all a b ids auto rest x m e = record { auto = auto; declared = record {
 behind_all : (ts us : Trees) (st : State) → behind ts (done us st) ≡ done (followed_by ts us) st
 behind_all ts us st = refl
 
-pub specified_made : (lams : Lambdas) (s : List Lexeme) (a c : StateRec) (x : syntax.Tree) (ds : syntax.Trees) (t : Typ) (before list after none_yet : List TNodeId) (start : Option Ty) → are_within (length (made a)) before ≡ true → type_of_specifiers s (ctx_of a.env) (state_of a).work x ≡ Ok t → none_yet ≡ [] → AllDeclared a c list (block_declarators lams s t (declaring_of a none_yet None) ds) → after ≡ before ++ list → AllDone a c before after (specified_by lams s (state_of a) x ds)
-specified_made lams s a c x ds t before list after none_yet start w e n m l =
+pub specified_made : (lams : Lambdas) (s : List Lexeme) (a c : StateRec) (x : syntax.Tree) (ds : syntax.Trees) (t : Typ) (before list after none_yet : List TNodeId) → are_within (length (made a)) before ≡ true → type_of_specifiers s (ctx_of a.env) (state_of a).work x ≡ Ok t → none_yet ≡ [] → AllDeclared a c list (block_declarators lams s t (declaring_of a none_yet None) ds) → after ≡ before ++ list → AllDone a c before after (specified_by lams s (state_of a) x ds)
+specified_made lams s a c x ds t before list after none_yet w e n m l =
     let d = m.declared in
     let kept : trees_at (made c) before ≡ trees_at (made a) before = trees_grown (made a) (made c) before d.grown.trees w in
     let all : trees_at (made c) after ≡ followed_by (trees_at (made a) before) (trees_at (made c) list) = ap (trees_at (made c)) l ∙ trees_append (made c) before list ∙ ap (λ (z : Trees). followed_by z (trees_at (made c) list)) kept in
@@ -184,3 +184,6 @@ skipped_more c t ts ids kid e = sym (ap (λ (z : List NodeId). may_be_skipped c 
 
 pub skipped_none : (c : Ctx) (t : Typ) (ts : List syntax.Tree) (ids : List NodeId) (r : Result Bool AllocError) → ids ≡ [] → IfOk r (λ (b : Bool). b ≡ may_be_skipped c t syntax.none) → IfOk r (λ (b : Bool). b ≡ may_be_skipped c t (syntaxes_at ts ids))
 skipped_none c t ts ids r e m = subst (λ (z : List NodeId). IfOk r (λ (b : Bool). b ≡ may_be_skipped c t (syntaxes_at ts z))) (sym e) m
+
+pub faulted : {A : Type 0} (e f : ElabFault) (x : Result A ElabFault) → e ≡ f → Faults f x → Faults e x
+faulted {A} e f x q h = subst (λ (z : ElabFault). Faults z x) (sym q) h

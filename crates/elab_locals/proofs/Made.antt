@@ -1,5 +1,5 @@
 -- Nodes of variables with what was made to initialise them.
-use Rattle.std.proofs.Common.{◌≡◌, ◌<◌, ◌∷◌, ℕ, List, length, Option, Result, Ok, Err, IfOk, refl, sym, ap, ◌∙◌, subst}
+use Rattle.std.proofs.Common.{◌≡◌, ◌<◌, ◌∷◌, ℕ, List, length, Option, Result, IfOk, refl, sym, ap, ◌∙◌, subst}
 use Rattle.std.specs.declared.alloc.AllocError.{AllocError}
 use Rattle.cpp_lex.specs.Tokens.{Lexeme}
 use Rattle.cpp_types.specs.Typ.{Typ}
@@ -11,7 +11,7 @@ use Rattle.cpp_tree.specs.declared.faults.ElabFault.{ElabFault}
 use Rattle.cpp_tree.specs.declared.arena.TNodeId.{TNodeId}
 use Rattle.cpp_tree.specs.declared.kinds.TKind.TheVariants as forms
 use Rattle.cpp_tree.specs.Trees.{Tree, Trees, more, one}
-use Rattle.cpp_tree.specs.Arena.{tree_at, trees_at, Grows, Adds}
+use Rattle.cpp_tree.specs.Arena.{tree_at, trees_at, Adds}
 use Rattle.elab_ctx.specs.declared.operand.Operand.{Operand as OperandRec}
 use Rattle.elab_ctx.specs.Ctx.{Ctx, Work, ctx_of, work_of}
 use Rattle.elab_ctx.specs.Operands.{operands_in}
@@ -21,7 +21,7 @@ use Rattle.elab_ctx.proofs.Looks.{grows_trans, at_grown}
 use Rattle.elab_ctx.proofs.Making.{faults_in, faults_same, last_adds}
 use Rattle.elab_rules.specs.Objects.{destroys}
 use Rattle.elab_rules.specs.Expressions.{operands_of}
-use Rattle.elab_rules.specs.Statements.{Lambdas, State, Done, Full, done, statement, full, with_work, full_operand, all_lambdas}
+use Rattle.elab_rules.specs.Statements.{Lambdas, State, Full, done, statement, full, with_work, full_operand, all_lambdas}
 use Rattle.elab_rows.specs.Typed.{AllTyped}
 use Rattle.elab_scopes.specs.declared.state.State.{State as StateRec}
 use Rattle.elab_scopes.specs.States.{state_of, made, full_in}

@@ -1,7 +1,6 @@
 -- The one expression of an initialiser.
-use Rattle.std.proofs.Common.{◌≡◌, ◌≢◌, ◌<◌, ◌+◌, ℕ, List, Option, Some, None, option_map, refl, sym, ap, ◌∙◌, arith}
+use Rattle.std.proofs.Common.{◌≡◌, ◌≢◌, ◌<◌, ◌+◌, ℕ, Option, Some, None, refl, sym, ap, ◌∙◌}
 use Rattle.cpp_ast.specs.declared.arena.At.{At as SyntaxAt}
-use Rattle.cpp_ast.specs.declared.arena.NodeId.{NodeId}
 use Rattle.cpp_ast.specs.declared.kinds.NodeKind.{NodeKind}
 use Rattle.cpp_ast.specs.declared.kinds.NodeKind.TheVariants as k
 use Rattle.cpp_ast.specs.Trees.{Tree, node, Trees, none, more}
@@ -45,3 +44,7 @@ other_in kind p token us h = refl
 
 pub value_in : (x : Tree) (kind : NodeKind) (p : SyntaxAt) (token : Option ℕ) (us es : Trees) (r : Option Tree) → x ≡ node kind p token us → kind ≢ k.EqualInitializer → es ≡ us → r ≡ only_value es → r ≡ expression_in x
 value_in x kind p token us es r e h f m = m ∙ ap only_value f ∙ sym (ap expression_in e ∙ other_in kind p token us h)
+
+pub none_of_it : {A : Type 0} (r : Option A) → ((x : A) → r ≢ Some x) → r ≡ None
+none_of_it {A} None h = refl
+none_of_it {A} (Some x) h = absurd (h x refl)

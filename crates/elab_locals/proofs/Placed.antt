@@ -1,5 +1,5 @@
 -- Variables of blocks, step by step: those whose type their initialiser gives, and those whose type is known.
-use Rattle.std.proofs.Common.{◌≡◌, ◌<◌, ◌-◌, ◌++◌, ◌∷◌, ℕ, suc, Bool, true, false, List, [], length, map, Option, Some, None, option_map, Result, Ok, Err, IfOk, refl, sym, ap, ◌∙◌, subst}
+use Rattle.std.proofs.Common.{◌≡◌, ◌<◌, ◌-◌, ◌++◌, ◌∷◌, ℕ, suc, Bool, true, false, List, [], length, map, Option, Some, None, option_map, Result, Ok, Err, refl, sym, ap, ◌∙◌, subst}
 use Rattle.cpp_lex.specs.Tokens.{Lexeme}
 use Rattle.cpp_types.specs.Typ.{Typ, typ_of}
 use Rattle.cpp_types.specs.declared.types.Ty.{Ty}
@@ -12,11 +12,11 @@ use Rattle.cpp_tree.specs.declared.faults.IllRule.TheVariants.{Redeclared, TypeD
 use Rattle.cpp_tree.specs.declared.arena.TNodeId.{TNodeId}
 use Rattle.cpp_tree.specs.declared.kinds.TKind.TheVariants as forms
 use Rattle.cpp_tree.specs.Trees.{Tree, Trees, node, none, one}
-use Rattle.cpp_tree.specs.Arena.{tree_at, trees_at, Grows, Adds}
+use Rattle.cpp_tree.specs.Arena.{tree_at, Grows, Adds}
 use Rattle.elab_ctx.specs.declared.operand.Operand.{Operand as OperandRec}
-use Rattle.elab_ctx.specs.Ctx.{Ctx, Work, ctx_of, work_of, next_place, with_variable}
+use Rattle.elab_ctx.specs.Ctx.{Ctx, ctx_of, work_of, next_place, with_variable}
 use Rattle.elab_ctx.specs.Operands.{operand_in}
-use Rattle.elab_ctx.specs.Steps.{and_then, expect, check, Operand, Made}
+use Rattle.elab_ctx.specs.Steps.{and_then, expect, check, Made}
 use Rattle.elab_ctx.specs.Says.{Faults, MadeAt}
 use Rattle.elab_ctx.proofs.Looks.{grows_trans, at_grown}
 use Rattle.elab_ctx.proofs.Making.{faults_in, faults_same}
@@ -26,7 +26,7 @@ use Rattle.elab_scopes.specs.declared.state.State.{State as StateRec}
 use Rattle.elab_scopes.specs.States.{state_of, made, full_in, Grown}
 use Rattle.elab_scopes.specs.Says.{OneDone, Does, FullAt, Declared}
 use Rattle.elab_scopes.specs.Caught.{PlacedAt}
-use Rattle.elab_scopes.proofs.Standing.{grown_by, grown_trans, one_grown, does_grown, does_same}
+use Rattle.elab_scopes.proofs.Standing.{grown_by, grown_trans, one_grown, does_grown}
 use Rattle.elab_locals.specs.Inits.{init_in}
 use Rattle.elab_locals.specs.Deducing.{DeducedAt, VariableAt, Variables}
 use Rattle.elab_locals.specs.Variables.{auto_node, auto_of_type, auto_from, auto_declared, auto_read, plain_made, plain_read}

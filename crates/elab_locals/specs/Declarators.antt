@@ -1,5 +1,5 @@
 -- Declarators of a declaration, step by step.
-use Rattle.std.specs.Prelude.{◌≡◌, ℕ, Bool, true, not, ◌&&◌, ◌||◌, List, length, Option, None, Result, Ok, Err}
+use Rattle.std.specs.Prelude.{◌≡◌, not, ◌&&◌, ◌||◌, List, Option, None, Result, Ok, Err}
 use Rattle.cpp_types.specs.Typ.{Typ}
 use Rattle.cpp_types.specs.declared.classes.At.{At}
 use Rattle.cpp_types.specs.declared.types.Ty.{Ty}
@@ -16,7 +16,7 @@ use Rattle.elab_rules.specs.Types.{Declared}
 use Rattle.elab_rules.specs.Expressions.{type_of_specifiers, declared_by}
 use Rattle.elab_rules.specs.Statements.{Lambdas, State, Done, Deduction, Declaring, done, variable, name_of, is_own_name, declared_more, is_direct_label, may_be_skipped, block_declarators}
 use Rattle.elab_scopes.specs.declared.state.State.{State as StateRec}
-use Rattle.elab_locals.specs.Deducing.{declaring_of, DeclaringAt}
+use Rattle.elab_locals.specs.Deducing.{DeclaringAt}
 
 abbrev pub past_ctx : Typ → syntax.Trees → Ctx → Ctx
 past_ctx t init c = record c { labels = record c.labels { is_past = c.labels.is_past || (is_direct_label c.label && not (may_be_skipped c t init)) } }

@@ -1,5 +1,5 @@
 -- Deduced types, and variables that are declared.
-use Rattle.std.specs.Prelude.{◌≡◌, ◌<◌, ℕ, true, List, length, Option, option_map, Result, Ok, Err}
+use Rattle.std.specs.Prelude.{◌≡◌, ◌<◌, true, List, length, Option, option_map, Result, Ok, Err}
 use Rattle.cpp_types.specs.Typ.{Typ, typ_of}
 use Rattle.cpp_types.specs.declared.types.Ty.{Ty}
 use Rattle.cpp_tree.specs.declared.faults.ElabFault.{ElabFault}
@@ -8,7 +8,7 @@ use Rattle.cpp_tree.specs.Trees.{Tree, one}
 use Rattle.cpp_tree.specs.Arena.{tree_at, trees_at, Grows}
 use Rattle.cpp_tree.specs.Typing.{unqualified}
 use Rattle.elab_ctx.specs.Says.{Faults, are_within}
-use Rattle.elab_rules.specs.Statements.{Done, Deduction, Declaring, deduced_from}
+use Rattle.elab_rules.specs.Statements.{Deduction, Declaring, deduced_from}
 use Rattle.elab_scopes.specs.declared.state.State.{State as StateRec}
 use Rattle.elab_scopes.specs.States.{state_of, made, Grown}
 

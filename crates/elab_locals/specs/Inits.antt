@@ -1,5 +1,5 @@
 -- Variables with their initialisers, by the form in which that is written.
-use Rattle.std.specs.Prelude.{ℕ, Bool, true, false, List, Option, Some, None, Result, Ok, Err}
+use Rattle.std.specs.Prelude.{ℕ, Bool, true, List, Option, Some, Result, Err}
 use Rattle.cpp_types.specs.Typ.{Typ}
 use Rattle.cpp_types.specs.declared.classes.At.{At}
 use Rattle.cpp_lex.specs.Tokens.{Lexeme}
@@ -15,7 +15,7 @@ use Rattle.elab_rules.specs.Objects.{destroys}
 use Rattle.elab_rules.specs.Strings.{string_bytes}
 use Rattle.elab_rules.specs.Expressions.{operands_of}
 use Rattle.elab_rules.specs.Braces.{item_of, string_token, string_object, is_char_array, syntax_place}
-use Rattle.elab_rules.specs.Statements.{Lambdas, State, Done, Full, done, statement, full, full_operand, with_work, init_node, all_lambdas, default_object, copy_initialised, directly_initialised, values_place, initialised, values_initialised}
+use Rattle.elab_rules.specs.Statements.{Lambdas, State, Done, Full, done, statement, full, full_operand, with_work, init_node, all_lambdas, default_object, copy_initialised, directly_initialised, values_place, initialised}
 use Rattle.elab_braces.specs.Forms.{Form, nothing, values, braces, expression, other}
 
 abbrev pub init_in : Ctx → Typ → At → At → Tree → Tree → Tree

@@ -1,5 +1,5 @@
 -- Variables of blocks, step by step.
-use Rattle.std.specs.Prelude.{ℕ, ◌-◌, Bool, true, false, not, ◌&&◌, List, [], length, Option, Some, None, Result, Ok, Err}
+use Rattle.std.specs.Prelude.{ℕ, ◌-◌, ◌&&◌, List, length, Option, None, Result}
 use Rattle.cpp_types.specs.Typ.{Typ}
 use Rattle.cpp_types.specs.declared.classes.At.{At}
 use Rattle.cpp_lex.specs.Tokens.{Lexeme}

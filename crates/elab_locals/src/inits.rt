@@ -1,6 +1,6 @@
 // Nodes of variables and their initialisers (C++14 8.5).
 
-ghost use Rattle.std.specs.Prelude.{◌≡◌, ◌<◌, ◌++◌, ◌∷◌, length, IfOk};
+ghost use Rattle.std.specs.Prelude.{◌≡◌, ◌<◌, ◌∷◌, length, IfOk};
 ghost use Rattle.cpp_types.specs.Typ.{typ_of};
 ghost use Rattle.cpp_types.specs.declared.ranks.Cat.TheVariants.{Lvalue};
 ghost use Rattle.cpp_tree.specs.declared.kinds.TKind.TheVariants.{Local};

@@ -7,7 +7,7 @@ ghost use Rattle.cpp_types.specs.Typ.{typ_of};
 ghost use Rattle.cpp_tree.specs.Arena.{tree_at as tree_in};
 ghost use Rattle.elab_ctx.specs.Ctx.{ctx_of};
 ghost use Rattle.elab_ctx.specs.Says.{Tells};
-ghost use Rattle.elab_rules.specs.Statements.{declarable as declarable_of, is_bounded as is_bounded_of, bound_by_initialiser as bound_by_initialiser_of, variable as variable_of};
+ghost use Rattle.elab_rules.specs.Statements.{declarable as declarable_of, is_bounded as is_bounded_of, variable as variable_of};
 ghost use Rattle.elab_types.specs.Syntax.{syntax_of, trees_at};
 ghost use Rattle.elab_scopes.specs.States.{state_of, made};
 ghost use Rattle.elab_scopes.specs.Says.{Does};

@@ -1,8 +1,7 @@
-use Rattle.std.proofs.Common.{◌≡◌, ◌∙◌, Err, refl, sym, ap, rules}
+use Rattle.std.proofs.Common.{◌≡◌, ◌∙◌, Err, ap, rules}
 use Rattle.cpp_lex.specs.Tokens.{lexemes_of}
 use Rattle.cpp_types.specs.Typ.{typ_of}
 use Rattle.elab_types.specs.Syntax.{syntax_of, tree_at, trees_at}
-use Rattle.elab_scopes.specs.States.{state_of}
 use Rattle.std.proofs.Common.{◌++◌, []}
 use Rattle.elab_locals.proofs.Declared.{specified_made, specified_fails, all_fail}
 use Rattle.elab_locals.proofs.declarations.specified.Goals as goal
@@ -16,4 +15,4 @@ returns-in_err-declarators g c =
 pub returns : goal.returns
 returns g c =
     let empty : c.new-list.result.items ≡ [] = search rules in
-    specified_made (g.L.MakeLambdas.lambdas c.args.lams.now) (lexemes_of c.args.tokens.now) c.args.st.now _ (tree_at (syntax_of c.args.nodes.now) c.args.specifiers) (trees_at (syntax_of c.args.nodes.now) c.args.ids.now) (typ_of c.in_ok-ty.ty) c.args.out.now.items _ _ _ _ c.requires.out c.in_ok-ty.ensures empty c.in_ok-declarators.ensures (c.in_ok-keep_all.ensures ∙ ap (λ z. c.args.out.now.items ++ z) c.deref.ensures.value)
+    specified_made (g.L.MakeLambdas.lambdas c.args.lams.now) (lexemes_of c.args.tokens.now) c.args.st.now _ (tree_at (syntax_of c.args.nodes.now) c.args.specifiers) (trees_at (syntax_of c.args.nodes.now) c.args.ids.now) (typ_of c.in_ok-ty.ty) c.args.out.now.items _ _ _ c.requires.out c.in_ok-ty.ensures empty c.in_ok-declarators.ensures (c.in_ok-keep_all.ensures ∙ ap (λ z. c.args.out.now.items ++ z) c.deref.ensures.value)

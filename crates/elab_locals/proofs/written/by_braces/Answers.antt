@@ -1,4 +1,4 @@
-use Rattle.std.proofs.Common.{◌≡◌, ◌∙◌, Err, refl, sym, ap, rules}
+use Rattle.std.proofs.Common.{◌≡◌, ◌∙◌, Err, ap, rules}
 use Rattle.cpp_lex.specs.Tokens.{lexemes_of}
 use Rattle.cpp_types.specs.Typ.{typ_of}
 use Rattle.elab_types.specs.Syntax.{syntax_of, tree_at, trees_at}

@@ -1,8 +1,5 @@
-use Rattle.std.proofs.Common.{◌≡◌, ◌∙◌, Err, refl, sym, ap, rules}
-use Rattle.cpp_lex.specs.Tokens.{lexemes_of}
+use Rattle.std.proofs.Common.{◌≡◌, ◌∙◌, refl}
 use Rattle.cpp_types.specs.Typ.{typ_of}
-use Rattle.elab_types.specs.Syntax.{syntax_of, tree_at, trees_at}
-use Rattle.elab_scopes.specs.States.{state_of}
 use Rattle.cpp_types.specs.declared.classes.At.{At}
 use Rattle.cpp_tree.specs.Trees.{Tree}
 use Rattle.elab_ctx.specs.Ctx.{ctx_of}

@@ -14,7 +14,7 @@ use Rattle.elab_ctx.specs.Steps.{and_then, check}
 use Rattle.elab_ctx.proofs.Making.{faults_in, faults_same}
 use Rattle.elab_rules.specs.Statements.{State, Done, Switched, done, statement, the_tree, joined, statement_of, statements_of, handlers_of}
 use Rattle.elab_types.specs.Syntax.{syntax_of, tree_at, trees_at}
-use Rattle.elab_locals.proofs.Declared.{kids_behind}
+use Rattle.elab_locals.proofs.Declared.{kids_behind, faulted}
 use Rattle.elab_scopes.specs.States.{state_of}
 use Rattle.elab_scopes.proofs.Standing.{does_same}
 use Rattle.elab_scopes.proofs.Choices.{does_fail}
@@ -76,7 +76,7 @@ single-returns-in-ReturnStatement g t c =
 
 pub single-returns-in_default : goal.single-returns-in_default
 single-returns-in_default g t c =
-    does_fail _ _ _ (Ill c.place-at.result OutOfProfile) _ (ap Err c.ill.ensures) (other_row (g.L.MakeLambdas.lambdas c.args.lams.now) (lexemes_of c.args.tokens.now) (state_of c.args.st.now) (tree_at (syntax_of c.args.nodes.now) c.args.id) _ _ c.place-at.result _ _ c.node_at-node.ensures.node c.requires.single c.place-at.ensures c.in_default.not-CompoundStatement c.in_default.not-NullStatement c.in_default.not-ExpressionStatement c.in_default.not-IfStatement c.in_default.not-WhileStatement c.in_default.not-DoStatement c.in_default.not-ForStatement c.in_default.not-SwitchStatement c.in_default.not-BreakStatement c.in_default.not-ContinueStatement c.in_default.not-ReturnStatement c.in_default.not-TryBlock c.in_default.not-SynchronizedStatement c.in_default.not-AtomicStatement)
+    faulted _ (Ill c.place-at.result OutOfProfile) _ c.ill-in_default.ensures (other_row (g.L.MakeLambdas.lambdas c.args.lams.now) (lexemes_of c.args.tokens.now) (state_of c.args.st.now) (tree_at (syntax_of c.args.nodes.now) c.args.id) _ _ c.place-at.result _ _ c.node_at-node.ensures.node c.requires.single c.place-at.ensures c.in_default.not-CompoundStatement c.in_default.not-NullStatement c.in_default.not-ExpressionStatement c.in_default.not-IfStatement c.in_default.not-WhileStatement c.in_default.not-DoStatement c.in_default.not-ForStatement c.in_default.not-SwitchStatement c.in_default.not-BreakStatement c.in_default.not-ContinueStatement c.in_default.not-ReturnStatement c.in_default.not-TryBlock c.in_default.not-SynchronizedStatement c.in_default.not-AtomicStatement)
 
 pub body-returns : goal.body-returns
 body-returns g t c =
