@@ -1,0 +1,5 @@
+pub mod Declared
+pub mod Initials
+pub mod Made
+pub mod OneValue
+pub mod Placed

@@ -1,0 +1,10 @@
+use Rattle.std.proofs.Common.{◌≡◌, ◌∙◌}
+use Rattle.cpp_lex.specs.Tokens.{lexemes_of}
+use Rattle.cpp_types.specs.Typ.{typ_of}
+use Rattle.elab_types.specs.Syntax.{syntax_of, tree_at, trees_at}
+use Rattle.elab_types.specs.Shown.{declared_of}
+use Rattle.elab_locals.proofs.Declared.{declarator_then}
+use Rattle.elab_locals.proofs.declarations.init_declarator.Goals as goal
+
+pub returns : goal.returns
+returns g c = declarator_then (g.L.MakeLambdas.lambdas c.args.lams.now) (lexemes_of c.args.tokens.now) c.args.st.now _ c.args.at (typ_of c.args.ty.now) c.args.list.now.items _ c.args.auto.now _ (tree_at (syntax_of c.args.nodes.now) c.args.kid) (trees_at (syntax_of c.args.nodes.now) c.args.ids.now) (declared_of c.in_ok-found.found) _ c.in_ok-found.ensures c.declared_from.ensures

@@ -1,0 +1,5 @@
+pub mod Declarators
+pub mod Deducing
+pub mod Inits
+pub mod Values
+pub mod Variables

@@ -1,0 +1,14 @@
+use Rattle.std.proofs.Common.{◌≡◌, Err, rules}
+use Rattle.cpp_lex.specs.Tokens.{lexemes_of}
+use Rattle.elab_types.specs.Syntax.{syntax_of, tree_at}
+use Rattle.elab_scopes.proofs.Choices.{does_fail}
+use Rattle.elab_scopes.proofs.Labelling.{case_then, case_fails}
+use Rattle.elab_scopes.proofs.labels.case_label.Goals as goal
+
+pub returns : goal.returns
+returns c = case_then c.args.st.now _ _ (lexemes_of c.args.tokens.now) c.args.at (tree_at (syntax_of c.args.nodes.now) c.args.id) _ c.in_ok-word.word c.in_ok-label_here.ensures c.in_ok-word.ensures c.case_of.ensures
+
+pub returns-in_err-word : goal.returns-in_err-word
+returns-in_err-word c =
+    let is_error : c.from_residual-in_err-word.result ≡ Err c.in_err-word.field-0.0 = search rules in
+    does_fail _ _ _ _ _ is_error (case_fails c.args.st.now (lexemes_of c.args.tokens.now) c.args.at (tree_at (syntax_of c.args.nodes.now) c.args.id) _ _ c.in_ok-label_here.ensures c.in_err-word.ensures)

@@ -1,0 +1,47 @@
+-- `return`, step by step.
+use Rattle.std.specs.Prelude.{false, ◌||◌, Option, Some, None, Result}
+use Rattle.cpp_types.specs.Typ.{Typ}
+use Rattle.cpp_types.specs.declared.classes.At.{At}
+use Rattle.cpp_tree.specs.declared.faults.ElabFault.{ElabFault}
+use Rattle.cpp_tree.specs.declared.faults.IllRule.TheVariants.{BadReturn}
+use Rattle.cpp_tree.specs.declared.kinds.TKind.TheVariants as forms
+use Rattle.cpp_tree.specs.Trees.{Tree, none, one, two, typ_in, kind_of}
+use Rattle.cpp_tree.specs.Typing.{is_void, unqualified}
+use Rattle.elab_ctx.specs.Ctx.{Returns, known, deduced}
+use Rattle.elab_ctx.specs.Steps.{and_then, check, Made}
+use Rattle.elab_rules.specs.Initialising.{initial, class_from}
+use Rattle.elab_rules.specs.Operators.{value, is_throw}
+use Rattle.elab_rules.specs.Statements.{State, Done, Full, done, full, with_work, statement, return_node, result_object, with_deduced, same_deduction}
+
+abbrev pub void_returned : At → At → Tree → Tree
+void_returned at place e = statement (forms.Block false) at (two (full place e) (return_node at none))
+
+abbrev pub return_void : At → Full → Result Done ElabFault
+return_void at f = and_then (check at BadReturn (is_void (typ_in f.operand.tree) || is_throw (kind_of f.operand.tree))) (λ y. done (one (void_returned at f.operand.at f.operand.tree)) f.state)
+
+abbrev pub object_built : At → Typ → At → Tree → Tree
+object_built at t place e = statement forms.Init at (two (result_object t at) (full place e))
+
+abbrev pub object_returned : At → Typ → At → Tree → Tree
+object_returned at t place e = statement (forms.Block false) at (two (object_built at t place e) (return_node at none))
+
+abbrev pub return_object : At → Typ → Full → Result Done ElabFault
+return_object at t f = and_then (class_from f.state.ctx f.state.work t f.operand.at f.operand) (λ (m : Made). done (one (object_returned at t f.operand.at m.tree)) (with_work f.state m.work))
+
+abbrev pub scalar_returned : At → At → Tree → Tree
+scalar_returned at place e = return_node at (one (full place e))
+
+abbrev pub return_scalar : At → Typ → Full → Result Done ElabFault
+return_scalar at t f = and_then (initial f.state.ctx f.state.work t f.operand) (λ (m : Made). done (one (scalar_returned at f.operand.at m.tree)) (with_work f.state m.work))
+
+abbrev pub return_known : Returns → Option Typ
+return_known (known t) = Some t
+return_known (deduced t) = None
+
+-- the type of a result that is deduced; where it is known, nothing is asked
+abbrev pub return_deduced : At → State → Returns → Typ → Result Done ElabFault
+return_deduced at st (known t) u = done none st
+return_deduced at st (deduced t) u = and_then (check at BadReturn (same_deduction t u)) (λ y. done (one (return_node at none)) (with_deduced st (Some u)))
+
+abbrev pub return_deduced_by : At → Full → Returns → Result Done ElabFault
+return_deduced_by at f r = return_deduced at f.state r (unqualified (typ_in (value f.operand)))

@@ -1,0 +1,23 @@
+-- What is made of a full-expression, and what it is made of.
+use Rattle.std.specs.Prelude.{Result, Ok, false}
+use Rattle.cpp_types.specs.Typ.{Typ}
+use Rattle.cpp_types.specs.declared.classes.At.{At}
+use Rattle.cpp_tree.specs.declared.faults.ElabFault.{ElabFault}
+use Rattle.cpp_tree.specs.Trees.{Tree, typ_in}
+use Rattle.cpp_tree.specs.Typing.{form_in}
+use Rattle.elab_ctx.specs.Steps.{and_then}
+use Rattle.elab_rules.specs.Operators.{value, truth, dropped}
+use Rattle.elab_rules.specs.Statements.{Done, Full, Switched, full, full_made, switched_type, switch_value}
+
+abbrev pub dropped_whole : Full → Result Done ElabFault
+dropped_whole f = full_made f (Ok (dropped f.state.ctx f.state.work f.operand))
+
+abbrev pub truth_whole : Full → Result Done ElabFault
+truth_whole f = full_made f (and_then (truth f.state.ctx f.state.work f.operand) (λ (t : Tree). Ok (record { tree = t; work = f.state.work })))
+
+abbrev pub switched_on : Full → Result Switched ElabFault
+switched_on f = and_then (switched_type f.operand.at (form_in (typ_in (value f.operand)))) (λ (t : Typ). Ok (record { value = full f.operand.at (switch_value t (value f.operand) f.operand); typ = t; state = f.state }))
+
+-- a value in the type of a `switch`, by its place
+abbrev pub value_at : At → Typ → Tree → Tree
+value_at at t e = switch_value t e (record { tree = e; at = at; zero = false })

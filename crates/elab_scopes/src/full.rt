@@ -1,0 +1,110 @@
+// Full-expressions (C++14 1.9 p10, 12.2): their lambdas before them, their temporaries until their end.
+
+ghost use Rattle.std.specs.Prelude.{◌≡◌, ◌<◌, List, length, IfOk, true};
+ghost use Rattle.cpp_lex.specs.Tokens.{lexemes_of};
+ghost use Rattle.cpp_ast.specs.Orders.{are_below};
+ghost use Rattle.cpp_tree.specs.Trees.{Tree};
+ghost use Rattle.cpp_tree.specs.Arena.{trees_of, tree_at, trees_at, Adds};
+ghost use Rattle.elab_rules.specs.Statements.{is_temporary_with as is_temporary_with_of, holds_temporary as holds_temporary_of, full as full_of, full_operand as full_operand_of, all_lambdas as all_lambdas_of};
+ghost use Rattle.elab_types.specs.Syntax.{syntax_of, tree_at as syntax_at, trees_at as syntaxes_at};
+ghost use Rattle.elab_scopes.specs.States.{state_of};
+ghost use Rattle.elab_scopes.specs.Says.{Changes, Fulls};
+
+use crate::lambdas::MakeLambdas;
+use crate::reading::operand;
+use crate::state::State;
+use cpp_ast::{NodeId, Nodes};
+use cpp_lex::Tokens;
+use cpp_tree::{ElabFault, TKind, TNode, TNodeId, add_unary};
+use cpp_types::{At, copy};
+use elab_ctx::{Operand, kids_at, node_at};
+use std::alloc::{AllocError, Global};
+
+// Whether a node is a temporary that is destroyed.
+fn is_temporary(kind: TKind, kids: &[TNodeId]) -> bool
+    ensures { (trees : List Tree) → result ≡ is_temporary_with_of kind (trees_at trees kids.now) }
+{
+    match kind {
+        TKind::Materialize { place: _, argument } => {
+            if argument {
+                return false;
+            }
+            kids.len() > 1
+        }
+        _ => false,
+    }
+}
+
+// Whether a temporary with a destructor is in a tree.
+fn holds_temporary(nodes: &Vec<TNode>, id: TNodeId) -> Result<bool, AllocError>
+    requires { id.0 < length (trees_of nodes.now.items) }
+    ensures { IfOk result (λ b. b ≡ holds_temporary_of (tree_at (trees_of nodes.now.items) id)) }
+{
+    let kids = kids_at(nodes, id)?;
+    if is_temporary(node_at(nodes, id).kind, kids) {
+        return Ok(true);
+    }
+    for kid in kids {
+        if holds_temporary(nodes, *kid)? {
+            return Ok(true);
+        }
+    }
+    Ok(false)
+}
+
+/// An expression or an initialiser as a whole.
+pub fn full(
+    alloc: Global,
+    nodes: &mut Vec<TNode>,
+    at: At,
+    id: TNodeId,
+) -> Result<TNodeId, AllocError>
+    requires { id.0 < length (trees_of nodes.old.items) }
+    ensures { IfOk result (λ r. Adds (trees_of nodes.old.items) (trees_of nodes.new.items) r (full_of at (tree_at (trees_of nodes.old.items) id))) }
+{
+    if !holds_temporary(nodes, id)? {
+        return Ok(id);
+    }
+    let node = node_at(nodes, id);
+    let cat = node.cat;
+    let ty = copy(alloc, &node.ty)?;
+    add_unary(alloc, nodes, TKind::FullExpression, ty, cat, at, id)
+}
+
+/// An expression that is no part of another, behind its lambdas.
+pub fn full_operand<L: MakeLambdas>(
+    alloc: Global,
+    lams: &L,
+    tokens: &Tokens,
+    nodes: &Nodes,
+    id: NodeId,
+    st: &mut State,
+) -> Result<Operand, ElabFault>
+    requires { id.0 < length nodes.now }
+    ensures { Fulls st.old st.new result (full_operand_of (L.lambdas lams.now) (lexemes_of tokens.now) (state_of st.old) (syntax_at (syntax_of nodes.now) id)) }
+{
+    lams.make(alloc, tokens, nodes, id, st)?;
+    let o = operand(alloc, &st.env, tokens, nodes, id, &mut st.work)?;
+    st.env.closures.clear();
+    Ok(o)
+}
+
+/// The lambdas of each of some expressions, which are kids of a node.
+pub fn all_lambdas<L: MakeLambdas>(
+    alloc: Global,
+    lams: &L,
+    tokens: &Tokens,
+    nodes: &Nodes,
+    parent: NodeId,
+    ids: &[NodeId],
+    st: &mut State,
+) -> Result<(), ElabFault>
+    requires within { parent.0 < length nodes.now }
+    requires lower { are_below parent.0 ids.now ≡ true }
+    ensures { Changes st.old st.new result (all_lambdas_of (L.lambdas lams.now) (lexemes_of tokens.now) (state_of st.old) (syntaxes_at (syntax_of nodes.now) ids.now)) }
+{
+    for id in ids {
+        lams.make(alloc, tokens, nodes, *id, st)?;
+    }
+    Ok(())
+}
