@@ -1,0 +1,73 @@
+-- Parts of the rules for the text of a class, as the steps of which they are made.
+use Rattle.std.specs.Prelude.{◌≡◌, ℕ, true, Bool, List, [], drop, Option, Some, None, Result, Ok, Err}
+use Rattle.cpp_lex.specs.Tokens.{Lexeme}
+use Rattle.cpp_types.specs.Typ.{Typ, Form, func, Signature}
+use Rattle.cpp_types.specs.Class.{Member}
+use Rattle.cpp_types.specs.declared.classes.At.{At}
+use Rattle.cpp_ast.specs.Trees as syntax
+use Rattle.cpp_ast.specs.declared.kinds.NodeKind.TheVariants as k
+use Rattle.cpp_ast.specs.declared.arena.NodeId.{NodeId}
+use Rattle.cpp_tree.specs.declared.program.FuncKind.{FuncKind}
+use Rattle.cpp_tree.specs.declared.program.FuncKind.TheVariants.{Plain}
+use Rattle.cpp_tree.specs.declared.faults.ElabFault.{ElabFault}
+use Rattle.cpp_tree.specs.declared.faults.ElabFault.TheVariants.{Ill}
+use Rattle.cpp_tree.specs.declared.faults.IllRule.TheVariants.{BadDeclaration, OutOfProfile}
+use Rattle.cpp_tree.specs.Typing.{form_in}
+use Rattle.cpp_tree.specs.Notation.{plain}
+use Rattle.cpp_types.specs.Typ.{void}
+use Rattle.elab_ctx.specs.Ctx.{Ctx, Work}
+use Rattle.elab_ctx.specs.Says.{Faults}
+use Rattle.elab_ctx.specs.Steps.{and_then}
+use Rattle.elab_types.specs.Syntax.{trees_at}
+use Rattle.elab_rules.specs.Types.{Declared}
+use Rattle.elab_rules.specs.Expressions.{type_of_specifiers, declared_by}
+use Rattle.elab_rules.specs.Statements.{State, Body, name_of}
+use Rattle.elab_rules.specs.Functions.{Storage, Header, text_sized}
+use Rattle.elab_rules.specs.Classes.{Home, Members, Begun, Method, Definition, header_in, special_header, declared_method, definition_between, last_token, body_in, begun, members_of, completed, closed_class, class_text}
+use Rattle.elab_rules.specs.Members.{base_named, has_final, members_among}
+use Rattle.class_members.specs.Shown.{header_of, home_of}
+use Rattle.class_members.specs.declared.records.Home.{Home as HomeRec}
+use Rattle.class_table.specs.declared.methods.Method.{Method as MethodRec}
+
+-- the signature of a function's type
+abbrev pub signature_in : At → Form → Result Signature ElabFault
+signature_in at (func sig) = Ok sig
+signature_in at f = Err (Ill at BadDeclaration)
+
+-- the header of a function from its type and its declarator
+abbrev pub plain_header : List Lexeme → Ctx → Work → ℕ → At → Storage → syntax.Tree → syntax.Tree → Result Header ElabFault
+plain_header s c w n at x base d = and_then (type_of_specifiers s c w base) (λ (t : Typ). and_then (declared_by s c w at t d) (λ (r : Declared). header_in n x Plain at (name_of s r.name) r (form_in r.typ)))
+
+-- the header of a constructor or a destructor from its declarator
+abbrev pub special_declared : List Lexeme → Ctx → Work → ℕ → List ℕ → At → Storage → FuncKind → syntax.Tree → Result Header ElabFault
+special_declared s c w n class_name at x kind d = and_then (declared_by s c w at (plain void) d) (λ (r : Declared). special_header n class_name at x kind r (name_of s r.name))
+
+-- a function, with the kids behind its declarator
+abbrev pub method_shown : List syntax.Tree → List NodeId → MethodRec → Method
+method_shown trees ids m = record { header = header_of m.header; rest = trees_at trees (drop m.count ids) }
+
+-- a member with a body
+abbrev pub defined_method : List Lexeme → Home → Members → FuncKind → At → Option ℕ → syntax.Trees → Result Members ElabFault
+defined_method s home r kind at (Some t) kids = declared_method s home r kind at (Some (definition_between s t (last_token (body_in kids)))) kids
+defined_method s home r kind at None kids = Err (Ill at OutOfProfile)
+
+-- A class up to its closing brace
+
+pub record ClassRead : Type 0 where
+  pub ctx : Ctx
+  pub home : Home
+
+abbrev pub read_closed : At → Home → Members → Result ClassRead ElabFault
+read_closed at home r = and_then (closed_class at home.number (completed r.state.ctx home at r.members r.initialised)) (λ (c : Ctx). Ok (record { ctx = c; home = home }))
+
+abbrev pub read_members : List Lexeme → State → At → Home → syntax.Trees → Result ClassRead ElabFault
+read_members s st at home members = and_then (members_of s home (record { state = st; members = []; initialised = [] }) members) (λ (r : Members). read_closed at home r)
+
+abbrev pub class_read : List Lexeme → State → At → List ℕ → syntax.Trees → Result ClassRead ElabFault
+class_read s st at name kids = and_then (text_sized at (class_text s kids)) (λ z. and_then (begun st.ctx at name true) (λ (b : Begun). and_then (base_named s b.ctx kids) (λ (base : Option ℕ).
+    read_members s (record st { ctx = b.ctx }) at (record { number = b.number; name = name; base = base; is_final = has_final kids }) (members_among kids))))
+
+-- the class stands, complete, or its fault is answered
+abbrev pub Reads : Ctx → Result HomeRec ElabFault → Result ClassRead ElabFault → Type 0
+Reads c (Ok h) x = x ≡ Ok (record { ctx = c; home = home_of h })
+Reads c (Err e) x = Faults e x
