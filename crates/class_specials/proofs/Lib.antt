@@ -1,2 +1,3 @@
+pub mod Defaults
 pub mod Firsts
 pub mod Singles

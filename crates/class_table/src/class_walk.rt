@@ -1,22 +1,23 @@
 // A class: its head, its members, and the closing brace (C++14 clause 9, 9.2).
 
-ghost use Rattle.std.specs.Prelude.{◌≡◌, ◌<◌, length, true, List, Option, Some, None, Ok, Err, [], map};
-ghost use Rattle.cpp_lex.specs.Tokens.{lexemes_of};
-ghost use Rattle.cpp_types.specs.Class.{member_of};
+ghost use Rattle.std.specs.Prelude.{◌≡◌, ℕ, length, true, List, Option, MatchOption, IfOk, if◌then◌else◌};
+ghost use Rattle.cpp_lex.specs.Tokens.{lexemes_of, Lexeme};
 ghost use Rattle.cpp_ast.specs.Orders.{are_below};
-ghost use Rattle.elab_ctx.specs.Ctx.{ctx_of, work_of};
-ghost use Rattle.elab_ctx.specs.Says.{Tells, Faults};
+ghost use Rattle.cpp_ast.specs.Trees.{node, Trees, more};
+ghost use Rattle.cpp_ast.specs.declared.arena.At.{At as SyntaxAt};
+ghost use Rattle.elab_ctx.specs.Ctx.{ctx_of, work_of, Ctx};
+ghost use Rattle.elab_ctx.specs.Says.{Tells};
 ghost use Rattle.elab_rules.specs.Classes.{begun as begun_of};
 ghost use Rattle.elab_rules.specs.Statements.{Body};
-ghost use Rattle.elab_rules.specs.Members.{has_final as has_final_of, base_named as base_named_of, members_among as members_among_of};
+ghost use Rattle.elab_rules.specs.Members.{is_final_word as is_final_word_of, has_final as has_final_of, base_named as base_named_of, members_among as members_among_of};
 ghost use Rattle.elab_types.specs.Syntax.{syntax_of, trees_at};
-ghost use Rattle.class_members.specs.Shown.{home_of, reading, Begins};
-ghost use Rattle.class_table.specs.Written.{class_read as class_read_of, read_members as read_members_of, Reads};
+ghost use Rattle.class_members.specs.Shown.{home_of, Begins};
+ghost use Rattle.class_table.specs.Written.{class_read as class_read_of, read_members as read_members_of, named_base, at_hand, Reads, StandsRead};
 
 use crate::member_walk::members_of;
-use crate::texts::class_text;
 use class_members::{Home, Members, based_on, text_sized};
 use class_records::{begun, closed_class, completed};
+use class_texts::texts::class_text;
 use cpp_ast::{NodeId, NodeKind, Nodes};
 use cpp_lex::Tokens;
 use cpp_tree::ElabFault;
@@ -32,7 +33,9 @@ pub fn class_declared(alloc: Global, env: &mut Env, at: At, name: &[u8]) -> Resu
     begun(alloc, env, at, name, false)
 }
 
-fn is_final_word(kind: NodeKind) -> bool {
+fn is_final_word(kind: NodeKind) -> bool
+    ensures { (at : SyntaxAt) (token : Option ℕ) (kids : Trees) → is_final_word_of (node kind at token kids) ≡ result }
+{
     match kind {
         NodeKind::VirtSpecifier => true,
         _ => false,
@@ -52,9 +55,15 @@ pub fn has_final(nodes: &Nodes, kids: &[NodeId]) -> bool
     false
 }
 
-fn base_token(kind: NodeKind, token: Option<u32>) -> Option<u32> {
+// The token of a base.
+fn base_token(kind: NodeKind, token: Option<u32>) -> Option<u32>
+    ensures { (s : List Lexeme) (c : Ctx) (at : SyntaxAt) (kids rest : Trees) → MatchOption result (base_named_of s c (more (node kind at token kids) rest) ≡ base_named_of s c rest) (λ found. base_named_of s c (more (node kind at token kids) rest) ≡ named_base s c at found) }
+{
     match kind {
-        NodeKind::BaseSpecifier => token,
+        NodeKind::BaseSpecifier => match token {
+            Some(found) => Some(found),
+            None => None,
+        },
         _ => None,
     }
 }
@@ -83,7 +92,9 @@ pub fn base_named(
     Ok(None)
 }
 
-fn is_specification(kind: NodeKind) -> bool {
+fn is_specification(kind: NodeKind) -> bool
+    ensures { (at : SyntaxAt) (token : Option ℕ) (kids rest : Trees) → members_among_of (more (node kind at token kids) rest) ≡ (if result then kids else members_among_of rest) }
+{
     match kind {
         NodeKind::MemberSpecification => true,
         _ => false,
@@ -112,7 +123,9 @@ fn head_of(
     name: &[u8],
     base: Option<u32>,
     is_final: bool,
-) -> Result<Home, AllocError> {
+) -> Result<Home, AllocError>
+    ensures { IfOk result (λ h. home_of h ≡ record { number = number; name = name.now; base = base; is_final = is_final }) }
+{
     let name = Vec::from_slice(alloc, name)?;
     Ok(Home {
         number,
@@ -134,6 +147,7 @@ fn members_read(
     work: &Work,
 ) -> Result<(), ElabFault>
     requires { are_below (length nodes.now) ids.now ≡ true }
+    ensures { (bodies : List Body) → StandsRead (at_hand (ctx_of env.new) (work_of work.now) bodies) (home_of home.now) result (read_members_of (lexemes_of tokens.now) (at_hand (ctx_of env.old) (work_of work.now) bodies) at (home_of home.now) (trees_at (syntax_of nodes.now) ids.now)) }
 {
     let mut read = Members {
         members: Vec::new(alloc),
@@ -158,7 +172,7 @@ pub fn class_read(
     work: &Work,
 ) -> Result<Home, ElabFault>
     requires { are_below (length nodes.now) kids.now ≡ true }
-    ensures { (bodies : List Body) → Reads (ctx_of env.new) result (class_read_of (lexemes_of tokens.now) (record { ctx = ctx_of env.old; work = work_of work.now; bodies = bodies }) at name.now (trees_at (syntax_of nodes.now) kids.now)) }
+    ensures { (bodies : List Body) → Reads (at_hand (ctx_of env.new) (work_of work.now) bodies) result (class_read_of (lexemes_of tokens.now) (at_hand (ctx_of env.old) (work_of work.now) bodies) at name.now (trees_at (syntax_of nodes.now) kids.now)) }
 {
     let text = class_text(alloc, tokens, nodes, kids)?;
     text_sized(at, &text)?;

@@ -5,26 +5,24 @@ ghost use Rattle.cpp_lex.specs.Tokens.{lexemes_of};
 ghost use Rattle.cpp_types.specs.Typ.{typ_of};
 ghost use Rattle.cpp_ast.specs.Orders.{are_below};
 ghost use Rattle.cpp_tree.specs.Typing.{form_in};
-ghost use Rattle.elab_ctx.specs.Ctx.{ctx_of, work_of};
+ghost use Rattle.elab_ctx.specs.Ctx.{ctx_of, work_of, Work as WorkShown};
 ghost use Rattle.elab_ctx.specs.Steps.{each_of};
 ghost use Rattle.elab_rules.specs.Statements.{Body, is_own_name as is_own_name_of};
-ghost use Rattle.elab_rules.specs.Classes.{declared_method as declared_method_of, no_function_words as no_function_words_of, declared_member as declared_member_of, member_declarator as member_declarator_of, member_declaration as member_declaration_of, member_of as member_of_of, members_of as members_of_of, started_from as started_from_of};
+ghost use Rattle.elab_rules.specs.Classes.{declared_method as declared_method_of, no_function_words as no_function_words_of, member_declarator as member_declarator_of, member_declaration as member_declaration_of, member_of as member_of_of, members_of as members_of_of, started_from as started_from_of};
 ghost use Rattle.elab_rules.specs.Functions.{no_storage as no_storage_of};
 ghost use Rattle.elab_types.specs.Syntax.{syntax_of, tree_at, trees_at};
 ghost use Rattle.elab_types.specs.Shown.{declared_of};
 ghost use Rattle.class_members.specs.Shown.{home_of, reading, Answers, definition_of, storage_of, marks_of};
-ghost use Rattle.class_table.specs.Written.{defined_method as defined_method_of};
+ghost use Rattle.class_table.specs.Written.{defined_method as defined_method_of, is_function_form, function_declared as function_declared_of, data_declared as data_declared_of, member_declared};
 
-use crate::bounds::{declarator_among, member_named, within_bounds};
-use crate::headers::{header_in, name_of};
-use crate::kids::kid_at;
 use crate::methods::{declared_written, method_of, type_written};
-use crate::started::{no_storage, started_from};
-use crate::texts::{body_end, definition_between};
-use crate::words::{has_equal, has_initialiser, marks_from};
-use class_members::{
-    Definition, Home, Marks, Members, Storage, data_member, member_function,
-};
+use class_members::{Definition, Home, Marks, Members, Storage, data_member, member_function};
+use class_texts::bounds::{declarator_among, member_named, within_bounds};
+use class_texts::headers::{header_in, name_of};
+use class_texts::kids::kid_at;
+use class_texts::started::{no_storage, started_from};
+use class_texts::texts::{body_end, definition_between};
+use class_texts::words::{has_equal, has_initialiser, marks_from};
 use cpp_ast::{NodeId, NodeKind, Nodes};
 use cpp_lex::Tokens;
 use cpp_tree::{ElabFault, FuncKind, IllRule};
@@ -52,14 +50,7 @@ fn declared_method(
     requires { are_below (length nodes.now) kids.now ≡ true }
     ensures { (bodies : List Body) → Answers (reading (ctx_of env.new) (work_of work.now) bodies members.now) result (declared_method_of (lexemes_of tokens.now) (home_of home.now) (reading (ctx_of env.old) (work_of work.now) bodies members.now) kind at (option_map definition_of definition) (trees_at (syntax_of nodes.now) kids.now)) }
 {
-    within_bounds(declarator_among(
-        tokens,
-        nodes,
-        env,
-        home.number,
-        members,
-        kids,
-    ))?;
+    within_bounds(declarator_among(tokens, nodes, env, home.number, members, kids))?;
     let method = method_of(
         alloc,
         env,
@@ -73,15 +64,7 @@ fn declared_method(
         work,
     )?;
     let marks = marks_from(tokens, nodes, &kids[method.count..]);
-    member_function(
-        alloc,
-        env,
-        home,
-        members,
-        &method.header,
-        marks,
-        definition,
-    )
+    member_function(alloc, env, home, members, &method.header, marks, definition)
 }
 
 // A member whose body stands in the class.
@@ -121,7 +104,9 @@ fn defined_method(
     )
 }
 
-fn is_function(ty: &Ty) -> bool {
+fn is_function(ty: &Ty) -> bool
+    ensures { result ≡ is_function_form (form_in (typ_of ty.now)) }
+{
     match &ty.shape {
         Shape::Func(_) => true,
         _ => false,
@@ -149,6 +134,7 @@ fn function_declared(
     rest: &[NodeId],
 ) -> Result<(), ElabFault>
     requires { are_below (length nodes.now) rest.now ≡ true }
+    ensures { (w : WorkShown) (bodies : List Body) → Answers (reading (ctx_of env.new) w bodies members.now) result (function_declared_of (lexemes_of tokens.now) (home_of home.now) (reading (ctx_of env.old) w bodies members.now) at (storage_of storage) (trees_at (syntax_of nodes.now) rest.now) (declared_of found) (form_in (typ_of found.ty))) }
 {
     let marks = marks_from(tokens, nodes, rest);
     let name = name_of(tokens, found.name);
@@ -181,6 +167,7 @@ fn data_declared(
     rest: &[NodeId],
 ) -> Result<(), ElabFault>
     requires { are_below (length nodes.now) rest.now ≡ true }
+    ensures { (w : WorkShown) (bodies : List Body) → Answers (reading (ctx_of env.now) w bodies members.new) result (data_declared_of (lexemes_of tokens.now) (home_of home.now) (reading (ctx_of env.now) w bodies members.old) at (storage_of storage) (trees_at (syntax_of nodes.now) rest.now) (declared_of found.now)) }
 {
     let marks = marks_from(tokens, nodes, rest);
     let name = name_of(tokens, found.name);
@@ -214,6 +201,7 @@ fn declared_member(
     rest: &[NodeId],
 ) -> Result<(), ElabFault>
     requires { are_below (length nodes.now) rest.now ≡ true }
+    ensures { (w : WorkShown) (bodies : List Body) → Answers (reading (ctx_of env.new) w bodies members.new) result (member_declared (lexemes_of tokens.now) (home_of home.now) (reading (ctx_of env.old) w bodies members.old) at (storage_of storage) (trees_at (syntax_of nodes.now) rest.now) (declared_of found)) }
 {
     if is_function(&found.ty) {
         return function_declared(
@@ -251,14 +239,7 @@ fn member_declarator(
     let Some(first) = kid_at(&node.kids, 0) else {
         return Err(ill(at, IllRule::OutOfProfile));
     };
-    within_bounds(member_named(
-        tokens,
-        nodes,
-        env,
-        home.number,
-        members,
-        first,
-    ))?;
+    within_bounds(member_named(tokens, nodes, env, home.number, members, first))?;
     let found = declared_written(alloc, env, tokens, nodes, at, ty, first, work)?;
     if !is_own_name(&found) {
         return Err(ill(at, IllRule::BadDeclaration));

@@ -11,12 +11,12 @@ ghost use Rattle.elab_rules.specs.Classes.{plain_method as plain_method_of, spec
 ghost use Rattle.elab_types.specs.Syntax.{syntax_of, tree_at, trees_at};
 ghost use Rattle.elab_types.specs.Shown.{Says, declared_of};
 ghost use Rattle.class_members.specs.Shown.{header_of, storage_of};
-ghost use Rattle.class_table.specs.Written.{plain_header as plain_header_of, special_declared as special_declared_of, method_shown};
+ghost use Rattle.class_table.specs.Written.{plain_header as plain_header_of, special_declared as special_declared_of, method_shown, at_hand};
 
-use crate::headers::{header_in, name_of, special_header};
-use crate::kids::kid_at;
-use crate::started::{no_storage, started_from};
 use class_members::{Header, Storage};
+use class_texts::headers::{header_in, name_of, special_header};
+use class_texts::kids::kid_at;
+use class_texts::started::{no_storage, started_from};
 use cpp_ast::{NodeId, Nodes};
 use cpp_lex::Tokens;
 use cpp_tree::{ElabFault, FuncKind, IllRule};
@@ -128,7 +128,7 @@ fn plain_method(
     work: &Work,
 ) -> Result<Method, ElabFault>
     requires { are_below (length nodes.now) kids.now ≡ true }
-    ensures method { (bodies : List Body) → Says (method_shown (syntax_of nodes.now) kids.now) result (plain_method_of (lexemes_of tokens.now) (record { ctx = ctx_of env.now; work = work_of work.now; bodies = bodies }) class at (storage_of storage) (trees_at (syntax_of nodes.now) (drop start kids.now))) }
+    ensures method { (bodies : List Body) → Says (method_shown (syntax_of nodes.now) kids.now) result (plain_method_of (lexemes_of tokens.now) (at_hand (ctx_of env.now) (work_of work.now) bodies) class at (storage_of storage) (trees_at (syntax_of nodes.now) (drop start kids.now))) }
     ensures within { IfOk result (λ m. m.count ≤ length kids.now) }
 {
     let Some(base) = kid_at(kids, start) else {
@@ -162,7 +162,7 @@ fn special_method(
     work: &Work,
 ) -> Result<Method, ElabFault>
     requires { are_below (length nodes.now) kids.now ≡ true }
-    ensures method { (bodies : List Body) → Says (method_shown (syntax_of nodes.now) kids.now) result (special_method_of (lexemes_of tokens.now) (record { ctx = ctx_of env.now; work = work_of work.now; bodies = bodies }) class class_name.now at (storage_of storage) kind (trees_at (syntax_of nodes.now) (drop start kids.now))) }
+    ensures method { (bodies : List Body) → Says (method_shown (syntax_of nodes.now) kids.now) result (special_method_of (lexemes_of tokens.now) (at_hand (ctx_of env.now) (work_of work.now) bodies) class class_name.now at (storage_of storage) kind (trees_at (syntax_of nodes.now) (drop start kids.now))) }
     ensures within { IfOk result (λ m. m.count ≤ length kids.now) }
 {
     let Some(declarator) = kid_at(kids, start) else {
@@ -192,7 +192,7 @@ pub fn method_of(
     work: &Work,
 ) -> Result<Method, ElabFault>
     requires { are_below (length nodes.now) kids.now ≡ true }
-    ensures method { (bodies : List Body) → Says (method_shown (syntax_of nodes.now) kids.now) result (method_of_of (lexemes_of tokens.now) (record { ctx = ctx_of env.now; work = work_of work.now; bodies = bodies }) class class_name.now at kind (trees_at (syntax_of nodes.now) kids.now)) }
+    ensures method { (bodies : List Body) → Says (method_shown (syntax_of nodes.now) kids.now) result (method_of_of (lexemes_of tokens.now) (at_hand (ctx_of env.now) (work_of work.now) bodies) class class_name.now at kind (trees_at (syntax_of nodes.now) kids.now)) }
     ensures within { IfOk result (λ m. m.count ≤ length kids.now) }
 {
     let started = started_from(tokens, nodes, no_storage(), kids);

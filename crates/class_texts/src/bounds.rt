@@ -1,12 +1,15 @@
 // Bounds of arrays in a class name none of its members (profile).
 
-ghost use Rattle.std.specs.Prelude.{◌≡◌, ◌<◌, length, true, List};
-ghost use Rattle.cpp_lex.specs.Tokens.{lexemes_of};
+ghost use Rattle.std.specs.Prelude.{◌≡◌, ◌<◌, ℕ, Option, MatchOption, length, true, List, if◌then◌else◌};
+ghost use Rattle.cpp_lex.specs.Tokens.{lexemes_of, Lexeme};
 ghost use Rattle.cpp_ast.specs.Orders.{are_below};
+ghost use Rattle.cpp_ast.specs.Trees.{node, Trees, more};
+ghost use Rattle.cpp_ast.specs.declared.arena.At.{At as SyntaxAt};
 ghost use Rattle.elab_ctx.specs.Ctx.{ctx_of, Work};
 ghost use Rattle.elab_ctx.specs.Says.{Tells};
+ghost use Rattle.elab_ctx.specs.Steps.{at_of, spelling as spelling_of};
 ghost use Rattle.elab_rules.specs.Statements.{Body};
-ghost use Rattle.elab_rules.specs.Classes.{is_own_member as is_own_member_of, member_named as member_named_of, member_among as member_among_of, declarator_among as declarator_among_of, within_bounds as within_bounds_of};
+ghost use Rattle.elab_rules.specs.Classes.{Members as MembersRead, place_if, is_own_member as is_own_member_of, member_named as member_named_of, member_among as member_among_of, declarator_among as declarator_among_of, within_bounds as within_bounds_of};
 ghost use Rattle.elab_types.specs.Syntax.{syntax_of, tree_at, trees_at};
 ghost use Rattle.class_members.specs.Shown.{reading};
 
@@ -26,9 +29,14 @@ fn is_own_member(env: &Env, class: u32, members: &Members, name: &[u8]) -> bool
 }
 
 // The token of a name that stands alone.
-fn named_token(kind: NodeKind, token: Option<u32>) -> Option<u32> {
+fn named_token(kind: NodeKind, token: Option<u32>) -> Option<u32>
+    ensures { (s : List Lexeme) (n : ℕ) (r : MembersRead) (at : SyntaxAt) (kids : Trees) → MatchOption result (member_named_of s n r (node kind at token kids) ≡ member_among_of s n r kids) (λ found. member_named_of s n r (node kind at token kids) ≡ place_if (is_own_member_of n r (spelling_of s found)) (at_of at)) }
+{
     match kind {
-        NodeKind::UnqualifiedId => token,
+        NodeKind::UnqualifiedId => match token {
+            Some(found) => Some(found),
+            None => None,
+        },
         _ => None,
     }
 }
@@ -83,7 +91,10 @@ fn member_among(
     None
 }
 
-fn is_declarator(kind: NodeKind) -> bool {
+// Whether a node is the declarator of a function.
+fn is_declarator(kind: NodeKind) -> bool
+    ensures { (s : List Lexeme) (n : ℕ) (r : MembersRead) (at : SyntaxAt) (token : Option ℕ) (kids rest : Trees) → declarator_among_of s n r (more (node kind at token kids) rest) ≡ (if result then member_among_of s n r kids else declarator_among_of s n r rest) }
+{
     match kind {
         NodeKind::FunctionDeclarator => true,
         NodeKind::PointerDeclarator => true,

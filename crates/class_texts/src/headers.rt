@@ -1,16 +1,15 @@
 // What member functions, constructors and destructors declare (C++14 9.3, 12.1, 12.4).
 
-ghost use Rattle.std.specs.Prelude.{◌≡◌, ◌<◌, length, true, Some, List, map, IfOk};
+ghost use Rattle.std.specs.Prelude.{◌≡◌, IfOk};
 ghost use Rattle.cpp_lex.specs.Tokens.{lexemes_of};
-ghost use Rattle.cpp_types.specs.Typ.{typ_of, signature_of, typs_of};
+ghost use Rattle.cpp_types.specs.Typ.{typ_of, signature_of, typs_of, more as and_typ, none as no_typs};
 ghost use Rattle.cpp_tree.specs.Typing.{form_in};
-ghost use Rattle.elab_ctx.specs.Ctx.{ctx_of, work_of};
-ghost use Rattle.elab_rules.specs.Initialising.{makes, signature_parameters, class_number};
+ghost use Rattle.elab_rules.specs.Initialising.{makes, signature_parameters};
 ghost use Rattle.elab_rules.specs.Statements.{name_of as name_of_of};
 ghost use Rattle.elab_rules.specs.Classes.{header_in as header_in_of, special_name as special_name_of, special_header as special_header_of, takes_own_value as takes_own_value_of};
-ghost use Rattle.elab_types.specs.Shown.{Says, declared_of, parameter_of, qualifiers_of};
+ghost use Rattle.elab_types.specs.Shown.{Says, declared_of};
 ghost use Rattle.class_members.specs.Shown.{header_of, storage_of};
-ghost use Rattle.class_table.specs.Written.{signature_in};
+ghost use Rattle.class_texts.specs.Signatures.{signature_in, header_by};
 
 use class_members::{Header, Storage};
 use cpp_lex::Tokens;
@@ -63,7 +62,7 @@ fn header_with(
     declared: Declared,
     ty: FnTy,
 ) -> Result<Header, AllocError>
-    ensures { IfOk result (λ h. header_of h ≡ record { name = name.now; at = at; signature = signature_of ty; params = map parameter_of declared.params.items; qualifiers = qualifiers_of declared.qualifiers; storage = storage_of storage; kind = kind; class = Some class }) }
+    ensures { IfOk result (λ h. header_of h ≡ header_by class (storage_of storage) kind at name.now (declared_of declared) (signature_of ty)) }
 {
     let name = Vec::from_slice(alloc, name)?;
     Ok(Header {
@@ -112,7 +111,9 @@ fn special_name(alloc: Global, kind: FuncKind, name: &[u8]) -> Result<Vec<u8>, A
     }
 }
 
-fn is_class(ty: &Ty, class: u32) -> bool {
+fn is_class(ty: &Ty, class: u32) -> bool
+    ensures { result ≡ takes_own_value_of class (and_typ (typ_of ty.now) no_typs) }
+{
     match &ty.shape {
         Shape::Class(found) => *found == class,
         _ => false,

@@ -1,8 +1,11 @@
 // The texts of definitions: the spellings of tokens, joined by blanks.
 
-ghost use Rattle.std.specs.Prelude.{◌≡◌, ◌++◌, ◌<◌, suc, true, length, map, slice_range, IfOk, OnOk, option_map, slice_get, MatchOption, Some, None};
+ghost use Rattle.std.specs.Prelude.{◌≡◌, ℕ, ◌++◌, ◌<◌, suc, true, length, map, slice_range, IfOk, OnOk, option_map, slice_get, MatchOption, Some, None};
 ghost use Rattle.cpp_lex.specs.Tokens.{lexemes_of, lexeme_of};
 ghost use Rattle.cpp_ast.specs.Orders.{are_below};
+ghost use Rattle.cpp_ast.specs.Trees.{node, Trees, more};
+ghost use Rattle.cpp_ast.specs.declared.kinds.NodeKind.{NodeKind};
+ghost use Rattle.cpp_ast.specs.declared.arena.At.{At as SyntaxAt};
 ghost use Rattle.elab_rules.specs.Functions.{text_between as text_between_of, joined};
 ghost use Rattle.elab_rules.specs.Classes.{definition_between as definition_between_of, token_end as token_end_of, body_in as body_in_of, last_token as last_token_of, class_key as class_key_of, class_brace as class_brace_of, class_text as class_text_of};
 ghost use Rattle.elab_types.specs.Syntax.{syntax_of, tree_at, trees_at};
@@ -28,6 +31,16 @@ fn write_joined(text: &mut Vec<u8>, items: &[Token]) -> Result<(), AllocError>
     Ok(())
 }
 
+// The tokens from one to another, as far as there are any.
+fn token_range(tokens: &Tokens, first: u32, last: u32) -> &[Token]
+    ensures { map lexeme_of result.now ≡ slice_range (lexemes_of tokens.now) first (suc last) }
+{
+    let count = tokens.items.len();
+    let end = (last as usize + 1).min(count);
+    let start = (first as usize).min(end);
+    &tokens.items[start..end]
+}
+
 /// The text from one token to another.
 pub fn text_between(
     alloc: Global,
@@ -38,10 +51,7 @@ pub fn text_between(
     ensures { IfOk result (λ v. v.items ≡ text_between_of (lexemes_of tokens.now) first last) }
 {
     let mut text = Vec::new(alloc);
-    let count = tokens.items.len();
-    let end = (last as usize).saturating_add(1).min(count);
-    let start = (first as usize).min(end);
-    write_joined(&mut text, &tokens.items[start..end])?;
+    write_joined(&mut text, token_range(tokens, first, last))?;
     Ok(text)
 }
 
@@ -81,7 +91,11 @@ pub fn body_in(nodes: &Nodes, kids: &[NodeId]) -> Option<NodeId>
     last_kid(kids)
 }
 
-fn token_or_zero(token: Option<u32>) -> u32 {
+// The token of a node; 0 where it has none.
+fn token_or_zero(token: Option<u32>) -> u32
+    ensures last { (kind : NodeKind) (at : SyntaxAt) (kids : Trees) → last_token_of (Some (node kind at token kids)) ≡ result }
+    ensures key { (kind : NodeKind) (at : SyntaxAt) (kids rest : Trees) → class_key_of (more (node kind at token kids) rest) ≡ result }
+{
     match token {
         Some(found) => found,
         None => 0,
@@ -110,9 +124,14 @@ fn class_key(nodes: &Nodes, kids: &[NodeId]) -> u32
     token_or_zero(node_at(nodes, kids[0]).token)
 }
 
-fn brace_token(kind: NodeKind, token: Option<u32>) -> Option<u32> {
+fn brace_token(kind: NodeKind, token: Option<u32>) -> Option<u32>
+    ensures { (at : SyntaxAt) (kids rest : Trees) → MatchOption result (class_brace_of (more (node kind at token kids) rest) ≡ class_brace_of rest) (λ found. class_brace_of (more (node kind at token kids) rest) ≡ found) }
+{
     match kind {
-        NodeKind::MemberSpecification => token,
+        NodeKind::MemberSpecification => match token {
+            Some(found) => Some(found),
+            None => None,
+        },
         _ => None,
     }
 }

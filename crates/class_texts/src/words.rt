@@ -1,9 +1,9 @@
 // The words behind the declarator of a member (C++14 9.2).
 
-ghost use Rattle.std.specs.Prelude.{◌≡◌, ◌<◌, length, true};
+ghost use Rattle.std.specs.Prelude.{◌≡◌, ◌<◌, ◌||◌, ℕ, Option, length, true};
 ghost use Rattle.cpp_lex.specs.Tokens.{lexemes_of};
 ghost use Rattle.cpp_ast.specs.Orders.{are_below};
-ghost use Rattle.cpp_ast.specs.Trees.{node, Trees};
+ghost use Rattle.cpp_ast.specs.Trees.{node, Trees, more};
 ghost use Rattle.cpp_ast.specs.declared.kinds.NodeKind.TheVariants.{VirtSpecifier};
 ghost use Rattle.cpp_ast.specs.declared.arena.At.{At as SyntaxAt};
 ghost use Rattle.elab_rules.specs.Classes.{with_mark as with_mark_of, marks_from as marks_from_of, no_marks, is_initialiser as is_initialiser_of, has_initialiser as has_initialiser_of, has_equal as has_equal_of};
@@ -88,7 +88,9 @@ pub fn has_initialiser(nodes: &Nodes, kids: &[NodeId]) -> bool
     false
 }
 
-fn is_equal(kind: NodeKind) -> bool {
+fn is_equal(kind: NodeKind) -> bool
+    ensures { (at : SyntaxAt) (token : Option ℕ) (kids rest : Trees) → has_equal_of (more (node kind at token kids) rest) ≡ (result || has_equal_of rest) }
+{
     match kind {
         NodeKind::EqualInitializer => true,
         _ => false,
