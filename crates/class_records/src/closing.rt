@@ -137,7 +137,8 @@ fn put_record(
     };
     let made = complete_record(alloc, home, members, functions, number)?;
     put_class(env, home.number, number, made)?;
-    put_slots(env, home.number, slots)
+    put_slots(env, home.number, slots)?;
+    Ok(())
 }
 
 fn is_pure_slot(classes: &[ClassRec], slot: &SlotRec) -> bool
@@ -230,7 +231,8 @@ fn finished(
     let facts = part_facts(alloc, env, home, &members)?;
     put_record(alloc, env, home, members)?;
     let traits = traits_from(env, home.number, facts, specials);
-    put_traits(env, home.number, traits)
+    put_traits(env, home.number, traits)?;
+    Ok(())
 }
 
 /// The class is complete: its implicit members stand behind the written ones, the destructor, the copy and the constructor
@@ -259,7 +261,8 @@ pub fn completed(
         destructor,
         copies_const,
     };
-    finished(alloc, env, home, members, specials)
+    finished(alloc, env, home, members, specials)?;
+    Ok(())
 }
 
 /// The class, complete, unless its objects are too large. A class that is not complete counts as want of memory.

@@ -25,7 +25,7 @@ fn keep_record(list: &mut Vec<FuncRec>, function: FuncRec) -> Result<(), AllocEr
 }
 
 fn keep_slot(list: &mut Vec<SlotRec>, slot: SlotRec) -> Result<(), AllocError>
-    ensures { OnOk result (map slot_of list.new.items ≡ map slot_of list.old.items ++ slot_of slot ∷ []) }
+    ensures { OnOk result (map slot_shown list.new.items ≡ map slot_shown list.old.items ++ slot_shown slot ∷ []) }
 {
     list.push(slot)?;
     Ok(())

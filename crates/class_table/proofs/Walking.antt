@@ -3,6 +3,8 @@ use Rattle.std.proofs.Common.{◌≡◌, ◌∙◌, ℕ, Bool, true, false, List
 use Rattle.cpp_lex.specs.Tokens.{Lexeme}
 use Rattle.cpp_ast.specs.Trees.{Tree, node, Trees, more, none}
 use Rattle.cpp_ast.specs.declared.arena.At.{At as SyntaxAt}
+use Rattle.cpp_ast.specs.declared.arena.NodeId.{NodeId}
+use Rattle.cpp_ast.specs.declared.kinds.NodeKind.{NodeKind}
 use Rattle.cpp_ast.specs.declared.kinds.NodeKind.TheVariants as k
 use Rattle.cpp_types.specs.Typ.{Form, void, int, enum, null, ptr, ref, array, func, class, closure, tx_ex, Signature}
 use Rattle.cpp_types.specs.declared.classes.At.{At}
@@ -14,8 +16,9 @@ use Rattle.elab_ctx.specs.Says.{Faults}
 use Rattle.elab_ctx.specs.Steps.{and_then, each_of, at_of}
 use Rattle.elab_rules.specs.Types.{Declared}
 use Rattle.elab_rules.specs.Statements.{name_of}
-use Rattle.elab_rules.specs.Functions.{Storage}
-use Rattle.elab_rules.specs.Classes.{Home, Members, declared_member, marks_from, no_marks, member_of}
+use Rattle.elab_rules.specs.Functions.{Storage, no_storage}
+use Rattle.elab_rules.specs.Classes.{Home, Members, declared_member, marks_from, no_marks, member_of, member_declaration, started_from, declared_method}
+use Rattle.elab_types.specs.Syntax.{trees_at}
 use Rattle.class_members.specs.Shown.{Answers}
 use Rattle.class_table.specs.Written.{is_function_form, function_declared, data_declared, member_declared, defined_method}
 
@@ -64,16 +67,38 @@ data_chosen s home r at x rest d (class i) h = refl
 data_chosen s home r at x rest d (closure i) h = refl
 data_chosen s home r at x rest d (tx_ex t) h = refl
 
--- Definitions in the class
+-- Members by the kinds of their nodes, as the code has their parts
 
-pub function_defined : (s : List Lexeme) (home : Home) (r : Members) (p : SyntaxAt) (token : Option ℕ) (kids : Trees) → member_of s home r (node k.FunctionDefinition p token kids) ≡ defined_method s home r Plain (at_of p) token kids
-function_defined s home r p (Some t) kids = refl
-function_defined s home r p None kids = refl
+module _ (s : List Lexeme) (home : Home) (r : Members) (t : Tree) (trees : List Tree) (kind : NodeKind) (p : SyntaxAt) (token : Option ℕ) (items ids : List NodeId) (at : At) (e : t ≡ node kind p token (trees_at trees items)) (q : at ≡ at_of p) (i : ids ≡ items) where
+  known : (x : NodeKind) → kind ≡ x → t ≡ node x p token (trees_at trees ids)
+  known x h = e ∙ ap (λ z. node z p token (trees_at trees items)) h ∙ ap (λ (z : List NodeId). node x p token (trees_at trees z)) (sym i)
 
-pub constructor_defined : (s : List Lexeme) (home : Home) (r : Members) (p : SyntaxAt) (token : Option ℕ) (kids : Trees) → member_of s home r (node k.ConstructorDefinition p token kids) ≡ defined_method s home r Constructor (at_of p) token kids
-constructor_defined s home r p (Some t) kids = refl
-constructor_defined s home r p None kids = refl
+  pub declaration_member : kind ≡ k.MemberDeclaration → member_of s home r t ≡ member_declaration s home r at (started_from s no_storage (trees_at trees ids))
+  declaration_member h = ap (member_of s home r) (known k.MemberDeclaration h) ∙ ap (λ z. member_declaration s home r z (started_from s no_storage (trees_at trees ids))) (sym q)
 
-pub destructor_defined : (s : List Lexeme) (home : Home) (r : Members) (p : SyntaxAt) (token : Option ℕ) (kids : Trees) → member_of s home r (node k.DestructorDefinition p token kids) ≡ defined_method s home r Destructor (at_of p) token kids
-destructor_defined s home r p (Some t) kids = refl
-destructor_defined s home r p None kids = refl
+  pub constructor_member : kind ≡ k.ConstructorDeclaration → member_of s home r t ≡ declared_method s home r Constructor at None (trees_at trees ids)
+  constructor_member h = ap (member_of s home r) (known k.ConstructorDeclaration h) ∙ ap (λ z. declared_method s home r Constructor z None (trees_at trees ids)) (sym q)
+
+  pub destructor_member : kind ≡ k.DestructorDeclaration → member_of s home r t ≡ declared_method s home r Destructor at None (trees_at trees ids)
+  destructor_member h = ap (member_of s home r) (known k.DestructorDeclaration h) ∙ ap (λ z. declared_method s home r Destructor z None (trees_at trees ids)) (sym q)
+
+  pub function_defined : kind ≡ k.FunctionDefinition → member_of s home r t ≡ defined_method s home r Plain at token (trees_at trees ids)
+  function_defined h = ap (member_of s home r) (known k.FunctionDefinition h) ∙ with_token token ∙ ap (λ z. defined_method s home r Plain z token (trees_at trees ids)) (sym q)
+    where
+      with_token : (o : Option ℕ) → member_of s home r (node k.FunctionDefinition p o (trees_at trees ids)) ≡ defined_method s home r Plain (at_of p) o (trees_at trees ids)
+      with_token (Some n) = refl
+      with_token None = refl
+
+  pub constructor_defined : kind ≡ k.ConstructorDefinition → member_of s home r t ≡ defined_method s home r Constructor at token (trees_at trees ids)
+  constructor_defined h = ap (member_of s home r) (known k.ConstructorDefinition h) ∙ with_token token ∙ ap (λ z. defined_method s home r Constructor z token (trees_at trees ids)) (sym q)
+    where
+      with_token : (o : Option ℕ) → member_of s home r (node k.ConstructorDefinition p o (trees_at trees ids)) ≡ defined_method s home r Constructor (at_of p) o (trees_at trees ids)
+      with_token (Some n) = refl
+      with_token None = refl
+
+  pub destructor_defined : kind ≡ k.DestructorDefinition → member_of s home r t ≡ defined_method s home r Destructor at token (trees_at trees ids)
+  destructor_defined h = ap (member_of s home r) (known k.DestructorDefinition h) ∙ with_token token ∙ ap (λ z. defined_method s home r Destructor z token (trees_at trees ids)) (sym q)
+    where
+      with_token : (o : Option ℕ) → member_of s home r (node k.DestructorDefinition p o (trees_at trees ids)) ≡ defined_method s home r Destructor (at_of p) o (trees_at trees ids)
+      with_token (Some n) = refl
+      with_token None = refl

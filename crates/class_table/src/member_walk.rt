@@ -19,7 +19,7 @@ use crate::methods::{declared_written, method_of, type_written};
 use class_members::{Definition, Home, Marks, Members, Storage, data_member, member_function};
 use class_texts::bounds::{declarator_among, member_named, within_bounds};
 use class_texts::headers::{header_in, name_of};
-use class_texts::kids::kid_at;
+use class_texts::kids::{kid_at, rest_from};
 use class_texts::started::{no_storage, started_from};
 use class_texts::texts::{body_end, definition_between};
 use class_texts::words::{has_equal, has_initialiser, marks_from};
@@ -63,7 +63,7 @@ fn declared_method(
         kids,
         work,
     )?;
-    let marks = marks_from(tokens, nodes, &kids[method.count..]);
+    let marks = marks_from(tokens, nodes, rest_from(kids, method.count));
     member_function(alloc, env, home, members, &method.header, marks, definition)
 }
 
@@ -236,7 +236,8 @@ fn member_declarator(
 {
     let node = node_at(nodes, id);
     let at = place(node.at);
-    let Some(first) = kid_at(&node.kids, 0) else {
+    let kids = node.kids.as_slice();
+    let Some(first) = kid_at(kids, 0) else {
         return Err(ill(at, IllRule::OutOfProfile));
     };
     within_bounds(member_named(tokens, nodes, env, home.number, members, first))?;
@@ -254,7 +255,7 @@ fn member_declarator(
         at,
         storage,
         found,
-        &node.kids[1..],
+        rest_from(kids, 1),
     )
 }
 
@@ -301,7 +302,7 @@ fn member_declaration(
         return Err(ill(at, IllRule::OutOfProfile));
     };
     let ty = type_written(alloc, env, tokens, nodes, base, work)?;
-    let rest = &kids[started.count + 1..];
+    let rest = rest_from(kids, started.count + 1);
     member_declarators(
         alloc, env, tokens, nodes, home, members, storage, &ty, rest, work,
     )
@@ -324,7 +325,7 @@ pub fn member_of(
     let node = node_at(nodes, id);
     let at = place(node.at);
     let token = node.token;
-    let kids = &node.kids;
+    let kids = node.kids.as_slice();
     match node.kind {
         NodeKind::AccessLabel => Ok(()),
         NodeKind::MemberDeclaration => {

@@ -1,3 +1,4 @@
 pub mod Bodies
+pub mod Names
+pub mod Places
 pub mod Ranges
-pub mod Signing

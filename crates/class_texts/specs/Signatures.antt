@@ -1,5 +1,5 @@
--- The signature of a function's type, and the header of a function.
-use Rattle.std.specs.Prelude.{ℕ, List, Some, Result, Ok, Err}
+-- The signature of a function's type, the header of a function, and blanks in its text.
+use Rattle.std.specs.Prelude.{ℕ, Bool, true, false, List, [], ◌∷◌, Some, Result, Ok, Err}
 use Rattle.cpp_types.specs.Typ.{Form, func, Signature}
 use Rattle.cpp_types.specs.declared.classes.At.{At}
 use Rattle.cpp_tree.specs.declared.program.FuncKind.{FuncKind}
@@ -17,3 +17,8 @@ signature_in at f = Err (Ill at BadDeclaration)
 -- the header of a function of a class with a signature
 abbrev pub header_by : ℕ → Storage → FuncKind → At → List ℕ → Declared → Signature → Header
 header_by n x kind at name r sig = record { name = name; at = at; signature = sig; params = r.params; qualifiers = r.qualifiers; storage = x; kind = kind; class = Some n }
+
+-- the blank behind a token that others follow
+abbrev pub gap : Bool → List ℕ
+gap true = 32 ∷ []
+gap false = []

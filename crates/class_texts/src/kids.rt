@@ -1,6 +1,6 @@
 // Kids of a node by their places.
 
-ghost use Rattle.std.specs.Prelude.{◌≡◌, ◌<◌, ◌∷◌, ◌+◌, [], ℕ, MatchOption, true, drop, length};
+ghost use Rattle.std.specs.Prelude.{◌≡◌, ◌<◌, ◌≤◌, ◌∷◌, ◌+◌, [], ℕ, MatchOption, true, drop, length};
 ghost use Rattle.cpp_ast.specs.Orders.{are_below};
 
 use cpp_ast::NodeId;
@@ -15,4 +15,13 @@ pub fn kid_at(ids: &[NodeId], place: usize) -> Option<NodeId>
         return None;
     }
     Some(ids[place])
+}
+
+/// The kids from a place on.
+pub fn rest_from(ids: &[NodeId], place: usize) -> &[NodeId]
+    requires { place ≤ length ids.now }
+    ensures rest { result.now ≡ drop place ids.now }
+    ensures below { (limit : ℕ) → are_below limit ids.now ≡ true → are_below limit result.now ≡ true }
+{
+    &ids[place..]
 }

@@ -10,6 +10,7 @@ ghost use Rattle.elab_rules.specs.Functions.{text_between as text_between_of, jo
 ghost use Rattle.elab_rules.specs.Classes.{definition_between as definition_between_of, token_end as token_end_of, body_in as body_in_of, last_token as last_token_of, class_key as class_key_of, class_brace as class_brace_of, class_text as class_text_of};
 ghost use Rattle.elab_types.specs.Syntax.{syntax_of, tree_at, trees_at};
 ghost use Rattle.class_members.specs.Shown.{definition_of};
+ghost use Rattle.class_texts.specs.Signatures.{gap};
 
 use class_members::Definition;
 use cpp_ast::{NodeId, NodeKind, Nodes};
@@ -18,15 +19,24 @@ use elab_types::kids::last_kid;
 use elab_types::syntax::node_at;
 use std::alloc::{AllocError, Global};
 
+// Puts the spelling of a token behind a text, with a blank where others follow.
+fn write_token(text: &mut Vec<u8>, token: &Token, is_followed: bool) -> Result<(), AllocError>
+    ensures { OnOk result (text.new.items ≡ (text.old.items ++ token.now.bytes.items) ++ gap is_followed) }
+{
+    text.extend_from_slice(&token.bytes)?;
+    if !is_followed {
+        return Ok(());
+    }
+    text.push(b' ')?;
+    Ok(())
+}
+
 // Puts the spellings of tokens behind a text, with blanks between them.
 fn write_joined(text: &mut Vec<u8>, items: &[Token]) -> Result<(), AllocError>
     ensures { OnOk result (text.new.items ≡ text.old.items ++ joined (map lexeme_of items.now)) }
 {
     for (i, token) in items.iter().enumerate() {
-        text.extend_from_slice(&token.bytes)?;
-        if i + 1 < items.len() {
-            text.push(b' ')?;
-        }
+        write_token(text, token, i + 1 < items.len())?;
     }
     Ok(())
 }
@@ -87,8 +97,10 @@ pub fn body_in(nodes: &Nodes, kids: &[NodeId]) -> Option<NodeId>
     ensures body { MatchOption result (body_in_of (trees_at (syntax_of nodes.now) kids.now) ≡ None) (λ id. body_in_of (trees_at (syntax_of nodes.now) kids.now) ≡ Some (tree_at (syntax_of nodes.now) id)) }
     ensures within { MatchOption result (Unit {0}) (λ id. id.0 < length nodes.now) }
 {
-    let _ = nodes;
-    last_kid(kids)
+    match last_kid(kids) {
+        Some(id) => Some(id),
+        None => None,
+    }
 }
 
 // The token of a node; 0 where it has none.
