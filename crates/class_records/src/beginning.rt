@@ -49,7 +49,8 @@ fn add_whole(alloc: Global, env: &mut Env, name: &[u8], class: u32) -> Result<()
     add_name(env, named, class_type(class))?;
     let copied = Vec::from_slice(alloc, name)?;
     add_class(alloc, env, copied)?;
-    add_rows(alloc, env, no_traits())
+    add_rows(alloc, env, no_traits())?;
+    Ok(())
 }
 
 fn new_class(alloc: Global, env: &mut Env, name: &[u8]) -> Result<u32, AllocError>

@@ -1,8 +1,10 @@
 // Classes that are begun, and classes that are completed: the list of them stays in order.
 
 ghost use Rattle.std.specs.Prelude.{◌≡◌, ◌++◌, ◌∷◌, [], Some, None, false, OnOk, slice_set, length};
-ghost use Rattle.cpp_types.specs.Class.{classes_of, class_of, completion_of};
-ghost use Rattle.elab_ctx.specs.Ctx.{ctx_of, named_of, traits_of};
+ghost use Rattle.cpp_types.specs.Typ.{typ_of};
+ghost use Rattle.cpp_types.specs.Class.{classes_of, class_of};
+ghost use Rattle.elab_ctx.specs.Ctx.{ctx_of, traits_of};
+ghost use Rattle.elab_rules.specs.Globals.{with_type};
 ghost use Rattle.elab_rules.specs.Classes.{class_named};
 ghost use Rattle.class_records.specs.Within.{may_stand as may_stand_of};
 
@@ -62,11 +64,11 @@ pub fn add_class(alloc: Global, env: &mut Env, name: Vec<u8>) -> Result<(), Allo
     Ok(())
 }
 
-/// One more name of a type.
+/// One more name of a type, before those that were there.
 pub fn add_name(env: &mut Env, name: Vec<u8>, ty: Ty) -> Result<(), AllocError>
-    ensures { OnOk result (ctx_of env.new ≡ record (ctx_of env.old) { types = (ctx_of env.old).types ++ named_of (record { name = name; ty = ty }) ∷ [] }) }
+    ensures { OnOk result (ctx_of env.new ≡ with_type (ctx_of env.old) name.items (typ_of ty)) }
 {
-    env.types.push(TypeName { name, ty })?;
+    env.types.insert(0, TypeName { name, ty })?;
     Ok(())
 }
 

@@ -19,7 +19,7 @@ use Rattle.elab_rules.specs.Members.{base_named, has_final, members_among}
 use Rattle.class_members.specs.Shown.{reading, Answers, home_of}
 use Rattle.class_members.specs.declared.records.Members.{Members as MembersRec}
 use Rattle.class_members.specs.declared.records.Home.{Home as HomeRec}
-use Rattle.class_table.specs.Written.{ClassRead, class_read, read_members, read_closed, at_hand, StandsRead, Reads}
+use Rattle.class_table.specs.Written.{ClassRead, class_read, read_members, read_closed, class_stood, at_hand, StandsRead, Reads}
 use Rattle.class_table.proofs.Walking.{faults_then}
 
 -- A declaration of members
@@ -40,16 +40,16 @@ module _ (s : List Lexeme) (home : Home) (r : Members) (at : At) (x : Started) (
 -- The members, and the closing brace
 
 module _ (w : Work) (bodies : List Body) where
-  pub stands_by : (home : Home) (c : Ctx) (r : Result (Unit {0}) ElabFault) (x : Result Ctx ElabFault) → Answers c r x → StandsRead (at_hand c w bodies) home r (and_then x (λ (z : Ctx). Ok (record { state = at_hand z w bodies; home = home })))
-  stands_by home c (Ok u) x e = ap (λ z. and_then z (λ (y : Ctx). Ok (record { state = at_hand y w bodies; home = home }))) e
+  pub stands_by : (home : Home) (c : Ctx) (r : Result (Unit {0}) ElabFault) (x : Result Ctx ElabFault) → Answers c r x → StandsRead (at_hand c w bodies) home r (and_then x (λ (z : Ctx). Ok (class_stood (at_hand z w bodies) home)))
+  stands_by home c (Ok u) x e = ap (λ z. and_then z (λ (y : Ctx). Ok (class_stood (at_hand y w bodies) home))) e
   stands_by home c (Err f) x e = faults_then f x _ e
 
   pub members_closed : (s : List Lexeme) (old c d : Ctx) (at : At) (home : Home) (members : Trees) (read : MembersRec) →
       members_of s home (record { state = at_hand old w bodies; members = []; initialised = [] }) members ≡ Ok (reading c w bodies read) → d ≡ completed c home at (map member_of read.members.items) read.initialised.items →
-      read_members s (at_hand old w bodies) at home members ≡ and_then (closed_class at home.number d) (λ (z : Ctx). Ok (record { state = at_hand z w bodies; home = home }))
+      read_members s (at_hand old w bodies) at home members ≡ and_then (closed_class at home.number d) (λ (z : Ctx). Ok (class_stood (at_hand z w bodies) home))
   members_closed s old c d at home members read e f =
       ap (λ z. and_then z (λ (r : Members). read_closed at home r)) e
-      ∙ ap (λ z. and_then (closed_class at home.number z) (λ (y : Ctx). Ok (record { state = at_hand y w bodies; home = home }))) (sym f)
+      ∙ ap (λ z. and_then (closed_class at home.number z) (λ (y : Ctx). Ok (class_stood (at_hand y w bodies) home))) (sym f)
 
   pub members_stand : (s : List Lexeme) (old c d : Ctx) (at : At) (home : Home) (members : Trees) (read : MembersRec) (r : Result (Unit {0}) ElabFault) →
       members_of s home (record { state = at_hand old w bodies; members = []; initialised = [] }) members ≡ Ok (reading c w bodies read) → d ≡ completed c home at (map member_of read.members.items) read.initialised.items → Answers d r (closed_class at home.number d) →

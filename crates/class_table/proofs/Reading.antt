@@ -10,7 +10,7 @@ use Rattle.elab_rules.specs.Statements.{State, Lambdas}
 use Rattle.elab_rules.specs.Functions.{text_sized}
 use Rattle.elab_rules.specs.Classes.{Home, Members, Begun, begun, members_of, completed, closed_class, class_text}
 use Rattle.elab_rules.specs.Members.{base_named, has_final, members_among, all_early, all_late, class_defined, class_with, class_closed}
-use Rattle.class_table.specs.Written.{ClassRead, class_read, read_members, read_closed}
+use Rattle.class_table.specs.Written.{ClassRead, class_read, read_members, read_closed, class_stood}
 
 pub both_steps : {A B C : Type 0} (x : Result A ElabFault) (f : A → Result B ElabFault) (g : B → Result C ElabFault) → and_then (and_then x f) g ≡ and_then x (λ a. and_then (f a) g)
 both_steps (Ok a) f g = refl
@@ -25,7 +25,7 @@ abbrev pub behind_brace : Lambdas → List Lexeme → Trees → ClassRead → Re
 behind_brace lams s members x = and_then (all_early lams s x.home.number x.state members) (λ (st : State). all_late lams s x.home.number x.home.name st members)
 
 closed_is : (lams : Lambdas) (s : List Lexeme) (home : Home) (at : At) (r : Members) (members : Trees) → class_closed lams s home at r members ≡ and_then (read_closed at home r) (behind_brace lams s members)
-closed_is lams s home at r members = sym (both_steps (closed_class at home.number (completed r.state.ctx home at r.members r.initialised)) (λ (c : Ctx). Ok (record { state = record r.state { ctx = c }; home = home })) (behind_brace lams s members))
+closed_is lams s home at r members = sym (both_steps (closed_class at home.number (completed r.state.ctx home at r.members r.initialised)) (λ (c : Ctx). Ok (class_stood (record r.state { ctx = c }) home)) (behind_brace lams s members))
 
 with_is : (lams : Lambdas) (s : List Lexeme) (st : State) (at : At) (home : Home) (members : Trees) → class_with lams s st at home members ≡ and_then (read_members s st at home members) (behind_brace lams s members)
 with_is lams s st at home members =

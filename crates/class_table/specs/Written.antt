@@ -36,9 +36,12 @@ plain_header s c w n at x base d = and_then (type_of_specifiers s c w base) (λ 
 abbrev pub special_declared : List Lexeme → Ctx → Work → ℕ → List ℕ → At → Storage → FuncKind → syntax.Tree → Result Header ElabFault
 special_declared s c w n class_name at x kind d = and_then (declared_by s c w at (plain void) d) (λ (r : Declared). special_header n class_name at x kind r (name_of s r.name))
 
+abbrev pub method_with : Header → syntax.Trees → Method
+method_with h rest = record { header = h; rest = rest }
+
 -- a function, with the kids behind its declarator
 abbrev pub method_shown : List syntax.Tree → List NodeId → MethodRec → Method
-method_shown trees ids m = record { header = header_of m.header; rest = trees_at trees (drop m.count ids) }
+method_shown trees ids m = method_with (header_of m.header) (trees_at trees (drop m.count ids))
 
 -- a member with a body
 abbrev pub defined_method : List Lexeme → Home → Members → FuncKind → At → Option ℕ → syntax.Trees → Result Members ElabFault
@@ -69,8 +72,11 @@ pub record ClassRead : Type 0 where
   pub state : State
   pub home : Home
 
+abbrev pub class_stood : State → Home → ClassRead
+class_stood st home = record { state = st; home = home }
+
 abbrev pub read_closed : At → Home → Members → Result ClassRead ElabFault
-read_closed at home r = and_then (closed_class at home.number (completed r.state.ctx home at r.members r.initialised)) (λ (c : Ctx). Ok (record { state = record r.state { ctx = c }; home = home }))
+read_closed at home r = and_then (closed_class at home.number (completed r.state.ctx home at r.members r.initialised)) (λ (c : Ctx). Ok (class_stood (record r.state { ctx = c }) home))
 
 abbrev pub read_members : List Lexeme → State → At → Home → syntax.Trees → Result ClassRead ElabFault
 read_members s st at home members = and_then (members_of s home (record { state = st; members = []; initialised = [] }) members) (λ (r : Members). read_closed at home r)
@@ -85,12 +91,12 @@ named_base s c p t = and_then (based_on c (token_place s p.source t) (spelling s
 
 -- the class stands, complete, or its fault is answered
 abbrev pub StandsRead : {A : Type 0} → State → Home → Result A ElabFault → Result ClassRead ElabFault → Type 0
-StandsRead st h (Ok a) x = x ≡ Ok (record { state = st; home = h })
+StandsRead st h (Ok a) x = x ≡ Ok (class_stood st h)
 StandsRead st h (Err e) x = Faults e x
 
 -- the same, where the class is what is answered
 abbrev pub Reads : State → Result HomeRec ElabFault → Result ClassRead ElabFault → Type 0
-Reads st (Ok h) x = x ≡ Ok (record { state = st; home = home_of h })
+Reads st (Ok h) x = x ≡ Ok (class_stood st (home_of h))
 Reads st (Err e) x = Faults e x
 
 -- what is known and made, beside bodies

@@ -24,7 +24,7 @@ use Rattle.elab_rules.specs.Functions.{Storage, Header}
 use Rattle.elab_rules.specs.Classes.{Method, plain_method, special_method, header_in, special_header}
 use Rattle.class_members.specs.Shown.{header_of}
 use Rattle.class_members.specs.declared.records.Header.{Header as HeaderRec}
-use Rattle.class_table.specs.Written.{plain_header, special_declared, method_shown, at_hand}
+use Rattle.class_table.specs.Written.{plain_header, special_declared, method_shown, method_with, at_hand}
 use Rattle.class_table.specs.declared.methods.Method.{Method as MethodRec}
 use Rattle.class_table.proofs.Walking.{faults_then}
 use Rattle.class_table.proofs.Reading.{both_steps, same_then}
@@ -34,17 +34,17 @@ says_refused show r e x y h q f = subst (λ z. Says show z y) (sym h) (subst (Fa
 
 module _ (s : List Lexeme) (c : Ctx) (w : Work) (bodies : List Body) (n : ℕ) (at : At) (x : Storage) where
   -- from a type and a declarator
-  pub plain_is : (base d : Tree) (rest : Trees) → plain_method s (at_hand c w bodies) n at x (more base (more d rest)) ≡ and_then (plain_header s c w n at x base d) (λ (h : Header). Ok (record { header = h; rest = rest }))
+  pub plain_is : (base d : Tree) (rest : Trees) → plain_method s (at_hand c w bodies) n at x (more base (more d rest)) ≡ and_then (plain_header s c w n at x base d) (λ (h : Header). Ok (method_with h rest))
   plain_is base d rest =
-      let last : Header → Result Method ElabFault = λ (h : Header). Ok (record { header = h; rest = rest }) in
+      let last : Header → Result Method ElabFault = λ (h : Header). Ok (method_with h rest) in
       let head : Declared → Result Header ElabFault = λ (r : Declared). header_in n x Plain at (name_of s r.name) r (form_in r.typ) in
       let found : Typ → Result Header ElabFault = λ (t : Typ). and_then (declared_by s c w at t d) head in
       same_then (type_of_specifiers s c w base) (λ (t : Typ). and_then (declared_by s c w at t d) (λ (r : Declared). and_then (head r) last)) (λ (t : Typ). and_then (found t) last) (λ t. sym (both_steps (declared_by s c w at t d) head last))
       ∙ sym (both_steps (type_of_specifiers s c w base) found last)
 
-  pub special_is : (class_name : List ℕ) (kind : FuncKind) (d : Tree) (rest : Trees) → special_method s (at_hand c w bodies) n class_name at x kind (more d rest) ≡ and_then (special_declared s c w n class_name at x kind d) (λ (h : Header). Ok (record { header = h; rest = rest }))
+  pub special_is : (class_name : List ℕ) (kind : FuncKind) (d : Tree) (rest : Trees) → special_method s (at_hand c w bodies) n class_name at x kind (more d rest) ≡ and_then (special_declared s c w n class_name at x kind d) (λ (h : Header). Ok (method_with h rest))
   special_is class_name kind d rest =
-      sym (both_steps (declared_by s c w at (plain void) d) (λ (r : Declared). special_header n class_name at x kind r (name_of s r.name)) (λ (h : Header). Ok (record { header = h; rest = rest })))
+      sym (both_steps (declared_by s c w at (plain void) d) (λ (r : Declared). special_header n class_name at x kind r (name_of s r.name)) (λ (h : Header). Ok (method_with h rest)))
 
 -- the trees of kids that are known
 two_trees : (trees : List Tree) (xs ys zs : List NodeId) (a b : NodeId) → xs ≡ a ∷ ys → ys ≡ b ∷ zs → trees_at trees xs ≡ more (tree_at trees a) (more (tree_at trees b) (trees_at trees zs))
@@ -58,9 +58,9 @@ module _ (s : List Lexeme) (c : Ctx) (w : Work) (bodies : List Body) (n : ℕ) (
       let count : i + 1 + 1 ≡ m.count = omega (arith, q) in
       ap (plain_method s (at_hand c w bodies) n at x) (two_trees trees (drop i ids) (drop (i + 1) ids) (drop (i + 1 + 1) ids) a b e f)
       ∙ plain_is s c w bodies n at x (tree_at trees a) (tree_at trees b) (trees_at trees (drop (i + 1 + 1) ids))
-      ∙ ap (λ z. and_then z (λ (y : Header). Ok (record { header = y; rest = trees_at trees (drop (i + 1 + 1) ids) }))) g
-      ∙ ap (λ (z : HeaderRec). Ok (record { header = header_of z; rest = trees_at trees (drop (i + 1 + 1) ids) })) (sym p)
-      ∙ ap (λ z. Ok (record { header = header_of m.header; rest = trees_at trees (drop z ids) })) count
+      ∙ ap (λ z. and_then z (λ (y : Header). Ok (method_with y (trees_at trees (drop (i + 1 + 1) ids))))) g
+      ∙ ap (λ (z : HeaderRec). Ok (method_with (header_of z) (trees_at trees (drop (i + 1 + 1) ids)))) (sym p)
+      ∙ ap (λ z. Ok (method_with (header_of m.header) (trees_at trees (drop z ids)))) count
 
   pub plain_fails : (a b : NodeId) (e : ElabFault) → drop i ids ≡ a ∷ drop (i + 1) ids → drop (i + 1) ids ≡ b ∷ drop (i + 1 + 1) ids →
       Faults e (plain_header s c w n at x (tree_at trees a) (tree_at trees b)) → Faults e (plain_method s (at_hand c w bodies) n at x (trees_at trees (drop i ids)))
@@ -75,9 +75,9 @@ module _ (s : List Lexeme) (c : Ctx) (w : Work) (bodies : List Body) (n : ℕ) (
   special_made class_name kind a m h e g p q =
       ap (λ z. special_method s (at_hand c w bodies) n class_name at x kind (trees_at trees z)) e
       ∙ special_is s c w bodies n at x class_name kind (tree_at trees a) (trees_at trees (drop (i + 1) ids))
-      ∙ ap (λ z. and_then z (λ (y : Header). Ok (record { header = y; rest = trees_at trees (drop (i + 1) ids) }))) g
-      ∙ ap (λ (z : HeaderRec). Ok (record { header = header_of z; rest = trees_at trees (drop (i + 1) ids) })) (sym p)
-      ∙ ap (λ z. Ok (record { header = header_of m.header; rest = trees_at trees (drop z ids) })) (sym q)
+      ∙ ap (λ z. and_then z (λ (y : Header). Ok (method_with y (trees_at trees (drop (i + 1) ids))))) g
+      ∙ ap (λ (z : HeaderRec). Ok (method_with (header_of z) (trees_at trees (drop (i + 1) ids)))) (sym p)
+      ∙ ap (λ z. Ok (method_with (header_of m.header) (trees_at trees (drop z ids)))) (sym q)
 
   pub special_fails : (class_name : List ℕ) (kind : FuncKind) (a : NodeId) (e : ElabFault) → drop i ids ≡ a ∷ drop (i + 1) ids →
       Faults e (special_declared s c w n class_name at x kind (tree_at trees a)) → Faults e (special_method s (at_hand c w bodies) n class_name at x kind (trees_at trees (drop i ids)))
