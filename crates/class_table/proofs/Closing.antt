@@ -1,9 +1,11 @@
 -- A class is read step by step, up to its closing brace.
-use Rattle.std.proofs.Common.{◌≡◌, ◌∙◌, ℕ, Bool, true, List, [], ◌∷◌, map, Option, Result, Ok, Err, refl, sym, ap, subst}
+use Rattle.std.proofs.Common.{◌≡◌, ◌∙◌, ℕ, ◌+◌, Bool, true, List, [], ◌∷◌, drop, map, Option, Result, Ok, Err, refl, sym, ap, subst}
 use Rattle.cpp_lex.specs.Tokens.{Lexeme}
 use Rattle.cpp_ast.specs.Trees.{Tree, Trees, more, none}
+use Rattle.cpp_ast.specs.declared.arena.NodeId.{NodeId}
+use Rattle.elab_types.specs.Syntax.{tree_at, trees_at}
 use Rattle.cpp_types.specs.Typ.{Typ}
-use Rattle.cpp_types.specs.Class.{member_of}
+use Rattle.cpp_types.specs.Class.{Member, member_of}
 use Rattle.cpp_types.specs.declared.classes.At.{At}
 use Rattle.cpp_tree.specs.declared.faults.ElabFault.{ElabFault}
 use Rattle.cpp_tree.specs.declared.faults.ElabFault.TheVariants.{Ill}
@@ -91,3 +93,27 @@ module _ (w : Work) (bodies : List Body) where
         name_then b c n p q
         ∙ ap (λ z. and_then z (λ (x : Option ℕ). read_members s (at_hand c w bodies) at (record { number = n; name = name; base = x; is_final = has_final kids }) (members_among kids))) f
         ∙ ap (λ z. read_members s (at_hand c w bodies) at z (members_among kids)) (sym g)
+
+-- what stands before a declaration's type, and the type itself
+
+abbrev pub started_with : Storage → Trees → Started
+started_with storage ts = record { storage = storage; rest = ts }
+
+pub started_more : (x : Started) (storage : Storage) (trees : List Tree) (ids : List NodeId) (i : ℕ) (id : NodeId) → x ≡ record { storage = storage; rest = trees_at trees (drop i ids) } → drop i ids ≡ id ∷ drop (i + 1) ids →
+    x ≡ record { storage = storage; rest = more (tree_at trees id) (trees_at trees (drop (i + 1) ids)) }
+started_more x storage trees ids i id e f = e ∙ ap (started_with storage) (ap (trees_at trees) f)
+
+-- a class of which no member is read
+
+abbrev pub read_so_far : State → List Member → List ℕ → Members
+read_so_far st ms is = record { state = st; members = ms; initialised = is }
+
+pub from_nothing : (w : Work) (bodies : List Body) (s : List Lexeme) (home : Home) (members : Trees) (c : Ctx) (m : MembersRec) → map member_of m.members.items ≡ [] → m.initialised.items ≡ [] →
+    members_of s home (record { state = at_hand c w bodies; members = []; initialised = [] }) members ≡ members_of s home (reading c w bodies m) members
+from_nothing w bodies s home members c m e f = ap (λ z. members_of s home z members) (ap (λ (z : List Member). read_so_far (at_hand c w bodies) z []) (sym e) ∙ ap (read_so_far (at_hand c w bodies) (map member_of m.members.items)) (sym f))
+
+pub reads_refused : (st : State) (r : Result HomeRec ElabFault) (e : ElabFault) (x : Result ClassRead ElabFault) → r ≡ Err e → Faults e x → Reads st r x
+reads_refused st r e x h f = subst (λ z. Reads st z x) (sym h) f
+
+abbrev pub head_with : ℕ → List ℕ → Option ℕ → Bool → Home
+head_with n name base is_final = record { number = n; name = name; base = base; is_final = is_final }

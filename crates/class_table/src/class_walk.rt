@@ -1,6 +1,7 @@
 // A class: its head, its members, and the closing brace (C++14 clause 9, 9.2).
 
-ghost use Rattle.std.specs.Prelude.{◌≡◌, ℕ, length, true, List, Option, MatchOption, IfOk, if◌then◌else◌};
+ghost use Rattle.std.specs.Prelude.{◌≡◌, ℕ, length, true, List, Option, MatchOption, IfOk, [], map, if◌then◌else◌};
+ghost use Rattle.cpp_types.specs.Class.{member_of};
 ghost use Rattle.cpp_lex.specs.Tokens.{lexemes_of, Lexeme};
 ghost use Rattle.cpp_ast.specs.Orders.{are_below};
 ghost use Rattle.cpp_ast.specs.Trees.{node, Trees, more};
@@ -135,6 +136,17 @@ fn head_of(
     })
 }
 
+// A class of which no member is read.
+fn no_members(alloc: Global) -> Members
+    ensures members { map member_of result.members.items ≡ [] }
+    ensures initialised { result.initialised.items ≡ [] }
+{
+    Members {
+        members: Vec::new(alloc),
+        initialised: Vec::new(alloc),
+    }
+}
+
 // The members of a class, and what follows from them at the closing brace.
 fn members_read(
     alloc: Global,
@@ -149,10 +161,7 @@ fn members_read(
     requires { are_below (length nodes.now) ids.now ≡ true }
     ensures { (bodies : List Body) → StandsRead (at_hand (ctx_of env.new) (work_of work.now) bodies) (home_of home.now) result (read_members_of (lexemes_of tokens.now) (at_hand (ctx_of env.old) (work_of work.now) bodies) at (home_of home.now) (trees_at (syntax_of nodes.now) ids.now)) }
 {
-    let mut read = Members {
-        members: Vec::new(alloc),
-        initialised: Vec::new(alloc),
-    };
+    let mut read = no_members(alloc);
     members_of(alloc, env, tokens, nodes, home, &mut read, ids, work)?;
     completed(alloc, env, home, at, read.members, &read.initialised)?;
     closed_class(env, at, home.number)
