@@ -1,5 +1,5 @@
 -- Functions of a class from the kids of their nodes.
-use Rattle.std.proofs.Common.{◌≡◌, ◌∙◌, ℕ, ◌+◌, List, [], ◌∷◌, drop, Result, Ok, Err, refl, sym, ap, subst, arith}
+use Rattle.std.proofs.Common.{◌≡◌, ◌∙◌, ℕ, ◌+◌, true, false, List, [], ◌∷◌, drop, Result, Ok, Err, refl, sym, ap, subst, arith}
 use Rattle.cpp_lex.specs.Tokens.{Lexeme}
 use Rattle.cpp_ast.specs.declared.arena.NodeId.{NodeId}
 use Rattle.cpp_ast.specs.Trees.{Tree, Trees, more, none}
@@ -8,7 +8,7 @@ use Rattle.cpp_types.specs.declared.classes.At.{At}
 use Rattle.cpp_tree.specs.Notation.{plain}
 use Rattle.cpp_tree.specs.Typing.{form_in}
 use Rattle.cpp_tree.specs.declared.program.FuncKind.{FuncKind}
-use Rattle.cpp_tree.specs.declared.program.FuncKind.TheVariants.{Plain}
+use Rattle.cpp_tree.specs.declared.program.FuncKind.TheVariants.{Plain, Constructor, Destructor, ClosureCall}
 use Rattle.cpp_tree.specs.declared.faults.ElabFault.{ElabFault}
 use Rattle.cpp_tree.specs.declared.faults.ElabFault.TheVariants.{Ill}
 use Rattle.cpp_tree.specs.declared.faults.IllRule.TheVariants.{OutOfProfile}
@@ -19,12 +19,12 @@ use Rattle.elab_types.specs.Shown.{Says}
 use Rattle.elab_types.specs.Syntax.{tree_at, trees_at}
 use Rattle.elab_rules.specs.Types.{Declared}
 use Rattle.elab_rules.specs.Expressions.{type_of_specifiers, declared_by}
-use Rattle.elab_rules.specs.Statements.{Body, name_of}
-use Rattle.elab_rules.specs.Functions.{Storage, Header}
-use Rattle.elab_rules.specs.Classes.{Method, plain_method, special_method, header_in, special_header}
+use Rattle.elab_rules.specs.Statements.{Body, State, name_of}
+use Rattle.elab_rules.specs.Functions.{Storage, no_storage, Header}
+use Rattle.elab_rules.specs.Classes.{Method, method_of, method_started, started_from, plain_method, special_method, header_in, special_header}
 use Rattle.class_members.specs.Shown.{header_of}
 use Rattle.class_members.specs.declared.records.Header.{Header as HeaderRec}
-use Rattle.class_table.specs.Written.{plain_header, special_declared, method_shown, method_with, at_hand}
+use Rattle.class_table.specs.Written.{plain_header, special_declared, method_shown, method_with, at_hand, is_plain_kind}
 use Rattle.class_table.specs.declared.methods.Method.{Method as MethodRec}
 use Rattle.class_table.proofs.Walking.{faults_then}
 use Rattle.class_table.proofs.Reading.{both_steps, same_then}
@@ -85,3 +85,21 @@ module _ (s : List Lexeme) (c : Ctx) (w : Work) (bodies : List Body) (n : ℕ) (
       subst (Faults e) (sym (ap (λ z. special_method s (at_hand c w bodies) n class_name at x kind (trees_at trees z)) p
       ∙ special_is s c w bodies n at x class_name kind (tree_at trees a) (trees_at trees (drop (i + 1) ids))))
       (faults_then e (special_declared s c w n class_name at x kind (tree_at trees a)) _ f)
+
+-- By the kind of the function, behind the words before it
+
+pub says_same : {A B : Type 0} (show : A → B) (r : Result A ElabFault) (x y : Result B ElabFault) → y ≡ x → Says show r x → Says show r y
+says_same show r x y q h = subst (Says show r) (sym q) h
+
+module _ (s : List Lexeme) (st : State) (n : ℕ) (class_name : List ℕ) (at : At) (kids : Trees) (storage : Storage) (ts : Trees) (e : started_from s no_storage kids ≡ record { storage = storage; rest = ts }) where
+  pub method_plain : (kind : FuncKind) → is_plain_kind kind ≡ true → method_of s st n class_name at kind kids ≡ plain_method s st n at storage ts
+  method_plain Plain h = ap (method_started s st n class_name at Plain) e
+  method_plain Constructor h = absurd cc
+  method_plain Destructor h = absurd cc
+  method_plain ClosureCall h = absurd cc
+
+  pub method_special : (kind : FuncKind) → is_plain_kind kind ≡ false → method_of s st n class_name at kind kids ≡ special_method s st n class_name at storage kind ts
+  method_special Plain h = absurd cc
+  method_special Constructor h = ap (method_started s st n class_name at Constructor) e
+  method_special Destructor h = ap (method_started s st n class_name at Destructor) e
+  method_special ClosureCall h = ap (method_started s st n class_name at ClosureCall) e

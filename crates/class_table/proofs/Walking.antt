@@ -67,6 +67,18 @@ data_chosen s home r at x rest d (class i) h = refl
 data_chosen s home r at x rest d (closure i) h = refl
 data_chosen s home r at x rest d (tx_ex t) h = refl
 
+function_by : (s : List Lexeme) (home : Home) (r : Members) (p : SyntaxAt) (o : Option ℕ) (kids : Trees) → member_of s home r (node k.FunctionDefinition p o kids) ≡ defined_method s home r Plain (at_of p) o kids
+function_by s home r p (Some n) kids = refl
+function_by s home r p None kids = refl
+
+constructor_by : (s : List Lexeme) (home : Home) (r : Members) (p : SyntaxAt) (o : Option ℕ) (kids : Trees) → member_of s home r (node k.ConstructorDefinition p o kids) ≡ defined_method s home r Constructor (at_of p) o kids
+constructor_by s home r p (Some n) kids = refl
+constructor_by s home r p None kids = refl
+
+destructor_by : (s : List Lexeme) (home : Home) (r : Members) (p : SyntaxAt) (o : Option ℕ) (kids : Trees) → member_of s home r (node k.DestructorDefinition p o kids) ≡ defined_method s home r Destructor (at_of p) o kids
+destructor_by s home r p (Some n) kids = refl
+destructor_by s home r p None kids = refl
+
 -- Members by the kinds of their nodes, as the code has their parts
 
 module _ (s : List Lexeme) (home : Home) (r : Members) (t : Tree) (trees : List Tree) (kind : NodeKind) (p : SyntaxAt) (token : Option ℕ) (items ids : List NodeId) (at : At) (e : t ≡ node kind p token (trees_at trees items)) (q : at ≡ at_of p) (i : ids ≡ items) where
@@ -83,22 +95,10 @@ module _ (s : List Lexeme) (home : Home) (r : Members) (t : Tree) (trees : List 
   destructor_member h = ap (member_of s home r) (known k.DestructorDeclaration h) ∙ ap (λ z. declared_method s home r Destructor z None (trees_at trees ids)) (sym q)
 
   pub function_defined : kind ≡ k.FunctionDefinition → member_of s home r t ≡ defined_method s home r Plain at token (trees_at trees ids)
-  function_defined h = ap (member_of s home r) (known k.FunctionDefinition h) ∙ with_token token ∙ ap (λ z. defined_method s home r Plain z token (trees_at trees ids)) (sym q)
-    where
-      with_token : (o : Option ℕ) → member_of s home r (node k.FunctionDefinition p o (trees_at trees ids)) ≡ defined_method s home r Plain (at_of p) o (trees_at trees ids)
-      with_token (Some n) = refl
-      with_token None = refl
+  function_defined h = ap (member_of s home r) (known k.FunctionDefinition h) ∙ function_by s home r p token (trees_at trees ids) ∙ ap (λ z. defined_method s home r Plain z token (trees_at trees ids)) (sym q)
 
   pub constructor_defined : kind ≡ k.ConstructorDefinition → member_of s home r t ≡ defined_method s home r Constructor at token (trees_at trees ids)
-  constructor_defined h = ap (member_of s home r) (known k.ConstructorDefinition h) ∙ with_token token ∙ ap (λ z. defined_method s home r Constructor z token (trees_at trees ids)) (sym q)
-    where
-      with_token : (o : Option ℕ) → member_of s home r (node k.ConstructorDefinition p o (trees_at trees ids)) ≡ defined_method s home r Constructor (at_of p) o (trees_at trees ids)
-      with_token (Some n) = refl
-      with_token None = refl
+  constructor_defined h = ap (member_of s home r) (known k.ConstructorDefinition h) ∙ constructor_by s home r p token (trees_at trees ids) ∙ ap (λ z. defined_method s home r Constructor z token (trees_at trees ids)) (sym q)
 
   pub destructor_defined : kind ≡ k.DestructorDefinition → member_of s home r t ≡ defined_method s home r Destructor at token (trees_at trees ids)
-  destructor_defined h = ap (member_of s home r) (known k.DestructorDefinition h) ∙ with_token token ∙ ap (λ z. defined_method s home r Destructor z token (trees_at trees ids)) (sym q)
-    where
-      with_token : (o : Option ℕ) → member_of s home r (node k.DestructorDefinition p o (trees_at trees ids)) ≡ defined_method s home r Destructor (at_of p) o (trees_at trees ids)
-      with_token (Some n) = refl
-      with_token None = refl
+  destructor_defined h = ap (member_of s home r) (known k.DestructorDefinition h) ∙ destructor_by s home r p token (trees_at trees ids) ∙ ap (λ z. defined_method s home r Destructor z token (trees_at trees ids)) (sym q)

@@ -43,6 +43,10 @@ method_with h rest = record { header = h; rest = rest }
 abbrev pub method_shown : List syntax.Tree → List NodeId → MethodRec → Method
 method_shown trees ids m = method_with (header_of m.header) (trees_at trees (drop m.count ids))
 
+abbrev pub is_plain_kind : FuncKind → Bool
+is_plain_kind Plain = true
+is_plain_kind kind = false
+
 -- a member with a body
 abbrev pub defined_method : List Lexeme → Home → Members → FuncKind → At → Option ℕ → syntax.Trees → Result Members ElabFault
 defined_method s home r kind at (Some t) kids = declared_method s home r kind at (Some (definition_between s t (last_token (body_in kids)))) kids

@@ -11,7 +11,7 @@ ghost use Rattle.elab_rules.specs.Classes.{plain_method as plain_method_of, spec
 ghost use Rattle.elab_types.specs.Syntax.{syntax_of, tree_at, trees_at};
 ghost use Rattle.elab_types.specs.Shown.{Says, declared_of};
 ghost use Rattle.class_members.specs.Shown.{header_of, storage_of};
-ghost use Rattle.class_table.specs.Written.{plain_header as plain_header_of, special_declared as special_declared_of, method_shown, at_hand};
+ghost use Rattle.class_table.specs.Written.{plain_header as plain_header_of, special_declared as special_declared_of, method_shown, at_hand, is_plain_kind};
 
 use class_members::{Header, Storage};
 use class_texts::headers::{header_in, name_of, special_header};
@@ -177,6 +177,16 @@ fn special_method(
     })
 }
 
+// Whether it is neither a constructor nor a destructor.
+fn is_plain(kind: FuncKind) -> bool
+    ensures { result ≡ is_plain_kind kind }
+{
+    match kind {
+        FuncKind::Plain => true,
+        FuncKind::Constructor | FuncKind::Destructor | FuncKind::ClosureCall => false,
+    }
+}
+
 /// The function that a member with a body defines, or a constructor or destructor without one declares, by the kids of
 /// its node.
 pub fn method_of(
@@ -198,12 +208,12 @@ pub fn method_of(
     let started = started_from(tokens, nodes, no_storage(), kids);
     let storage = started.storage;
     let start = started.count;
-    match kind {
-        FuncKind::Plain => plain_method(
+    if is_plain(kind) {
+        return plain_method(
             alloc, env, tokens, nodes, class, at, storage, kids, start, work,
-        ),
-        FuncKind::Constructor | FuncKind::Destructor | FuncKind::ClosureCall => special_method(
-            alloc, env, tokens, nodes, class, class_name, at, storage, kind, kids, start, work,
-        ),
+        );
     }
+    special_method(
+        alloc, env, tokens, nodes, class, class_name, at, storage, kind, kids, start, work,
+    )
 }
