@@ -1,6 +1,6 @@
 // A class: its head, its members, and the closing brace (C++14 clause 9, 9.2).
 
-ghost use Rattle.std.specs.Prelude.{◌≡◌, ℕ, length, true, List, Option, MatchOption, IfOk, [], map, if◌then◌else◌};
+ghost use Rattle.std.specs.Prelude.{◌≡◌, ℕ, length, true, false, List, Option, MatchOption, IfOk, [], map, if◌then◌else◌};
 ghost use Rattle.cpp_types.specs.Class.{member_of};
 ghost use Rattle.cpp_lex.specs.Tokens.{lexemes_of, Lexeme};
 ghost use Rattle.cpp_ast.specs.Orders.{are_below};
