@@ -1,5 +1,5 @@
 -- A class is read, and then what stands in its members: the two make up its definition.
-use Rattle.std.proofs.Common.{◌≡◌, ◌∙◌, ℕ, Bool, List, [], Option, Result, Ok, Err, refl, sym, ap}
+use Rattle.std.proofs.Common.{◌≡◌, ◌∙◌, ℕ, Bool, true, List, [], Option, Result, Ok, Err, refl, sym, ap}
 use Rattle.cpp_lex.specs.Tokens.{Lexeme}
 use Rattle.cpp_ast.specs.Trees.{Trees}
 use Rattle.cpp_types.specs.declared.classes.At.{At}

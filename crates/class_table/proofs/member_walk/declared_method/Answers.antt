@@ -13,9 +13,6 @@ use Rattle.class_table.specs.Written.{at_hand, method_shown}
 use Rattle.class_table.proofs.Members.{method_bound, method_fails, method_is}
 use Rattle.class_table.proofs.member_walk.declared_method.Goals as goal
 
-pub marks_from-requires : goal.marks_from-requires
-marks_from-requires c = c.rest_from.ensures.below _ c.requires
-
 pub returns-in_err-within_bounds : goal.returns-in_err-within_bounds
 returns-in_err-within_bounds c bodies =
     let is_error : c.from_residual.result ≡ Err c.in_err-within_bounds.field-0.0 = search rules in

@@ -1,4 +1,4 @@
-use Rattle.std.proofs.Common.{◌≡◌, ◌∙◌, rules, refl, sym, ap, subst, map, drop, List, Option, Some, None, Ok, Err, true, false, not, option_map, ◌∷◌, ◌+◌}
+use Rattle.std.proofs.Common.{◌≡◌, ◌∙◌, rules, refl, sym, ap, subst, map, drop, length, List, Option, Some, None, Ok, Err, true, false, not, option_map, ◌∷◌, ◌+◌}
 use Rattle.cpp_lex.specs.Tokens.{lexemes_of}
 use Rattle.cpp_types.specs.Typ.{Typ, typ_of}
 use Rattle.elab_ctx.specs.Ctx.{ctx_of, work_of}
@@ -16,7 +16,12 @@ use Rattle.elab_rules.specs.Classes.{within_bounds, member_named, member_declara
 use Rattle.class_table.specs.Written.{member_declared}
 use Rattle.class_table.proofs.Members.{declarator_bound, declarator_fails, declarator_is}
 use Rattle.cpp_ast.specs.declared.arena.NodeId.{NodeId}
+use Rattle.cpp_ast.specs.Orders.{are_below}
+use Rattle.elab_types.proofs.KidLists.{wider}
 use Rattle.class_table.proofs.member_walk.member_declarator.Goals as goal
+
+pub declared_member-requires : goal.declared_member-requires
+declared_member-requires c = c.rest_from.ensures.below (length c.args.nodes.now) (subst (λ (z : List NodeId). are_below (length c.args.nodes.now) z ≡ true) (sym c.as_slice-kids.ensures.value) (wider c.args.id.0 (length c.args.nodes.now) c.node_at-node.result.now.kids.items c.requires c.node_at-node.ensures.lower))
 
 pub returns-in_err-within_bounds : goal.returns-in_err-within_bounds
 returns-in_err-within_bounds c bodies =

@@ -1,4 +1,4 @@
-use Rattle.std.proofs.Common.{◌≡◌, ◌∙◌, rules, refl, sym, ap, subst, map, drop, List, Option, Some, None, Ok, Err, true, false, not, option_map, ◌∷◌, ◌+◌}
+use Rattle.std.proofs.Common.{◌≡◌, ◌∙◌, rules, refl, sym, ap, subst, map, drop, length, List, Option, Some, None, Ok, Err, true, false, not, option_map, ◌∷◌, ◌+◌}
 use Rattle.cpp_lex.specs.Tokens.{lexemes_of}
 use Rattle.cpp_types.specs.Typ.{Typ, typ_of}
 use Rattle.elab_ctx.specs.Ctx.{ctx_of, work_of}
@@ -12,7 +12,28 @@ use Rattle.elab_rules.specs.Functions.{no_storage}
 use Rattle.elab_rules.specs.Classes.{member_of, member_declaration, started_from, declared_method}
 use Rattle.class_table.specs.Written.{defined_method}
 use Rattle.class_table.proofs.Walking.{declaration_member, constructor_member, destructor_member, function_defined, constructor_defined, destructor_defined}
+use Rattle.cpp_ast.specs.Orders.{are_below}
+use Rattle.elab_types.proofs.KidLists.{wider}
+use Rattle.cpp_ast.specs.declared.arena.NodeId.{NodeId}
 use Rattle.class_table.proofs.member_walk.member_of.Goals as goal
+
+pub member_declaration-requires : goal.member_declaration-requires
+member_declaration-requires c = subst (λ (z : List NodeId). are_below (length c.args.nodes.now) z ≡ true) (sym c.as_slice-kids.ensures.value) (wider c.args.id.0 (length c.args.nodes.now) c.node_at-node.result.now.kids.items c.requires c.node_at-node.ensures.lower)
+
+pub defined_method-requires : goal.defined_method-requires
+defined_method-requires c = subst (λ (z : List NodeId). are_below (length c.args.nodes.now) z ≡ true) (sym c.as_slice-kids.ensures.value) (wider c.args.id.0 (length c.args.nodes.now) c.node_at-node.result.now.kids.items c.requires c.node_at-node.ensures.lower)
+
+pub declared_method-requires : goal.declared_method-requires
+declared_method-requires c = subst (λ (z : List NodeId). are_below (length c.args.nodes.now) z ≡ true) (sym c.as_slice-kids.ensures.value) (wider c.args.id.0 (length c.args.nodes.now) c.node_at-node.result.now.kids.items c.requires c.node_at-node.ensures.lower)
+
+pub defined_method-requires-in-ConstructorDefinition : goal.defined_method-requires-in-ConstructorDefinition
+defined_method-requires-in-ConstructorDefinition c = subst (λ (z : List NodeId). are_below (length c.args.nodes.now) z ≡ true) (sym c.as_slice-kids.ensures.value) (wider c.args.id.0 (length c.args.nodes.now) c.node_at-node.result.now.kids.items c.requires c.node_at-node.ensures.lower)
+
+pub declared_method-requires-in-DestructorDeclaration : goal.declared_method-requires-in-DestructorDeclaration
+declared_method-requires-in-DestructorDeclaration c = subst (λ (z : List NodeId). are_below (length c.args.nodes.now) z ≡ true) (sym c.as_slice-kids.ensures.value) (wider c.args.id.0 (length c.args.nodes.now) c.node_at-node.result.now.kids.items c.requires c.node_at-node.ensures.lower)
+
+pub defined_method-requires-in-DestructorDefinition : goal.defined_method-requires-in-DestructorDefinition
+defined_method-requires-in-DestructorDefinition c = subst (λ (z : List NodeId). are_below (length c.args.nodes.now) z ≡ true) (sym c.as_slice-kids.ensures.value) (wider c.args.id.0 (length c.args.nodes.now) c.node_at-node.result.now.kids.items c.requires c.node_at-node.ensures.lower)
 
 pub returns-in-MemberDeclaration : goal.returns-in-MemberDeclaration
 returns-in-MemberDeclaration c bodies =
