@@ -1,0 +1,2 @@
+pub mod Traits
+pub mod Within

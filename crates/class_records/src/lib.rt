@@ -1,0 +1,12 @@
+//! Classes begun and completed: their records, their slots, and what holds of them.
+#![tactic(auto)]
+
+pub mod beginning;
+pub mod closing;
+mod renewing;
+pub mod slots;
+mod within;
+
+pub use beginning::begun;
+pub use closing::{closed_class, completed};
+pub use slots::slots_of;

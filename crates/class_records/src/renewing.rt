@@ -1,0 +1,82 @@
+// Classes that are begun, and classes that are completed: the list of them stays in order.
+
+ghost use Rattle.std.specs.Prelude.{◌≡◌, ◌++◌, ◌∷◌, [], Some, None, false, OnOk, slice_set, length};
+ghost use Rattle.cpp_types.specs.Typ.{typ_of};
+ghost use Rattle.cpp_types.specs.Class.{classes_of, class_of};
+ghost use Rattle.elab_ctx.specs.Ctx.{ctx_of, traits_of};
+ghost use Rattle.elab_rules.specs.Globals.{with_type};
+ghost use Rattle.elab_rules.specs.Classes.{class_named};
+ghost use Rattle.class_records.specs.Within.{may_stand as may_stand_of};
+
+use crate::within::{is_after_parts, is_class_below};
+use cpp_types::{ClassRec, Ty};
+use elab_ctx::{Env, Traits, TypeName, completion};
+use std::alloc::{AllocError, Global};
+
+// Whether a class may stand, complete, in the place of one that is only declared.
+fn may_stand(env: &Env, class: u32, number: u32, class_record: &ClassRec) -> bool
+    ensures { result ≡ may_stand_of (classes_of env.now.classes.items) class number (class_of class_record.now) }
+{
+    (class as usize) < env.classes.len()
+        && completion(env, class).is_none()
+        && is_class_below(class_record, env.classes.len())
+        && is_after_parts(class_record, &env.classes, number)
+}
+
+/// Puts the record of a complete class in its place. What is held before it is complete is refused where it is declared;
+/// here it counts as want of memory.
+pub fn put_class(
+    env: &mut Env,
+    class: u32,
+    number: u32,
+    class_record: ClassRec,
+) -> Result<(), AllocError>
+    requires { class_record.complete ≡ Some number }
+    ensures { OnOk result (ctx_of env.new ≡ record (ctx_of env.old) { classes = slice_set (ctx_of env.old).classes class (class_of class_record) }) }
+{
+    if !may_stand(env, class, number, &class_record) {
+        return Err(AllocError);
+    }
+    env.classes[class as usize] = class_record;
+    Ok(())
+}
+
+// A class that is only declared.
+fn declared_class(alloc: Global, name: Vec<u8>) -> ClassRec
+    ensures { class_of result ≡ class_named name.items None false [] [] None }
+{
+    ClassRec {
+        name,
+        base: None,
+        members: Vec::new(alloc),
+        functions: Vec::new(alloc),
+        is_final: false,
+        complete: None,
+    }
+}
+
+/// One more class, which is only declared.
+pub fn add_class(alloc: Global, env: &mut Env, name: Vec<u8>) -> Result<(), AllocError>
+    ensures { OnOk result (ctx_of env.new ≡ record (ctx_of env.old) { classes = (ctx_of env.old).classes ++ class_named name.items None false [] [] None ∷ [] }) }
+{
+    let begun = declared_class(alloc, name);
+    env.classes.push(begun)?;
+    Ok(())
+}
+
+/// One more name of a type, before those that were there.
+pub fn add_name(env: &mut Env, name: Vec<u8>, ty: Ty) -> Result<(), AllocError>
+    ensures { OnOk result (ctx_of env.new ≡ with_type (ctx_of env.old) name.items (typ_of ty)) }
+{
+    env.types.insert(0, TypeName { name, ty })?;
+    Ok(())
+}
+
+/// One more row of what holds of classes, of their final overriders too.
+pub fn add_rows(alloc: Global, env: &mut Env, traits: Traits) -> Result<(), AllocError>
+    ensures { OnOk result (ctx_of env.new ≡ record (ctx_of env.old) { traits = (ctx_of env.old).traits ++ traits_of traits ∷ []; slots = (ctx_of env.old).slots ++ [] ∷ [] }) }
+{
+    env.traits.push(traits)?;
+    env.slots.push(Vec::new(alloc))?;
+    Ok(())
+}

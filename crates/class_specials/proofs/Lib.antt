@@ -1,0 +1,3 @@
+pub mod Defaults
+pub mod Firsts
+pub mod Singles
