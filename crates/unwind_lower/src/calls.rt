@@ -14,13 +14,14 @@ use tx_ints::IntKind;
 
 // The function type that a pointer of this type points to.
 fn called_type(ty: &Ty) -> Result<&FnTy, AllocError> {
-    match &ty.shape {
-        Shape::Ptr(target) => match &target.shape {
-            Shape::Func(function) => Ok(function),
-            _ => Err(AllocError),
-        },
-        _ => Err(AllocError),
-    }
+    let Shape::Ptr(target) = &ty.shape else {
+        return Err(AllocError);
+    };
+    let Shape::Func(function) = &target.shape else {
+        return Err(AllocError);
+    };
+    let function: &FnTy = function;
+    Ok(function)
 }
 
 // A number of words as an operand, with the address of a class result where `into`.
