@@ -73,6 +73,8 @@ pub struct Scope {
     pub edge: u32,
     /// Whether an atomic block is open.
     pub atomic: bool,
+    /// Whether code in it can be reached; else it has no way out.
+    pub live: bool,
     /// Where its objects have their place in the source.
     pub at: cpp_types::At,
 }

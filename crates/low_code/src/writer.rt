@@ -79,6 +79,7 @@ impl Writer {
             rows: 0,
             edge: 0,
             atomic: false,
+            live: true,
             at,
         })?;
         Ok(Writer {
@@ -262,6 +263,7 @@ impl Writer {
             rows,
             edge,
             atomic: around.atomic || opens,
+            live: self.live,
             at,
         })
     }
@@ -331,6 +333,7 @@ impl Writer {
             rows: number,
             edge: number,
             atomic: found.atomic,
+            live: self.live,
             at,
         })
     }

@@ -1,7 +1,7 @@
 //! Bodies.
-ghost use Rattle.std.specs.Prelude.{◌≡◌, ◌&&◌, ◌^◌, length, nat_lt};
+ghost use Rattle.std.specs.Prelude.{◌≡◌, ◌++◌, ◌^◌, nat_lt};
 ghost use Rattle.std.specs.List.{list_all, flat_map};
-ghost use Rattle.std.specs.Option.{option_map, option_map_or};
+ghost use Rattle.std.specs.Option.{option_map};
 ghost use Rattle.tx_code.specs.Objects.{body_view};
 ghost use Rattle.tx_code.specs.WellFormed.{is_name, named_by, named_by_row, is_line as is_line_of, lines_fit as fit_lines, body_fits as fits_body, some_fits as fits_some};
 
@@ -53,9 +53,10 @@ fn rows_fit(names: usize, rows: &[Row]) -> bool
     true
 }
 
-// Whether the names that a body has are names.
+// Whether what a body names are names.
+#[tactic(auto, using(crate::proofs::Named::body_named))]
 fn names_fit(names: usize, body: &Body) -> bool
-    ensures { result ≡ (list_all (is_name names) (flat_map named_by body.now.code.items) && list_all (is_name names) (flat_map named_by_row body.now.rows.items)) }
+    ensures { result ≡ list_all (is_name names) (flat_map named_by body.now.code.items ++ flat_map named_by_row body.now.rows.items) }
 {
     code_fits(names, &body.code) && rows_fit(names, &body.rows)
 }

@@ -1,6 +1,7 @@
 //! Whole objects.
-ghost use Rattle.std.specs.Prelude.{◌≡◌, ◌||◌, ◌^◌, true, map, length, nat_eq, IsTrue, IfOk};
-ghost use Rattle.std.specs.List.{list_all};
+ghost use Rattle.std.specs.Prelude.{◌≡◌, ◌||◌, map, nat_eq, IsTrue, IfOk};
+ghost use Rattle.std.specs.List.{list_all, list_any};
+ghost use Rattle.std.specs.Str.{bytes_eq};
 ghost use Rattle.std.specs.Option.{option_map};
 ghost use Rattle.tx_code.specs.Objects.{bytes_of, object_view};
 ghost use Rattle.tx_code.specs.WellFormed.{is_length as is_length_of, source_fits as fits_source, IsObject};
@@ -30,7 +31,7 @@ fn are_lengths(names: &[Vec<u8>]) -> bool
 }
 
 fn is_among(names: &[Vec<u8>], source: &[u8]) -> bool
-    ensures { result ≡ Rattle.std.specs.List.list_any (Rattle.std.specs.Str.bytes_eq source.now) (map bytes_of names.now) }
+    ensures { result ≡ list_any (bytes_eq source.now) (map bytes_of names.now) }
 {
     for name in names {
         if source == name.as_slice() {

@@ -28,7 +28,7 @@ impl<'a> Lowering<'a> {
                 | ScopeKind::Block(_)
                 | ScopeKind::Behind { .. }
         );
-        if !is_way_out {
+        if !is_way_out || !scope.live {
             self.out.pads.push(0)?;
             return Ok(());
         }
