@@ -77,6 +77,19 @@ fn declared(
     })
 }
 
+// The definition text of an inline function; of one that no text declares, that of its class.
+fn definition_text<'a>(unit: &'a UnitTree, func: &'a TFunc) -> &'a [u8] {
+    if !func.implicit || func.text.len() > 0 {
+        return &func.text;
+    }
+    for def in &unit.classes {
+        if func.class == Some(def.class) {
+            return &def.text;
+        }
+    }
+    &func.text
+}
+
 // The same function with its body.
 fn defined(
     alloc: Global,
@@ -88,7 +101,8 @@ fn defined(
 ) -> Result<(ObjFunc, NameTable), AllocError> {
     let mut entry = entry;
     if func.linkage == Linkage::Inline {
-        entry.text = and_one(names.number(alloc, &func.text)?)?;
+        let text = definition_text(setting.unit, func);
+        entry.text = and_one(names.number(alloc, text)?)?;
     }
     let lies = frame_of(alloc, &func.frame, &setting.program.classes)?;
     entry.frame = lies.size;

@@ -38,17 +38,27 @@ fn is_or_has_base(classes: &[ClassRec], class: usize, name: &[u8]) -> bool {
     false
 }
 
-// The names of the classes by which an exception can be thrown that a handler of this class catches: its own first.
-fn caught_classes(
+// Whether one of these classes has this name.
+fn is_among(classes: &[&ClassRec], name: &[u8]) -> bool {
+    for class in classes {
+        if class.name.as_slice() == name {
+            return true;
+        }
+    }
+    false
+}
+
+// The classes of which a handler of this class catches exceptions, one of each name.
+fn caught_classes<'a>(
     alloc: Global,
-    classes: &[ClassRec],
+    classes: &'a [ClassRec],
     name: &[u8],
-) -> Result<Vec<usize>, AllocError> {
+) -> Result<Vec<&'a ClassRec>, AllocError> {
     let mut caught = Vec::new(alloc);
     for (i, class) in classes.iter().enumerate() {
         let is_named = class.name.len() > 0 && class.complete.is_some();
-        if is_named && is_or_has_base(classes, i, name) {
-            caught.push(i)?;
+        if is_named && is_or_has_base(classes, i, name) && !is_among(&caught, &class.name) {
+            caught.push(class)?;
         }
     }
     Ok(caught)
@@ -138,10 +148,7 @@ impl<'a> Lowering<'a> {
             let Some(found) = program.classes.get(*class as usize) else {
                 return Err(AllocError);
             };
-            for place in caught_classes(self.alloc, &program.classes, &found.name)? {
-                let Some(caught) = program.classes.get(place) else {
-                    return Err(AllocError);
-                };
+            for caught in caught_classes(self.alloc, &program.classes, &found.name)? {
                 let name = self.name(&caught.name)?;
                 self.catch_one(scope, name)?;
             }
