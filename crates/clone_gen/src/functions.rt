@@ -9,7 +9,8 @@ use cpp_types::Safety;
 use low_code::NameTable;
 use std::alloc::{AllocError, Global};
 use tx_code::ObjFunc;
-use unwind_lower::{lower_function, member_text};
+use low_code::types::member_text;
+use unwind_lower::lower_function;
 
 /// What is the same for all functions of a unit.
 #[derive(Clone, Copy)]

@@ -10,7 +10,7 @@ use cpp_tree::Program;
 use low_code::NameTable;
 use std::alloc::{AllocError, Global};
 use tx_code::Object;
-use unwind_lower::with_temporaries;
+use low_code::temporaries::with_temporaries;
 
 /// The longest name.
 const LONGEST: usize = 1_048_576;

@@ -6,10 +6,15 @@
 //! The unwind rows of a body are made from these numbers, piece by piece: no row covers indexes of two scopes.
 #![tactic(auto)]
 
+pub mod caught;
 pub mod effects;
 pub mod names;
+pub mod nodes;
+pub mod numbers;
 pub mod rows;
 pub mod scopes;
+pub mod temporaries;
+pub mod types;
 pub mod writer;
 
 pub use names::NameTable;

@@ -1,6 +1,7 @@
 //! Bodies under construction.
 
 use crate::effects::{effect, ends};
+use crate::numbers::ADDRESS;
 use crate::scopes::{Owner, Scope, ScopeKind};
 use cpp_types::At;
 use std::alloc::{AllocError, Global};
@@ -418,6 +419,75 @@ impl Writer {
         for scope in inner.iter().rev() {
             self.enter_at(scope.kind, scope.depth, scope.at)?;
         }
+        Ok(())
+    }
+
+    /// Writes the sum of the two words on top as addresses.
+    pub fn put_sum(&mut self, at: At) -> Result<(), AllocError> {
+        self.put(
+            Instr::Bin {
+                op: 0,
+                kind: ADDRESS,
+            },
+            at,
+        )
+    }
+
+    /// Adds a number to the address on top.
+    pub fn put_offset(&mut self, offset: u32, at: At) -> Result<(), AllocError> {
+        if offset == 0 {
+            return Ok(());
+        }
+        self.put(Instr::Push(offset as u64), at)?;
+        self.put_sum(at)
+    }
+
+    /// Takes a number from the word on top.
+    pub fn put_less(&mut self, number: u32, at: At) -> Result<(), AllocError> {
+        self.put(Instr::Push(number as u64), at)?;
+        self.put_difference(at)
+    }
+
+    /// Writes the difference of the two words on top as addresses.
+    pub fn put_difference(&mut self, at: At) -> Result<(), AllocError> {
+        self.put(
+            Instr::Bin {
+                op: 1,
+                kind: ADDRESS,
+            },
+            at,
+        )
+    }
+
+    /// Jumps back to an index where the word on top, which stays, is not 0.
+    pub fn again(&mut self, top: u32, at: At) -> Result<(), AllocError> {
+        self.put(Instr::Dup, at)?;
+        let past = self.jump_if_zero(at)?;
+        self.put(Instr::Jump(top), at)?;
+        self.bind(past)
+    }
+
+    /// The scope of a `try` takes each exception to the next index.
+    pub fn catch_all(&mut self, scope: u32) -> Result<(), AllocError> {
+        let target = self.here()?;
+        self.catches.push(Catch {
+            scope,
+            target,
+            what: 2,
+            ty: 0,
+        })?;
+        Ok(())
+    }
+
+    /// The scope of a `try` takes exceptions of this type to the next index.
+    pub fn catch_one(&mut self, scope: u32, ty: u32) -> Result<(), AllocError> {
+        let target = self.here()?;
+        self.catches.push(Catch {
+            scope,
+            target,
+            what: 1,
+            ty,
+        })?;
         Ok(())
     }
 }

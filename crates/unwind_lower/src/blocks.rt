@@ -1,8 +1,9 @@
 //! Statements.
 
 use crate::items::{Item, Leaving, Turn, Way};
-use crate::lowering::{Lowering, kid, node_at};
-use crate::numbers::{ADDRESS, SYNC_EDGE, block_number};
+use crate::lowering::Lowering;
+use low_code::nodes::{kid, node_at};
+use low_code::numbers::{ADDRESS, SYNC_EDGE, block_number};
 use cpp_tree::{TKind, TNode, TNodeId};
 use cpp_types::At;
 use low_code::{Jump, Owner, ScopeKind, Sort};

@@ -1,28 +1,17 @@
 //! Calls.
 
-use crate::expressions::load;
+use low_code::numbers::load;
 use crate::items::{Item, Way};
-use crate::lowering::{Lowering, kid, node_at};
-use crate::numbers::ADDRESS;
-use crate::types::{function_text, gives, is_void, member_text, word_count};
+use crate::lowering::Lowering;
+use low_code::nodes::{kid, node_at};
+use low_code::numbers::ADDRESS;
+use low_code::types::{called_type, function_text, gives, is_void, member_text, word_count};
 use cpp_tree::{Builtin, TKind, TNode, TNodeId};
-use cpp_types::{At, FnTy, Shape, Ty};
+use cpp_types::At;
 use low_code::{Owner, ScopeKind};
 use std::alloc::AllocError;
 use tx_code::Instr;
 use tx_ints::IntKind;
-
-// The function type that a pointer of this type points to.
-fn called_type(ty: &Ty) -> Result<&FnTy, AllocError> {
-    let Shape::Ptr(target) = &ty.shape else {
-        return Err(AllocError);
-    };
-    let Shape::Func(function) = &target.shape else {
-        return Err(AllocError);
-    };
-    let function: &FnTy = function;
-    Ok(function)
-}
 
 // A number of words as an operand, with the address of a class result where `into`.
 fn operand(words: usize, into: bool) -> Result<u8, AllocError> {
@@ -98,7 +87,7 @@ impl<'a> Lowering<'a> {
         };
         let class = self.class_name(class)?;
         self.put(Instr::Dup, node.at)?;
-        self.put_offset(pointer, node.at)?;
+        self.out.put_offset(pointer, node.at)?;
         self.put(load(IntKind::ULong, false), node.at)?;
         self.put(Instr::Slot { class, slot }, node.at)?;
         if way != Way::Into {
@@ -196,7 +185,7 @@ impl<'a> Lowering<'a> {
         self.put(Instr::Throw, at)?;
         self.out.leave()?;
         self.out.live = live;
-        self.catch_all(scope)?;
+        self.out.catch_all(scope)?;
         self.out.enter_handler(at)?;
         Ok(())
     }

@@ -1,7 +1,8 @@
 //! Conditionals.
 
 use crate::items::{Item, Other, Way};
-use crate::lowering::{Lowering, kid, node_at};
+use crate::lowering::Lowering;
+use low_code::nodes::{kid, node_at};
 use cpp_tree::TNodeId;
 use low_code::Owner;
 use std::alloc::AllocError;
@@ -48,16 +49,24 @@ impl<'a> Lowering<'a> {
         self.later(Item::Run(chosen, way))
     }
 
+    // The item below so many others.
+    fn item_below(&self, count: usize) -> Result<Item, AllocError> {
+        let Some(above) = self.work.len().checked_sub(count) else {
+            return Err(AllocError);
+        };
+        let Some(index) = above.checked_sub(1) else {
+            return Err(AllocError);
+        };
+        match self.work.get(index) {
+            Some(item) => Ok(*item),
+            None => Err(AllocError),
+        }
+    }
+
     // The items that stand below the last one, so many of them, are to be written before it too.
     fn repeat_rest(&mut self, count: usize) -> Result<(), AllocError> {
         for _ in 0..count {
-            let Some(from) = self.work.len().checked_sub(count + 1) else {
-                return Err(AllocError);
-            };
-            let Some(item) = self.work.get(from) else {
-                return Err(AllocError);
-            };
-            let item = *item;
+            let item = self.item_below(count)?;
             self.later(item)?;
         }
         Ok(())

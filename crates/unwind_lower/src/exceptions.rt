@@ -1,68 +1,18 @@
 //! What is thrown, and handlers.
 
-use crate::expressions::{load, store};
+use low_code::numbers::{load, store};
 use crate::items::{Item, Way};
-use crate::lowering::{Lowering, kid, node_at};
-use crate::numbers::kind_number;
-use crate::types::{is_class_type, is_void};
+use crate::lowering::Lowering;
+use low_code::nodes::{kid, node_at};
+use low_code::numbers::kind_number;
+use low_code::types::{is_class_type, is_void};
 use cpp_tree::{TKind, TNode, TNodeId};
-use cpp_types::{At, ClassRec, Shape, Ty};
-use low_code::{Catch, ScopeKind, Sort};
-use std::alloc::{AllocError, Global};
+use cpp_types::{At, Shape, Ty};
+use low_code::caught::{caught_classes, referred};
+use low_code::{ScopeKind, Sort};
+use std::alloc::AllocError;
 use tx_code::Instr;
 use tx_ints::IntKind;
-
-// What a reference refers to, and any other type itself.
-fn referred(ty: &Ty) -> &Ty {
-    match &ty.shape {
-        Shape::Ref(target) => target,
-        _ => ty,
-    }
-}
-
-// Whether the class or one of its bases has this name.
-fn is_or_has_base(classes: &[ClassRec], class: usize, name: &[u8]) -> bool {
-    let mut below = class;
-    for _ in 0..classes.len() {
-        let Some(found) = classes.get(below) else {
-            return false;
-        };
-        if found.name.as_slice() == name {
-            return true;
-        }
-        let Some(base) = found.base else {
-            return false;
-        };
-        below = base as usize;
-    }
-    false
-}
-
-// Whether one of these classes has this name.
-fn is_among(classes: &[&ClassRec], name: &[u8]) -> bool {
-    for class in classes {
-        if class.name.as_slice() == name {
-            return true;
-        }
-    }
-    false
-}
-
-// The classes of which a handler of this class catches exceptions, one of each name.
-fn caught_classes<'a>(
-    alloc: Global,
-    classes: &'a [ClassRec],
-    name: &[u8],
-) -> Result<Vec<&'a ClassRec>, AllocError> {
-    let mut caught = Vec::new(alloc);
-    for (i, class) in classes.iter().enumerate() {
-        let is_named = class.name.len() > 0 && class.complete.is_some();
-        if is_named && is_or_has_base(classes, i, name) && !is_among(&caught, &class.name) {
-            caught.push(class)?;
-        }
-    }
-    Ok(caught)
-}
 
 // An offset in an exception.
 fn offset_in(offset: u32) -> Result<u8, AllocError> {
@@ -105,7 +55,7 @@ impl<'a> Lowering<'a> {
         let (offset, kind) = field(node)?;
         if is_object {
             self.put(Instr::Dup, node.at)?;
-            self.put_offset(offset, node.at)?;
+            self.out.put_offset(offset, node.at)?;
             self.put(load(kind, false), node.at)?;
         }
         let offset = offset_in(offset)?;
@@ -113,35 +63,11 @@ impl<'a> Lowering<'a> {
         self.put(Instr::PutException { offset, kind }, node.at)
     }
 
-    /// The scope of a `try` takes each exception to the next index.
-    pub fn catch_all(&mut self, scope: u32) -> Result<(), AllocError> {
-        let target = self.out.here()?;
-        self.out.catches.push(Catch {
-            scope,
-            target,
-            what: 2,
-            ty: 0,
-        })?;
-        Ok(())
-    }
-
-    // The scope of a `try` takes exceptions of this type to the next index.
-    fn catch_one(&mut self, scope: u32, ty: u32) -> Result<(), AllocError> {
-        let target = self.out.here()?;
-        self.out.catches.push(Catch {
-            scope,
-            target,
-            what: 1,
-            ty,
-        })?;
-        Ok(())
-    }
-
     // What a handler of this type catches comes to the next index.
     fn catch_type(&mut self, scope: u32, ty: &Ty) -> Result<(), AllocError> {
         let program = self.program;
         if is_void(ty) {
-            return self.catch_all(scope);
+            return self.out.catch_all(scope);
         }
         let ty = referred(ty);
         if let Shape::Class(class) = &ty.shape {
@@ -150,12 +76,12 @@ impl<'a> Lowering<'a> {
             };
             for caught in caught_classes(self.alloc, &program.classes, &found.name)? {
                 let name = self.name(&caught.name)?;
-                self.catch_one(scope, name)?;
+                self.out.catch_one(scope, name)?;
             }
             return Ok(());
         }
         let name = self.type_name(ty)?;
-        self.catch_one(scope, name)
+        self.out.catch_one(scope, name)
     }
 
     /// The body of a `try`.

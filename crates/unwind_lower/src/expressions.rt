@@ -2,31 +2,20 @@
 
 use crate::items::{Item, Way};
 use crate::lowering::Lowering;
-use crate::numbers::{ADDRESS, kind_number, operator_number};
-use crate::types::is_void;
+use low_code::numbers::{ADDRESS, kind_number, load, operator_number, store};
+use low_code::types::is_void;
 use cpp_tree::{TKind, TNode, TNodeId};
 use low_code::{Owner, ScopeKind};
 use std::alloc::AllocError;
 use tx_code::Instr;
 use tx_ints::IntKind;
 
-/// Reads a scalar of this kind.
-pub fn load(kind: IntKind, volatile: bool) -> Instr {
-    let kind = kind_number(kind);
-    if volatile {
-        Instr::VLoad(kind)
+// How an expression of this type is run whose value is its kid's, or nothing.
+fn way_of(node: &TNode) -> Way {
+    if is_void(&node.ty) {
+        Way::Dropped
     } else {
-        Instr::Load(kind)
-    }
-}
-
-/// Writes a scalar of this kind.
-pub fn store(kind: IntKind, volatile: bool) -> Instr {
-    let kind = kind_number(kind);
-    if volatile {
-        Instr::VStore(kind)
-    } else {
-        Instr::Store(kind)
+        Way::Value
     }
 }
 
@@ -57,14 +46,7 @@ impl<'a> Lowering<'a> {
                 self.later(Item::Put(conv, node.at))?;
                 self.run_kid(node, 0, Way::Value)
             }
-            TKind::Retype => {
-                let way = if is_void(&node.ty) {
-                    Way::Dropped
-                } else {
-                    Way::Value
-                };
-                self.run_kid(node, 0, way)
-            }
+            TKind::Retype => self.run_kid(node, 0, way_of(node)),
             TKind::Binary { op, kind } => {
                 let op = operator_number(op);
                 let kind = kind_number(kind);
@@ -115,10 +97,9 @@ impl<'a> Lowering<'a> {
     pub fn compound(&mut self, id: TNodeId, node: &TNode, way: Way) -> Result<(), AllocError> {
         match node.kind {
             TKind::Conditional => {
-                let inner = if way == Way::Value && is_void(&node.ty) {
-                    Way::Dropped
-                } else {
-                    way
+                let inner = match way {
+                    Way::Value => way_of(node),
+                    _ => way,
                 };
                 self.later(Item::Branch(id, inner))?;
                 self.run_kid(node, 0, Way::Value)

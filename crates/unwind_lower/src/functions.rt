@@ -1,10 +1,10 @@
 //! Functions.
 
-use crate::expressions::store;
+use low_code::numbers::store;
 use crate::items::{Item, Way};
 use crate::lowering::Lowering;
-use crate::lowering::node_at;
-use crate::types::stored_kind;
+use low_code::nodes::node_at;
+use low_code::types::stored_kind;
 use cpp_tree::{Program, TFunc, TNodeId, UnitTree};
 use cpp_types::At;
 use low_code::{LowInstr, NameTable, Scope, Writer};

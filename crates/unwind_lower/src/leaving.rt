@@ -2,7 +2,7 @@
 
 use crate::items::{Item, Leaving};
 use crate::lowering::Lowering;
-use crate::types::gives;
+use low_code::types::gives;
 use cpp_types::At;
 use low_code::{Address, Owner, Scope, ScopeKind, Sort};
 use std::alloc::AllocError;
@@ -27,7 +27,8 @@ impl<'a> Lowering<'a> {
     /// The waiting objects of an owner are destroyed, the last one first, and its scope is left. Objects that wait for an
     /// exception alone are left as they are; a word that stays for one is dropped.
     pub fn close(&mut self, owner: Owner, at: At) -> Result<(), AllocError> {
-        let scope = self.out.scope_at(self.out.scope)?;
+        let number = self.out.scope;
+        let scope = self.out.scope_at(number)?;
         match scope.kind {
             ScopeKind::Mark(marked) => {
                 if marked != owner {

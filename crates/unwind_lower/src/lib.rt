@@ -13,14 +13,9 @@ mod functions;
 mod items;
 mod leaving;
 mod lowering;
-mod numbers;
 mod objects;
 mod pads;
 mod parts;
 mod steps;
-mod temporaries;
-mod types;
 
 pub use functions::{LowFunc, lower_function};
-pub use temporaries::with_temporaries;
-pub use types::{bare_text, function_text, member_text};

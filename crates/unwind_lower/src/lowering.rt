@@ -1,8 +1,9 @@
 //! A function whose body is being written.
 
 use crate::items::{Item, Way};
-use crate::numbers::ADDRESS;
-use crate::types::bare_text;
+use low_code::numbers::ADDRESS;
+use low_code::nodes::kid;
+use low_code::types::bare_text;
 use cpp_tree::{Program, TFunc, TNode, TNodeId, UnitTree};
 use cpp_types::{At, Ty};
 use low_code::{NameTable, Writer};
@@ -24,22 +25,6 @@ pub struct Lowering<'a> {
     pub out: Writer,
     /// What is still to be written, the next item last.
     pub work: Vec<Item>,
-}
-
-/// The node with this id.
-pub fn node_at(unit: &UnitTree, id: TNodeId) -> Result<&TNode, AllocError> {
-    match unit.nodes.get(id.0 as usize) {
-        Some(node) => Ok(node),
-        None => Err(AllocError),
-    }
-}
-
-/// The kid of a node with this index.
-pub fn kid(node: &TNode, index: usize) -> Result<TNodeId, AllocError> {
-    match node.kids.get(index) {
-        Some(id) => Ok(*id),
-        None => Err(AllocError),
-    }
 }
 
 impl<'a> Lowering<'a> {
@@ -69,43 +54,6 @@ impl<'a> Lowering<'a> {
     /// Writes an instruction that is no call.
     pub fn put(&mut self, instr: Instr, at: At) -> Result<(), AllocError> {
         self.out.put(instr, at)
-    }
-
-    /// Writes the sum of the two words on top as addresses.
-    pub fn put_sum(&mut self, at: At) -> Result<(), AllocError> {
-        self.put(
-            Instr::Bin {
-                op: 0,
-                kind: ADDRESS,
-            },
-            at,
-        )
-    }
-
-    /// Adds a number to the address on top.
-    pub fn put_offset(&mut self, offset: u32, at: At) -> Result<(), AllocError> {
-        if offset == 0 {
-            return Ok(());
-        }
-        self.put(Instr::Push(offset as u64), at)?;
-        self.put_sum(at)
-    }
-
-    /// Takes a number from the word on top.
-    pub fn put_less(&mut self, number: u32, at: At) -> Result<(), AllocError> {
-        self.put(Instr::Push(number as u64), at)?;
-        self.put_difference(at)
-    }
-
-    /// Writes the difference of the two words on top as addresses.
-    pub fn put_difference(&mut self, at: At) -> Result<(), AllocError> {
-        self.put(
-            Instr::Bin {
-                op: 1,
-                kind: ADDRESS,
-            },
-            at,
-        )
     }
 
     /// The offset of an item of the frame.

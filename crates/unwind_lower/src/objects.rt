@@ -1,9 +1,10 @@
 //! Objects: initialisers, what waits for its destruction, and destructions.
 
-use crate::expressions::{load, store};
+use low_code::numbers::{load, store};
 use crate::items::{Item, Way};
-use crate::lowering::{Lowering, kid, node_at};
-use crate::numbers::ADDRESS;
+use crate::lowering::Lowering;
+use low_code::nodes::{kid, node_at};
+use low_code::numbers::ADDRESS;
 use cpp_tree::{TKind, TNode, TNodeId};
 use cpp_types::At;
 use low_code::{Address, Owner, ScopeKind};
@@ -53,15 +54,6 @@ impl<'a> Lowering<'a> {
         }
     }
 
-    // Objects wait for the `Destroy`s of a node, from a kid on, if there are any.
-    fn wait(&mut self, scope: ScopeKind, depth: Option<u32>, at: At) -> Result<(), AllocError> {
-        match depth {
-            Some(depth) => self.out.enter_at(scope, depth, at)?,
-            None => self.out.enter(scope, at)?,
-        };
-        Ok(())
-    }
-
     /// A temporary or an argument object is made.
     pub fn made(&mut self, id: TNodeId) -> Result<(), AllocError> {
         let unit = self.unit;
@@ -80,10 +72,10 @@ impl<'a> Lowering<'a> {
             first: 1,
         };
         if argument {
-            self.wait(waits, None, node.at)
-        } else {
-            self.out.add_temporary(self.alloc, waits, node.at)
+            self.out.enter(waits, node.at)?;
+            return Ok(());
         }
+        self.out.add_temporary(self.alloc, waits, node.at)
     }
 
     /// A variable, or a base or member in a constructor.
@@ -120,7 +112,8 @@ impl<'a> Lowering<'a> {
             node: id,
             first: 2,
         };
-        self.wait(waits, None, node.at)
+        self.out.enter(waits, node.at)?;
+        Ok(())
     }
 
     /// A base or member is made in a constructor: its address stays on top, and it waits for an exception alone.
@@ -135,7 +128,8 @@ impl<'a> Lowering<'a> {
             first: 2,
         };
         let depth = self.out.depth;
-        self.wait(waits, Some(depth), node.at)
+        self.out.enter_at(waits, depth, node.at)?;
+        Ok(())
     }
 
     /// A base or member of an object that is destroyed waits.
@@ -147,7 +141,8 @@ impl<'a> Lowering<'a> {
             node: id,
             first: 1,
         };
-        self.wait(waits, None, node.at)
+        self.out.enter(waits, node.at)?;
+        Ok(())
     }
 
     /// Puts the address of a waiting object on top, at once or when the node is run.
@@ -156,7 +151,7 @@ impl<'a> Lowering<'a> {
             Address::Frame(offset) => self.put(Instr::FrameAddr(offset), at),
             Address::Word(offset) => {
                 self.put(Instr::Dup, at)?;
-                self.put_offset(offset, at)
+                self.out.put_offset(offset, at)
             }
             Address::Node(id) => self.later(Item::Run(id, Way::Value)),
         }
@@ -196,7 +191,7 @@ impl<'a> Lowering<'a> {
             return Err(AllocError);
         };
         if offset > 0 {
-            self.put_offset(offset, node.at)?;
+            self.out.put_offset(offset, node.at)?;
         }
         match count {
             0 => self.put(Instr::Pop, node.at),
@@ -215,7 +210,7 @@ impl<'a> Lowering<'a> {
     ) -> Result<(), AllocError> {
         self.put(Instr::Push(count as u64), at)?;
         let top = self.out.here()?;
-        self.put_less(1, at)?;
+        self.out.put_less(1, at)?;
         self.put(Instr::Over, at)?;
         self.put(Instr::Over, at)?;
         self.put(Instr::Push(stride as u64), at)?;
@@ -224,18 +219,10 @@ impl<'a> Lowering<'a> {
             kind: ADDRESS,
         };
         self.put(multiply, at)?;
-        self.put_sum(at)?;
+        self.out.put_sum(at)?;
         self.call_known(func, 1, at)?;
-        self.again(top, at)?;
+        self.out.again(top, at)?;
         self.put(Instr::Pop, at)?;
         self.put(Instr::Pop, at)
-    }
-
-    /// Jumps back to an index where the word on top, which stays, is not 0.
-    pub fn again(&mut self, top: u32, at: At) -> Result<(), AllocError> {
-        self.put(Instr::Dup, at)?;
-        let past = self.out.jump_if_zero(at)?;
-        self.put(Instr::Jump(top), at)?;
-        self.out.bind(past)
     }
 }

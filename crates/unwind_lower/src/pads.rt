@@ -1,7 +1,8 @@
 //! The ways out for exceptions, which stand behind the body.
 
 use crate::items::Item;
-use crate::lowering::{Lowering, node_at};
+use crate::lowering::Lowering;
+use low_code::nodes::node_at;
 use cpp_tree::{TKind, TNode, TNodeId};
 use cpp_types::At;
 use low_code::{Scope, ScopeKind};
@@ -94,7 +95,7 @@ impl<'a> Lowering<'a> {
             self.put(Instr::Swap, at)?;
             self.put(Instr::Pop, at)?;
             self.put(Instr::Swap, at)?;
-            self.put_less(stride, at)?;
+            self.out.put_less(stride, at)?;
             self.put(Instr::Swap, at)?;
         } else {
             self.put_built(count, at)?;
@@ -106,7 +107,7 @@ impl<'a> Lowering<'a> {
     fn put_built(&mut self, count: u32, at: At) -> Result<(), AllocError> {
         self.put(Instr::Push(count as u64), at)?;
         self.put(Instr::Swap, at)?;
-        self.put_difference(at)
+        self.out.put_difference(at)
     }
 
     // The address behind the last element that is built and how many these are lie on top.
@@ -114,9 +115,9 @@ impl<'a> Lowering<'a> {
         let top = self.out.here()?;
         self.put(Instr::Dup, at)?;
         let done = self.out.jump_if_zero(at)?;
-        self.put_less(1, at)?;
+        self.out.put_less(1, at)?;
         self.put(Instr::Swap, at)?;
-        self.put_less(stride, at)?;
+        self.out.put_less(stride, at)?;
         self.put(Instr::Swap, at)?;
         self.put(Instr::Over, at)?;
         self.destroy(node, 1)?;

@@ -1,7 +1,8 @@
 //! Objects that are built part by part.
 
 use crate::items::{Item, Way};
-use crate::lowering::{Lowering, node_at};
+use crate::lowering::Lowering;
+use low_code::nodes::node_at;
 use cpp_tree::{TKind, TNode, TNodeId};
 use cpp_types::At;
 use low_code::{Address, Owner, ScopeKind};
@@ -29,13 +30,13 @@ impl<'a> Lowering<'a> {
         match way {
             Way::Into => {
                 self.put(Instr::Dup, node.at)?;
-                self.put_offset(offset, node.at)
+                self.out.put_offset(offset, node.at)
             }
             Way::Copying => {
                 self.put(Instr::Over, node.at)?;
-                self.put_offset(offset, node.at)?;
+                self.out.put_offset(offset, node.at)?;
                 self.put(Instr::Over, node.at)?;
-                self.put_offset(offset, node.at)
+                self.out.put_offset(offset, node.at)
             }
             Way::Value | Way::Dropped => Err(AllocError),
         }
@@ -67,7 +68,8 @@ impl<'a> Lowering<'a> {
     /// All parts are made, and their addresses are taken.
     pub fn close_parts(&mut self, way: Way, at: At) -> Result<(), AllocError> {
         for _ in 0..self.out.scopes.len() {
-            let scope = self.out.scope_at(self.out.scope)?;
+            let number = self.out.scope;
+            let scope = self.out.scope_at(number)?;
             self.out.leave()?;
             if scope.kind == ScopeKind::Mark(Owner::Parts) {
                 self.put(Instr::Pop, at)?;
@@ -128,11 +130,11 @@ impl<'a> Lowering<'a> {
         };
         self.grab(3, node.at)?;
         self.put_grabbed(0, node.at)?;
-        self.put_offset(stride, node.at)?;
+        self.out.put_offset(stride, node.at)?;
         self.put_grabbed(1, node.at)?;
-        self.put_offset(stride, node.at)?;
+        self.out.put_offset(stride, node.at)?;
         self.put_grabbed(2, node.at)?;
-        self.put_less(1, node.at)?;
+        self.out.put_less(1, node.at)?;
         self.put_grabbed(0, node.at)?;
         self.put_grabbed(1, node.at)?;
         self.let_go(node.at)
@@ -159,11 +161,11 @@ impl<'a> Lowering<'a> {
         }
         if way == Way::Into {
             self.put(Instr::Swap, node.at)?;
-            self.put_offset(stride, node.at)?;
+            self.out.put_offset(stride, node.at)?;
             self.put(Instr::Swap, node.at)?;
-            self.put_less(1, node.at)?;
+            self.out.put_less(1, node.at)?;
         }
-        self.again(top, node.at)?;
+        self.out.again(top, node.at)?;
         self.put(Instr::Pop, node.at)?;
         self.put(Instr::Pop, node.at)?;
         if way == Way::Copying {

@@ -1,8 +1,9 @@
 //! What is written for each item.
 
 use crate::items::{Item, Way};
-use crate::lowering::{Lowering, node_at};
-use crate::types::is_void;
+use crate::lowering::Lowering;
+use low_code::nodes::node_at;
+use low_code::types::is_void;
 use cpp_tree::{TKind, TNode, TNodeId};
 use std::alloc::AllocError;
 use tx_code::Instr;

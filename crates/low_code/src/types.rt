@@ -92,3 +92,15 @@ pub fn member_text(
     text.extend_from_slice(b")")?;
     Ok(text)
 }
+
+/// The function type that a pointer of this type points to.
+pub fn called_type(ty: &Ty) -> Result<&FnTy, AllocError> {
+    let Shape::Ptr(target) = &ty.shape else {
+        return Err(AllocError);
+    };
+    let Shape::Func(function) = &target.shape else {
+        return Err(AllocError);
+    };
+    let function: &FnTy = function;
+    Ok(function)
+}

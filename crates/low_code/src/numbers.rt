@@ -1,5 +1,6 @@
 //! The numbers of kinds and operators.
 
+use tx_code::Instr;
 use tx_events::BlockKind;
 use tx_ints::{BinOp, IntKind};
 
@@ -57,3 +58,23 @@ pub fn block_number(kind: BlockKind) -> u8 {
 
 /// The number of a synchronized block's edge; an atomic block's has that of its kind and 3.
 pub const SYNC_EDGE: u8 = 6;
+
+/// Reads a scalar of this kind.
+pub fn load(kind: IntKind, volatile: bool) -> Instr {
+    let kind = kind_number(kind);
+    if volatile {
+        Instr::VLoad(kind)
+    } else {
+        Instr::Load(kind)
+    }
+}
+
+/// Writes a scalar of this kind.
+pub fn store(kind: IntKind, volatile: bool) -> Instr {
+    let kind = kind_number(kind);
+    if volatile {
+        Instr::VStore(kind)
+    } else {
+        Instr::Store(kind)
+    }
+}
