@@ -1,4 +1,7 @@
 //! The public call.
+ghost use Rattle.std.specs.Prelude.{IfOk};
+ghost use Rattle.tx_code.specs.Objects.{object_view};
+ghost use Rattle.tx_code.specs.WellFormed.{IsObject};
 
 use crate::classes::class_entries;
 use crate::entries::sort_entries;
@@ -8,6 +11,7 @@ use crate::renaming::Renaming;
 use crate::uses::uses_of;
 use cpp_tree::Program;
 use low_code::NameTable;
+use object_check::is_object;
 use std::alloc::{AllocError, Global};
 use tx_code::Object;
 use low_code::temporaries::with_temporaries;
@@ -40,9 +44,19 @@ fn named(
     Ok(object)
 }
 
+// The object, where some bytes spell it. One that no bytes spell counts as want of memory.
+fn tested(alloc: Global, object: Object) -> Result<Object, AllocError>
+    ensures { IfOk result (λ o. IsObject (object_view o)) }
+{
+    if !is_object(alloc, &object)? {
+        return Err(AllocError);
+    }
+    Ok(object)
+}
+
 /// The object of a unit: version 2, with what the unit defines and refers to. Each function that is defined has a plain
 /// body, and those that `safe` names, by their indexes, have a safe body too. `source` is the name of the unit's source,
-/// and its lines begin at the offsets `starts`.
+/// and its lines begin at the offsets `starts`. Some bytes spell the object, so that it can be written and linked.
 pub fn generate(
     alloc: Global,
     program: &Program,
@@ -50,7 +64,9 @@ pub fn generate(
     safe: &[bool],
     source: &[u8],
     starts: &[u32],
-) -> Result<Object, AllocError> {
+) -> Result<Object, AllocError>
+    ensures { IfOk result (λ o. IsObject (object_view o)) }
+{
     let Some(tree) = program.units.get(unit as usize) else {
         return Err(AllocError);
     };
@@ -76,5 +92,6 @@ pub fn generate(
         globals,
         funcs,
     };
-    named(alloc, object, names, source)
+    let object = named(alloc, object, names, source)?;
+    tested(alloc, object)
 }

@@ -9,10 +9,8 @@ use choosers::policy::{OlderRule, Policy};
 use choosers::{Clash, Seen};
 use clone_gen::generate;
 use code_verify::{GoodImage, verify};
-use object_check::is_object;
-use std::alloc::{AllocError, Global};
+use std::alloc::Global;
 use std::test::Fail;
-use tx_code::Object;
 use tx_events::{End, THREAD_LIMIT};
 use tx_linker::link;
 use tx_machine::Ran;
@@ -32,20 +30,17 @@ fn each_in_turn(seen: &Seen) -> u8
     round(1, seen)
 }
 
-/// The image of one object.
-fn image(alloc: Global, object: Object) -> Result<GoodImage, Fail> {
-    if !is_object(alloc, &object)? {
-        return Err(Fail::from(AllocError));
-    }
+/// The image of the program with these nodes.
+fn image(alloc: Global, rows: &[Row]) -> Result<GoodImage, Fail> {
+    let program = program(alloc, rows)?;
+    let object = generate(alloc, &program, 0, &[false], b"a.cc", &[0])?;
     let image = link(alloc, &[object])?;
     Ok(verify(alloc, image)?)
 }
 
 /// What the program with these nodes comes to.
 fn ran(alloc: Global, rows: &[Row]) -> Result<Ran<Here>, Fail> {
-    let program = program(alloc, rows)?;
-    let object = generate(alloc, &program, 0, &[false], b"a.cc", &[0])?;
-    let good = image(alloc, object)?;
+    let good = image(alloc, rows)?;
     let policy: Policy<OlderRule, _> = Policy::new(|c: &Clash| older(c));
     let mut picker = Picker::new(|s: &Seen| each_in_turn(s), THREAD_LIMIT);
     Ok(run(

@@ -8,7 +8,6 @@ use cpp_tree::{TKind, TNode, TNodeId};
 use low_code::{Owner, ScopeKind};
 use std::alloc::AllocError;
 use tx_code::Instr;
-use tx_ints::IntKind;
 
 // How an expression of this type is run whose value is its kid's, or nothing.
 fn way_of(node: &TNode) -> Way {

@@ -1,10 +1,9 @@
 //! A function whose body is being written.
 
 use crate::items::{Item, Way};
-use low_code::numbers::ADDRESS;
 use low_code::nodes::kid;
 use low_code::types::bare_text;
-use cpp_tree::{Program, TFunc, TNode, TNodeId, UnitTree};
+use cpp_tree::{Program, TFunc, TNode, UnitTree};
 use cpp_types::{At, Ty};
 use low_code::{NameTable, Writer};
 use std::alloc::{AllocError, Global};
