@@ -1,0 +1,209 @@
+//! The names of an object: those that are used, in the order of their bytes.
+
+use low_code::NameTable;
+use std::alloc::{AllocError, Global};
+use tx_code::{Body, Instr, Object, Row};
+
+// What an instruction names.
+fn named(instr: Instr) -> Option<u32> {
+    match instr {
+        Instr::GlobalAddr(name) | Instr::FuncAddr(name) | Instr::ClassAddr(name) => Some(name),
+        Instr::Call { func, .. } | Instr::TCall { func, .. } => Some(func),
+        Instr::CallIndirect { ty, .. } | Instr::TCallIndirect { ty, .. } => Some(ty),
+        Instr::Slot { class, .. } => Some(class),
+        Instr::NewException(ty) => Some(ty),
+        _ => None,
+    }
+}
+
+// The instruction with this name in place of its own.
+fn renamed(instr: Instr, name: u32) -> Instr {
+    match instr {
+        Instr::GlobalAddr(_) => Instr::GlobalAddr(name),
+        Instr::FuncAddr(_) => Instr::FuncAddr(name),
+        Instr::ClassAddr(_) => Instr::ClassAddr(name),
+        Instr::Call { words, .. } => Instr::Call { func: name, words },
+        Instr::TCall { words, .. } => Instr::TCall { func: name, words },
+        Instr::CallIndirect { words, .. } => Instr::CallIndirect { ty: name, words },
+        Instr::TCallIndirect { words, .. } => Instr::TCallIndirect { ty: name, words },
+        Instr::Slot { slot, .. } => Instr::Slot { class: name, slot },
+        Instr::NewException(_) => Instr::NewException(name),
+        _ => instr,
+    }
+}
+
+/// What becomes of the names of a table: first which of them are used, then their new numbers.
+#[derive(Drop)]
+pub struct Renaming {
+    used: Vec<bool>,
+    numbers: Vec<u32>,
+}
+
+impl Renaming {
+    /// No name is used yet.
+    pub fn new(alloc: Global, names: &NameTable) -> Result<Renaming, AllocError> {
+        let mut used = Vec::new(alloc);
+        let mut numbers = Vec::new(alloc);
+        for _ in 0..names.names().len() {
+            used.push(false)?;
+            numbers.push(0)?;
+        }
+        Ok(Renaming { used, numbers })
+    }
+
+    /// The name is used.
+    pub fn note(&mut self, name: u32) {
+        if let Some(mark) = self.used.get_mut(name as usize) {
+            *mark = true;
+        }
+    }
+
+    // The name with this number and 1, if it is one, is used.
+    fn note_some(&mut self, number: u32) {
+        if let Some(name) = number.checked_sub(1) {
+            self.note(name);
+        }
+    }
+
+    fn note_body(&mut self, body: &Option<Body>) {
+        let Some(body) = body else {
+            return;
+        };
+        for instr in &body.code {
+            if let Some(name) = named(*instr) {
+                self.note(name);
+            }
+        }
+        for row in &body.rows {
+            if row.what == 1 {
+                self.note(row.ty);
+            }
+        }
+    }
+
+    fn note_classes(&mut self, object: &Object) {
+        for class in &object.classes {
+            self.note(class.name);
+            self.note(class.text);
+            self.note_some(class.base);
+            for member in &class.members {
+                self.note(member.name);
+                self.note(member.ty);
+            }
+            for slot in &class.slots {
+                self.note_some(*slot);
+            }
+        }
+    }
+
+    /// The names of an object are used.
+    pub fn note_object(&mut self, object: &Object) {
+        self.note_classes(object);
+        for global in &object.globals {
+            self.note(global.symbol);
+            self.note(global.ty);
+            for cell in &global.cells {
+                self.note_some(cell.symbol);
+            }
+        }
+        for func in &object.funcs {
+            self.note(func.symbol);
+            self.note(func.ty);
+            self.note_some(func.text);
+            self.note_body(&func.plain);
+            self.note_body(&func.safe);
+        }
+    }
+
+    /// The used names, in the order of their bytes; from now on each has its place there as its number.
+    pub fn settle(&mut self, alloc: Global, names: &NameTable) -> Result<Vec<Vec<u8>>, AllocError> {
+        let mut kept = Vec::new(alloc);
+        for number in names.order() {
+            let is_used = self.used.get(*number as usize).copied().unwrap_or(false);
+            if is_used {
+                let Ok(place) = u32::try_from(kept.len()) else {
+                    return Err(AllocError);
+                };
+                if let Some(found) = self.numbers.get_mut(*number as usize) {
+                    *found = place;
+                }
+                if let Some(name) = names.names().get(*number as usize) {
+                    kept.push(Vec::from_slice(alloc, name)?)?;
+                }
+            }
+        }
+        Ok(kept)
+    }
+
+    // The new number of a name.
+    fn number(&self, name: u32) -> u32 {
+        self.numbers.get(name as usize).copied().unwrap_or(0)
+    }
+
+    // The new number of a name, of which 1 is taken before and given back.
+    fn some_number(&self, number: u32) -> u32 {
+        match number.checked_sub(1) {
+            Some(name) => self.number(name).saturating_add(1),
+            None => 0,
+        }
+    }
+
+    fn rename_row(&self, row: Row) -> Row {
+        if row.what == 1 {
+            Row {
+                ty: self.number(row.ty),
+                ..row
+            }
+        } else {
+            row
+        }
+    }
+
+    fn rename_body(&self, body: &mut Option<Body>) {
+        let Some(body) = body else {
+            return;
+        };
+        for instr in body.code.iter_mut() {
+            if let Some(name) = named(*instr) {
+                *instr = renamed(*instr, self.number(name));
+            }
+        }
+        for row in body.rows.iter_mut() {
+            *row = self.rename_row(*row);
+        }
+    }
+
+    fn rename_classes(&self, object: &mut Object) {
+        for class in object.classes.iter_mut() {
+            class.name = self.number(class.name);
+            class.text = self.number(class.text);
+            class.base = self.some_number(class.base);
+            for member in class.members.iter_mut() {
+                member.name = self.number(member.name);
+                member.ty = self.number(member.ty);
+            }
+            for slot in class.slots.iter_mut() {
+                *slot = self.some_number(*slot);
+            }
+        }
+    }
+
+    /// The object with the new numbers.
+    pub fn rename(&self, object: &mut Object) {
+        self.rename_classes(object);
+        for global in object.globals.iter_mut() {
+            global.symbol = self.number(global.symbol);
+            global.ty = self.number(global.ty);
+            for cell in global.cells.iter_mut() {
+                cell.symbol = self.some_number(cell.symbol);
+            }
+        }
+        for func in object.funcs.iter_mut() {
+            func.symbol = self.number(func.symbol);
+            func.ty = self.number(func.ty);
+            func.text = self.some_number(func.text);
+            self.rename_body(&mut func.plain);
+            self.rename_body(&mut func.safe);
+        }
+    }
+}
