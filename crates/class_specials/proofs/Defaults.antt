@@ -1,5 +1,5 @@
 -- Members that may be left to themselves, one behind the other.
-use Rattle.std.proofs.Common.{◌≡◌, ◌∙◌, ℕ, suc, ◌+◌, ◌<◌, Bool, true, ◌||◌, ◌&&◌, List, ◌∷◌, length, map, drop, get_or, refl, sym, ap, add-one}
+use Rattle.std.proofs.Common.{◌≡◌, ◌∙◌, ℕ, suc, ◌+◌, ◌<◌, Bool, true, ◌||◌, ◌&&◌, List, ◌∷◌, length, map, drop, get_or, sym, ap, add-one}
 use Rattle.std.proofs.Math.Seq.{drop-cons}
 use Rattle.cpp_types.specs.Typ.{typ_of}
 use Rattle.cpp_types.specs.Class.{member_of}

@@ -1,5 +1,5 @@
 -- The first place at which a test holds, and all places.
-use Rattle.std.proofs.Common.{◌≡◌, ℕ, suc, Bool, true, false, List, [], ◌∷◌, Option, Some, None, is_none, refl, if◌then◌else◌}
+use Rattle.std.proofs.Common.{◌≡◌, ℕ, suc, Bool, true, false, List, [], ◌∷◌, Option, Some, is_none, refl, if◌then◌else◌}
 use Rattle.elab_ctx.specs.Ctx.{Func}
 use Rattle.elab_rules.specs.Initialising.{places_from, kept_if}
 use Rattle.elab_rules.specs.Functions.{first_from}

@@ -1,5 +1,5 @@
 -- Lists of types that have one type.
-use Rattle.std.proofs.Common.{◌≡◌, ℕ, Bool, true, false, ◌&&◌, List, [], ◌∷◌, length, get_or, refl, sym, ◌∙◌, ap}
+use Rattle.std.proofs.Common.{◌≡◌, Bool, true, false, ◌&&◌, List, [], ◌∷◌, length, get_or, refl, ◌∙◌, ap}
 use Rattle.cpp_types.specs.declared.types.Ty.{Ty}
 use Rattle.cpp_types.specs.Typ.{Typ, typ_of, typs_of, none, more}
 use Rattle.cpp_types.specs.Equal.{typ_eq, typs_eq}

@@ -1,7 +1,7 @@
 -- Kids at their places.
 use Rattle.std.proofs.Common.{◌≡◌, ℕ, zero, suc, ◌-◌, ◌+◌, ◌<◌, true, nat_lt, List, [], ◌∷◌, length, take, drop, get_or, refl, ap, add-one}
 use Rattle.std.proofs.Math.Seq.{drop-cons}
-use Rattle.cpp_ast.specs.Trees.{Tree, Trees, more}
+use Rattle.cpp_ast.specs.Trees.{Tree, more}
 use Rattle.elab_types.specs.Syntax.{tree_at, trees_at}
 use Rattle.std.proofs.lemmas.Bool.{and_parts}
 use Rattle.std.proofs.lemmas.List.{take_rest}

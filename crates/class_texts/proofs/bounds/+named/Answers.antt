@@ -1,4 +1,3 @@
-use Rattle.std.proofs.Common.{◌≡◌}
 use Rattle.cpp_lex.specs.Tokens.{lexemes_of}
 use Rattle.elab_ctx.specs.Ctx.{ctx_of}
 use Rattle.elab_types.specs.Syntax.{syntax_of, tree_at, trees_at}
