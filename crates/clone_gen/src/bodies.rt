@@ -39,12 +39,7 @@ fn copied(alloc: Global, rows: &[Row]) -> Result<Vec<Row>, AllocError> {
 }
 
 /// The plain or the safe body of a function.
-pub fn body(
-    alloc: Global,
-    low: &LowFunc,
-    safe: bool,
-    starts: &[u32],
-) -> Result<Body, AllocError> {
+pub fn body(alloc: Global, low: &LowFunc, safe: bool, starts: &[u32]) -> Result<Body, AllocError> {
     Ok(Body {
         code: instructions(alloc, low, safe)?,
         rows: copied(alloc, &low.rows)?,

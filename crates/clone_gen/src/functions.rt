@@ -7,9 +7,9 @@ use crate::uses::{Uses, is_set};
 use cpp_tree::{Linkage, Program, TFunc, TNodeId, UnitTree};
 use cpp_types::Safety;
 use low_code::NameTable;
+use low_code::types::member_text;
 use std::alloc::{AllocError, Global};
 use tx_code::ObjFunc;
-use low_code::types::member_text;
 use unwind_lower::lower_function;
 
 /// What is the same for all functions of a unit.

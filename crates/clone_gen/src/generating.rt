@@ -11,10 +11,10 @@ use crate::renaming::Renaming;
 use crate::uses::uses_of;
 use cpp_tree::Program;
 use low_code::NameTable;
+use low_code::temporaries::with_temporaries;
 use object_check::is_object;
 use std::alloc::{AllocError, Global};
 use tx_code::Object;
-use low_code::temporaries::with_temporaries;
 
 /// The longest name.
 const LONGEST: usize = 1_048_576;

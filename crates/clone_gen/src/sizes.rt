@@ -110,11 +110,7 @@ pub fn member_offset(classes: &[ClassRec], class: u32, member: u32) -> Result<u3
 }
 
 /// Where the items of a frame lie.
-pub fn frame_of(
-    alloc: Global,
-    items: &[Ty],
-    classes: &[ClassRec],
-) -> Result<FrameRec, AllocError> {
+pub fn frame_of(alloc: Global, items: &[Ty], classes: &[ClassRec]) -> Result<FrameRec, AllocError> {
     if !is_in_order(classes) {
         return Err(AllocError);
     }

@@ -44,7 +44,10 @@ pub enum ScopeKind {
     },
     /// The elements of an array that are built. The address of the next one and how many are left lie on top, in a copy
     /// with the address of the source between them.
-    Each { node: TNodeId, copies: bool },
+    Each {
+        node: TNodeId,
+        copies: bool,
+    },
     Loop,
     Switch,
     /// The body of a `try`.
@@ -56,7 +59,11 @@ pub enum ScopeKind {
     Block(u8),
     /// Not a scope in which code runs: the way out of the block `block`, seen from a handler in it. With this handler
     /// left, it goes on at the way out `next`; `outer` is that of the block around, 0 if there is none.
-    Behind { block: u32, next: u32, outer: u32 },
+    Behind {
+        block: u32,
+        next: u32,
+        outer: u32,
+    },
 }
 
 /// A scope.

@@ -56,7 +56,11 @@ pub fn bare_text(alloc: Global, ty: &Ty, classes: &[ClassRec]) -> Result<Vec<u8>
 }
 
 /// The spelling of a function's type without `transaction_safe`.
-pub fn function_text(alloc: Global, ty: &FnTy, classes: &[ClassRec]) -> Result<Vec<u8>, AllocError> {
+pub fn function_text(
+    alloc: Global,
+    ty: &FnTy,
+    classes: &[ClassRec],
+) -> Result<Vec<u8>, AllocError> {
     let FnTy { params, ret, .. } = copy_function(alloc, ty)?;
     let function = FnTy {
         params,

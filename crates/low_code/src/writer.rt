@@ -246,10 +246,8 @@ impl Writer {
             return Err(AllocError);
         };
         let rows = match kind {
-            ScopeKind::Function
-            | ScopeKind::Mark(_)
-            | ScopeKind::Loop
-            | ScopeKind::Switch => around.rows,
+            ScopeKind::Function | ScopeKind::Mark(_) | ScopeKind::Loop | ScopeKind::Switch =>
+                around.rows,
             _ => number,
         };
         let edge = match kind {
@@ -412,7 +410,12 @@ impl Writer {
     }
 
     /// A temporary waits until the end of the full-expression: it comes before the arguments and parts that wait.
-    pub fn add_temporary(&mut self, alloc: Global, kind: ScopeKind, at: At) -> Result<(), AllocError> {
+    pub fn add_temporary(
+        &mut self,
+        alloc: Global,
+        kind: ScopeKind,
+        at: At,
+    ) -> Result<(), AllocError> {
         let (inner, full) = self.inner_scopes(alloc)?;
         self.scope = full;
         self.enter(kind, at)?;

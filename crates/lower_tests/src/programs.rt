@@ -130,7 +130,6 @@ const STORE: TKind = TKind::Store {
     volatile: false,
 };
 
-
 const FIRST: TKind = TKind::Local { place: 0 };
 
 const ADD: TKind = TKind::Binary {

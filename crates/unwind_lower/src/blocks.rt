@@ -2,10 +2,10 @@
 
 use crate::items::{Item, Leaving, Turn, Way};
 use crate::lowering::Lowering;
-use low_code::nodes::{kid, node_at};
-use low_code::numbers::{ADDRESS, SYNC_EDGE, block_number};
 use cpp_tree::{TKind, TNode, TNodeId};
 use cpp_types::At;
+use low_code::nodes::{kid, node_at};
+use low_code::numbers::{ADDRESS, SYNC_EDGE, block_number};
 use low_code::{Jump, Owner, ScopeKind, Sort};
 use std::alloc::AllocError;
 use tx_code::Instr;
@@ -39,7 +39,9 @@ impl<'a> Lowering<'a> {
                 self.put(Instr::BeginSync, node.at)?;
                 self.start_block(node, SYNC_EDGE, Instr::EndSync)
             }
-            TKind::Case { .. } | TKind::Default | TKind::Destroy { .. } | TKind::Field { .. } => Ok(()),
+            TKind::Case { .. } | TKind::Default | TKind::Destroy { .. } | TKind::Field { .. } => Ok(
+                (),
+            ),
             _ => Err(AllocError),
         }
     }
@@ -75,7 +77,12 @@ impl<'a> Lowering<'a> {
     }
 
     // The body of a loop stands first; where the test comes before it, a jump leads over it.
-    fn start_loop(&mut self, id: TNodeId, node: &TNode, test_first: bool) -> Result<(), AllocError> {
+    fn start_loop(
+        &mut self,
+        id: TNodeId,
+        node: &TNode,
+        test_first: bool,
+    ) -> Result<(), AllocError> {
         let live = self.out.live;
         let first = if test_first {
             self.out.jump(node.at)?

@@ -1,13 +1,12 @@
 //! Calls.
 
-use low_code::numbers::load;
 use crate::items::{Item, Way};
 use crate::lowering::Lowering;
-use low_code::nodes::{kid, node_at};
-use low_code::numbers::ADDRESS;
-use low_code::types::{called_type, function_text, gives, is_void, member_text, word_count};
 use cpp_tree::{Builtin, TKind, TNode, TNodeId};
 use cpp_types::At;
+use low_code::nodes::{kid, node_at};
+use low_code::numbers::{ADDRESS, load};
+use low_code::types::{called_type, function_text, gives, is_void, member_text, word_count};
 use low_code::{Owner, ScopeKind};
 use std::alloc::AllocError;
 use tx_code::Instr;

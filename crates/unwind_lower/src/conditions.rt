@@ -2,9 +2,9 @@
 
 use crate::items::{Item, Other, Way};
 use crate::lowering::Lowering;
-use low_code::nodes::{kid, node_at};
 use cpp_tree::TNodeId;
 use low_code::Owner;
+use low_code::nodes::{kid, node_at};
 use std::alloc::AllocError;
 
 impl<'a> Lowering<'a> {

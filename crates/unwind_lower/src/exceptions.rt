@@ -1,14 +1,13 @@
 //! What is thrown, and handlers.
 
-use low_code::numbers::{load, store};
 use crate::items::{Item, Way};
 use crate::lowering::Lowering;
-use low_code::nodes::{kid, node_at};
-use low_code::numbers::kind_number;
-use low_code::types::{is_class_type, is_void};
 use cpp_tree::{TKind, TNode, TNodeId};
 use cpp_types::{At, Shape, Ty};
 use low_code::caught::{caught_classes, referred};
+use low_code::nodes::{kid, node_at};
+use low_code::numbers::{kind_number, load, store};
+use low_code::types::{is_class_type, is_void};
 use low_code::{ScopeKind, Sort};
 use std::alloc::AllocError;
 use tx_code::Instr;

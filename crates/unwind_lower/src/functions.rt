@@ -1,14 +1,14 @@
 //! Functions.
 
-use low_code::numbers::store;
 use crate::items::{Item, Way};
 use crate::lowering::Lowering;
-use low_code::nodes::node_at;
-use low_code::types::stored_kind;
 use cpp_tree::{Program, TFunc, TNodeId, UnitTree};
 use cpp_types::At;
-use low_code::{LowInstr, NameTable, Scope, Writer};
+use low_code::nodes::node_at;
+use low_code::numbers::store;
 use low_code::rows::rows_of;
+use low_code::types::stored_kind;
+use low_code::{LowInstr, NameTable, Scope, Writer};
 use std::alloc::{AllocError, Global};
 use tx_code::{Instr, Row};
 

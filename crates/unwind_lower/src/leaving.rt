@@ -2,8 +2,8 @@
 
 use crate::items::{Item, Leaving};
 use crate::lowering::Lowering;
-use low_code::types::gives;
 use cpp_types::At;
+use low_code::types::gives;
 use low_code::{Address, Owner, Scope, ScopeKind, Sort};
 use std::alloc::AllocError;
 use tx_code::Instr;
@@ -37,7 +37,9 @@ impl<'a> Lowering<'a> {
                 self.out.leave()
             }
             ScopeKind::Waits {
-                always, address, ..
+                always,
+                address,
+                ..
             } => {
                 self.out.leave()?;
                 self.later(Item::Close(owner, at))?;

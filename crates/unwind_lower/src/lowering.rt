@@ -1,10 +1,10 @@
 //! A function whose body is being written.
 
 use crate::items::{Item, Way};
-use low_code::nodes::kid;
-use low_code::types::bare_text;
 use cpp_tree::{Program, TFunc, TNode, UnitTree};
 use cpp_types::{At, Ty};
+use low_code::nodes::kid;
+use low_code::types::bare_text;
 use low_code::{NameTable, Writer};
 use std::alloc::{AllocError, Global};
 use tx_code::Instr;

@@ -1,12 +1,11 @@
 //! Objects: initialisers, what waits for its destruction, and destructions.
 
-use low_code::numbers::{load, store};
 use crate::items::{Item, Way};
 use crate::lowering::Lowering;
-use low_code::nodes::{kid, node_at};
-use low_code::numbers::ADDRESS;
 use cpp_tree::{TKind, TNode, TNodeId};
 use cpp_types::At;
+use low_code::nodes::{kid, node_at};
+use low_code::numbers::{ADDRESS, load, store};
 use low_code::{Address, Owner, ScopeKind};
 use std::alloc::AllocError;
 use tx_code::Instr;

@@ -2,9 +2,9 @@
 
 use crate::items::Item;
 use crate::lowering::Lowering;
-use low_code::nodes::node_at;
 use cpp_tree::{TKind, TNode, TNodeId};
 use cpp_types::At;
+use low_code::nodes::node_at;
 use low_code::{Scope, ScopeKind};
 use std::alloc::AllocError;
 use tx_code::Instr;

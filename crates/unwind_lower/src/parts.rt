@@ -2,9 +2,9 @@
 
 use crate::items::{Item, Way};
 use crate::lowering::Lowering;
-use low_code::nodes::node_at;
 use cpp_tree::{TKind, TNode, TNodeId};
 use cpp_types::At;
+use low_code::nodes::node_at;
 use low_code::{Address, Owner, ScopeKind};
 use std::alloc::AllocError;
 use tx_code::Instr;

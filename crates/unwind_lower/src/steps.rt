@@ -2,9 +2,9 @@
 
 use crate::items::{Item, Way};
 use crate::lowering::Lowering;
+use cpp_tree::{TKind, TNode, TNodeId};
 use low_code::nodes::node_at;
 use low_code::types::is_void;
-use cpp_tree::{TKind, TNode, TNodeId};
 use std::alloc::AllocError;
 use tx_code::Instr;
 
