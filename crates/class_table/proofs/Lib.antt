@@ -1,5 +1,0 @@
-pub mod Closing
-pub mod Functions
-pub mod Members
-pub mod Reading
-pub mod Walking

@@ -1,6 +1,0 @@
-pub mod Chains
-pub mod Forms
-pub mod Rows
-pub mod Scoped
-pub mod Small
-pub mod Steps
