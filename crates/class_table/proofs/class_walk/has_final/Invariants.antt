@@ -1,0 +1,7 @@
+use Rattle.std.proofs.Common.{◌≡◌, drop}
+use Rattle.elab_rules.specs.Members.{has_final}
+use Rattle.elab_types.specs.Syntax.{syntax_of, trees_at}
+use Rattle.class_table.proofs.class_walk.has_final.Given as goal
+
+abbrev pub invariant-loop-kid : goal.invariant-loop-kid
+invariant-loop-kid l = has_final (trees_at (syntax_of l.nodes) l.kids) ≡ has_final (trees_at (syntax_of l.nodes) (drop l.kid-index l.kids))

@@ -1,0 +1,219 @@
+// Member functions, constructors and destructors as they are written (C++14 9.3, 12.1, 12.4).
+
+ghost use Rattle.std.specs.Prelude.{◌≡◌, ◌<◌, ◌≤◌, length, true, drop, IfOk, List};
+ghost use Rattle.cpp_lex.specs.Tokens.{lexemes_of};
+ghost use Rattle.cpp_types.specs.Typ.{typ_of};
+ghost use Rattle.cpp_ast.specs.Orders.{are_below};
+ghost use Rattle.elab_ctx.specs.Ctx.{ctx_of, work_of};
+ghost use Rattle.elab_rules.specs.Expressions.{type_of_specifiers as type_of_specifiers_of, declared_by};
+ghost use Rattle.elab_rules.specs.Statements.{Body};
+ghost use Rattle.elab_rules.specs.Classes.{plain_method as plain_method_of, special_method as special_method_of, method_of as method_of_of};
+ghost use Rattle.elab_types.specs.Syntax.{syntax_of, tree_at, trees_at};
+ghost use Rattle.elab_types.specs.Shown.{Says, declared_of};
+ghost use Rattle.class_members.specs.Shown.{header_of, storage_of};
+ghost use Rattle.class_table.specs.Written.{plain_header as plain_header_of, special_declared as special_declared_of, method_shown, at_hand, is_plain_kind};
+
+use class_members::{Header, Storage};
+use class_texts::headers::{header_in, name_of, special_header};
+use class_texts::kids::kid_at;
+use class_texts::started::{no_storage, started_from};
+use cpp_ast::{NodeId, Nodes};
+use cpp_lex::Tokens;
+use cpp_tree::{ElabFault, FuncKind, IllRule};
+use cpp_types::{At, Shape, Ty};
+use elab_ctx::{Env, Work};
+use elab_expr::declarators::{declared, type_of_specifiers};
+use elab_init::ill;
+use elab_types::Declared;
+use std::alloc::Global;
+
+/// A function of a class, and how many kids of its node stand before what is behind its declarator.
+#[derive(Drop)]
+pub struct Method {
+    pub header: Header,
+    pub count: usize,
+}
+
+/// The type that specifiers of the class give.
+pub fn type_written(
+    alloc: Global,
+    env: &Env,
+    tokens: &Tokens,
+    nodes: &Nodes,
+    id: NodeId,
+    work: &Work,
+) -> Result<Ty, ElabFault>
+    requires { id.0 < length nodes.now }
+    ensures { Says typ_of result (type_of_specifiers_of (lexemes_of tokens.now) (ctx_of env.now) (work_of work.now) (tree_at (syntax_of nodes.now) id)) }
+{
+    type_of_specifiers(alloc, env, &env.closures, tokens, nodes, id, work)
+}
+
+/// What a declarator of the class declares of a type.
+pub fn declared_written(
+    alloc: Global,
+    env: &Env,
+    tokens: &Tokens,
+    nodes: &Nodes,
+    at: At,
+    ty: &Ty,
+    id: NodeId,
+    work: &Work,
+) -> Result<Declared, ElabFault>
+    requires { id.0 < length nodes.now }
+    ensures { Says declared_of result (declared_by (lexemes_of tokens.now) (ctx_of env.now) (work_of work.now) at (typ_of ty.now) (tree_at (syntax_of nodes.now) id)) }
+{
+    declared(alloc, env, &env.closures, tokens, nodes, at, ty, id, work)
+}
+
+fn plain_header(
+    alloc: Global,
+    env: &Env,
+    tokens: &Tokens,
+    nodes: &Nodes,
+    class: u32,
+    at: At,
+    storage: Storage,
+    base: NodeId,
+    declarator: NodeId,
+    work: &Work,
+) -> Result<Header, ElabFault>
+    requires base { base.0 < length nodes.now }
+    requires declarator { declarator.0 < length nodes.now }
+    ensures { Says header_of result (plain_header_of (lexemes_of tokens.now) (ctx_of env.now) (work_of work.now) class at (storage_of storage) (tree_at (syntax_of nodes.now) base) (tree_at (syntax_of nodes.now) declarator)) }
+{
+    let ty = type_written(alloc, env, tokens, nodes, base, work)?;
+    let found = declared_written(alloc, env, tokens, nodes, at, &ty, declarator, work)?;
+    let name = name_of(tokens, found.name);
+    header_in(alloc, class, storage, FuncKind::Plain, at, name, found)
+}
+
+fn special_declared(
+    alloc: Global,
+    env: &Env,
+    tokens: &Tokens,
+    nodes: &Nodes,
+    class: u32,
+    class_name: &[u8],
+    at: At,
+    storage: Storage,
+    kind: FuncKind,
+    declarator: NodeId,
+    work: &Work,
+) -> Result<Header, ElabFault>
+    requires { declarator.0 < length nodes.now }
+    ensures { Says header_of result (special_declared_of (lexemes_of tokens.now) (ctx_of env.now) (work_of work.now) class class_name.now at (storage_of storage) kind (tree_at (syntax_of nodes.now) declarator)) }
+{
+    let void = Ty {
+        shape: Shape::Void,
+        is_const: false,
+        is_volatile: false,
+    };
+    let found = declared_written(alloc, env, tokens, nodes, at, &void, declarator, work)?;
+    let name = name_of(tokens, found.name);
+    special_header(alloc, class, class_name, at, storage, kind, found, name)
+}
+
+// A function from its type and its declarator, which stand from a place on.
+fn plain_method(
+    alloc: Global,
+    env: &Env,
+    tokens: &Tokens,
+    nodes: &Nodes,
+    class: u32,
+    at: At,
+    storage: Storage,
+    kids: &[NodeId],
+    start: usize,
+    work: &Work,
+) -> Result<Method, ElabFault>
+    requires { are_below (length nodes.now) kids.now ≡ true }
+    ensures method { (bodies : List Body) → Says (method_shown (syntax_of nodes.now) kids.now) result (plain_method_of (lexemes_of tokens.now) (at_hand (ctx_of env.now) (work_of work.now) bodies) class at (storage_of storage) (trees_at (syntax_of nodes.now) (drop start kids.now))) }
+    ensures within { IfOk result (λ m. m.count ≤ length kids.now) }
+{
+    let Some(base) = kid_at(kids, start) else {
+        return Err(ill(at, IllRule::OutOfProfile));
+    };
+    let Some(declarator) = kid_at(kids, start + 1) else {
+        return Err(ill(at, IllRule::OutOfProfile));
+    };
+    let header = plain_header(
+        alloc, env, tokens, nodes, class, at, storage, base, declarator, work,
+    )?;
+    Ok(Method {
+        header,
+        count: start + 2,
+    })
+}
+
+// A constructor or a destructor from its declarator, which stands at a place.
+fn special_method(
+    alloc: Global,
+    env: &Env,
+    tokens: &Tokens,
+    nodes: &Nodes,
+    class: u32,
+    class_name: &[u8],
+    at: At,
+    storage: Storage,
+    kind: FuncKind,
+    kids: &[NodeId],
+    start: usize,
+    work: &Work,
+) -> Result<Method, ElabFault>
+    requires { are_below (length nodes.now) kids.now ≡ true }
+    ensures method { (bodies : List Body) → Says (method_shown (syntax_of nodes.now) kids.now) result (special_method_of (lexemes_of tokens.now) (at_hand (ctx_of env.now) (work_of work.now) bodies) class class_name.now at (storage_of storage) kind (trees_at (syntax_of nodes.now) (drop start kids.now))) }
+    ensures within { IfOk result (λ m. m.count ≤ length kids.now) }
+{
+    let Some(declarator) = kid_at(kids, start) else {
+        return Err(ill(at, IllRule::OutOfProfile));
+    };
+    let header = special_declared(
+        alloc, env, tokens, nodes, class, class_name, at, storage, kind, declarator, work,
+    )?;
+    Ok(Method {
+        header,
+        count: start + 1,
+    })
+}
+
+// Whether it is neither a constructor nor a destructor.
+fn is_plain(kind: FuncKind) -> bool
+    ensures { result ≡ is_plain_kind kind }
+{
+    match kind {
+        FuncKind::Plain => true,
+        FuncKind::Constructor | FuncKind::Destructor | FuncKind::ClosureCall => false,
+    }
+}
+
+/// The function that a member with a body defines, or a constructor or destructor without one declares, by the kids of
+/// its node.
+pub fn method_of(
+    alloc: Global,
+    env: &Env,
+    tokens: &Tokens,
+    nodes: &Nodes,
+    class: u32,
+    class_name: &[u8],
+    at: At,
+    kind: FuncKind,
+    kids: &[NodeId],
+    work: &Work,
+) -> Result<Method, ElabFault>
+    requires { are_below (length nodes.now) kids.now ≡ true }
+    ensures method { (bodies : List Body) → Says (method_shown (syntax_of nodes.now) kids.now) result (method_of_of (lexemes_of tokens.now) (at_hand (ctx_of env.now) (work_of work.now) bodies) class class_name.now at kind (trees_at (syntax_of nodes.now) kids.now)) }
+    ensures within { IfOk result (λ m. m.count ≤ length kids.now) }
+{
+    let started = started_from(tokens, nodes, no_storage(), kids);
+    let storage = started.storage;
+    let start = started.count;
+    if is_plain(kind) {
+        return plain_method(
+            alloc, env, tokens, nodes, class, at, storage, kids, start, work,
+        );
+    }
+    special_method(
+        alloc, env, tokens, nodes, class, class_name, at, storage, kind, kids, start, work,
+    )
+}
