@@ -310,20 +310,6 @@ fn raised(alloc: Global, is_cancel: bool) -> Result<Vec<Event>, AllocError>
     ]?)
 }
 
-// A load and an output.
-fn kept(alloc: Global) -> Result<Vec<Event>, AllocError>
-    ensures { IfOk result (λ events. is_lawful events.items ≡ true) }
-{
-    Ok(vec![in alloc;
-        Event::Load {
-            addr: 65536,
-            size: 1,
-            volatile: false
-        },
-        Event::Out { byte: 1 },
-    ]?)
-}
-
 // A block that raises what does not cancel it.
 fn aborted(alloc: Global) -> Result<Vec<Event>, AllocError>
     ensures { IfOk result (λ events. is_lawful events.items ≡ true) }
@@ -394,7 +380,6 @@ pub fn events_of(alloc: Global, text: &str) -> Result<Vec<Event>, AllocError>
         "inner" => inner(alloc),
         "beside" => beside(alloc),
         "in-order" => in_order(alloc),
-        "kept" => kept(alloc),
         "raise-noexcept" => raised(alloc, false),
         "raise-cancel" => raised(alloc, true),
         "loaded" => loaded(alloc, number.parse::<u64>().unwrap_or(0), size),

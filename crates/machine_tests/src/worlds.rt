@@ -266,7 +266,15 @@ pub fn answer(alloc: Global, case: &str) -> Result<String, AllocError> {
 
 /// A list that is kept, gone on with, and gone back to: what comes next each time.
 pub fn kept(alloc: Global) -> Result<String, AllocError> {
-    let mut script = Script::new(events_of(alloc, "kept")?);
+    let events = vec![in alloc;
+        Event::Load {
+            addr: 65536,
+            size: 1,
+            volatile: false
+        },
+        Event::Out { byte: 1 },
+    ]?;
+    let mut script = Script::new(events);
     let kept = script.save()?;
     let copy = script.copy_saved(&kept)?;
     script.ready()?;
