@@ -1,0 +1,11 @@
+use Rattle.std.proofs.Common.{◌≡◌, List, drop, pos}
+use Rattle.cpp_lex.specs.Tokens.{lexemes_of}
+use Rattle.elab_ctx.specs.Ctx.{ctx_of, work_of}
+use Rattle.elab_rules.specs.Statements.{Body}
+use Rattle.elab_rules.specs.Globals.{enumerators_declared}
+use Rattle.elab_types.specs.Syntax.{syntax_of, trees_at}
+use Rattle.elab_decls.specs.Says.{counted}
+use Rattle.elab_decls.proofs.enums.enumerators_declared.Given as goal
+
+abbrev pub invariant-loop-id : goal.invariant-loop-id
+invariant-loop-id l = (bodies : List Body) → enumerators_declared (lexemes_of l.tokens) l.scoped l.owner (counted (ctx_of l.initial.env) (work_of l.work) bodies (pos 0)) (trees_at (syntax_of l.nodes) l.ids) ≡ enumerators_declared (lexemes_of l.tokens) l.scoped l.owner (counted (ctx_of l.env) (work_of l.work) bodies l.next) (trees_at (syntax_of l.nodes) (drop l.id-index l.ids))

@@ -1,0 +1,35 @@
+use Rattle.std.proofs.Common.{ℤ, SFits, ◌≡◌, ◌∙◌, rules, List, map, Err, Ok, ap, sym}
+use Rattle.std.proofs.lemmas.Int.{to_z-of_z}
+use Rattle.std.specs.Int.{w128}
+use Rattle.cpp_lex.specs.Tokens.{lexemes_of}
+use Rattle.cpp_tree.specs.Arena.{trees_of}
+use Rattle.elab_ctx.specs.Ctx.{Work, Closure, ctx_of, work_of, closure_of}
+use Rattle.elab_ctx.specs.Operands.{operand_in}
+use Rattle.elab_ctx.specs.Steps.{and_then, Typed}
+use Rattle.elab_ctx.specs.declared.env.Closure.{Closure as ClosureRec}
+use Rattle.elab_rules.specs.Expressions.{expression_with, expression_of, chosen_operand}
+use Rattle.elab_types.specs.Syntax.{syntax_of, tree_at}
+use Rattle.elab_decls.specs.Enums.{valued_shown, written_value}
+use Rattle.elab_decls.proofs.Steps.{says_refused}
+use Rattle.elab_decls.proofs.EnumSteps.{found, value_fails, value_is}
+use Rattle.elab_decls.proofs.enums.written_value.Goals as goal
+
+pub returns-in_err-value : goal.returns-in_err-value
+returns-in_err-value c at =
+    let is_error : c.from_residual-in_err-value.result ≡ Err c.in_err-value.field-0.0 = search rules in
+    let o : Typed = record { operand = operand_in (trees_of c.chosen_expression.new.work.nodes.items) c.in_ok-o.o; work = work_of c.chosen_expression.new.work } in
+    let typed : and_then (expression_of (lexemes_of c.args.tokens.now) (ctx_of c.args.env.now) (work_of c.args.work.now) (tree_at (syntax_of c.args.nodes.now) c.args.id)) (chosen_operand (ctx_of c.args.env.now)) ≡ Ok o =
+    ap (λ (z : List Closure). and_then (expression_with (lexemes_of c.args.tokens.now) (ctx_of c.args.env.now) z (work_of c.args.work.now) (tree_at (syntax_of c.args.nodes.now) c.args.id)) (chosen_operand (ctx_of c.args.env.now))) (ap (λ (z : List ClosureRec). map closure_of z) (sym c.deref.ensures.value))
+    ∙ ap (λ (z : Work). and_then (expression_with (lexemes_of c.args.tokens.now) (ctx_of c.args.env.now) (map closure_of c.deref.result.now) z (tree_at (syntax_of c.args.nodes.now) c.args.id)) (chosen_operand (ctx_of c.args.env.now))) (sym c.in_ok-scratch.ensures) ∙ c.in_ok-o.ensures.is in
+    says_refused valued_shown c.from_residual-in_err-value.result c.in_err-value.field-0.0 (written_value (lexemes_of c.args.tokens.now) (ctx_of c.args.env.now) (work_of c.args.work.now) at (tree_at (syntax_of c.args.nodes.now) c.args.id)) is_error
+    (value_fails (lexemes_of c.args.tokens.now) (ctx_of c.args.env.now) (work_of c.args.work.now) at (tree_at (syntax_of c.args.nodes.now) c.args.id) o typed c.in_err-value.field-0.0 (c.in_err-value.ensures at))
+
+pub returns : goal.returns
+returns c at =
+    let o : Typed = record { operand = operand_in (trees_of c.chosen_expression.new.work.nodes.items) c.in_ok-o.o; work = work_of c.chosen_expression.new.work } in
+    let typed : and_then (expression_of (lexemes_of c.args.tokens.now) (ctx_of c.args.env.now) (work_of c.args.work.now) (tree_at (syntax_of c.args.nodes.now) c.args.id)) (chosen_operand (ctx_of c.args.env.now)) ≡ Ok o =
+    ap (λ (z : List Closure). and_then (expression_with (lexemes_of c.args.tokens.now) (ctx_of c.args.env.now) z (work_of c.args.work.now) (tree_at (syntax_of c.args.nodes.now) c.args.id)) (chosen_operand (ctx_of c.args.env.now))) (ap (λ (z : List ClosureRec). map closure_of z) (sym c.deref.ensures.value))
+    ∙ ap (λ (z : Work). and_then (expression_with (lexemes_of c.args.tokens.now) (ctx_of c.args.env.now) (map closure_of c.deref.result.now) z (tree_at (syntax_of c.args.nodes.now) c.args.id)) (chosen_operand (ctx_of c.args.env.now))) (sym c.in_ok-scratch.ensures) ∙ c.in_ok-o.ensures.is in
+    let fits : SFits w128 c.in_ok-value.value = search rules in
+    value_is (lexemes_of c.args.tokens.now) (ctx_of c.args.env.now) (work_of c.args.work.now) at (tree_at (syntax_of c.args.nodes.now) c.args.id) o typed c.in_ok-value.value (c.in_ok-value.ensures at)
+    ∙ ap (λ (n : ℤ). found n c.in_ok-o.o.at) (sym (to_z-of_z w128 c.in_ok-value.value fits))

@@ -1,0 +1,8 @@
+use Rattle.std.proofs.Common.{◌≡◌, ◌++◌, drop, map}
+use Rattle.cpp_tree.specs.Units.{param_of}
+use Rattle.elab_rules.specs.Functions.{param_of as declared_param}
+use Rattle.elab_types.specs.Shown.{parameter_of}
+use Rattle.elab_decls.proofs.functions.params_from.Given as goal
+
+abbrev pub invariant-loop-param : goal.invariant-loop-param
+invariant-loop-param l = map param_of l.list.items ++ map declared_param (map parameter_of (drop l.param-index l.params)) ≡ map declared_param (map parameter_of l.params)

@@ -1,0 +1,6 @@
+use Rattle.std.proofs.Common.{◌≡◌, map, take}
+use Rattle.cpp_tree.specs.Units.{cell_of}
+use Rattle.elab_decls.proofs.scratch.copy_cells.Given as goal
+
+abbrev pub invariant-loop-cell : goal.invariant-loop-cell
+invariant-loop-cell l = map cell_of l.copies.items ≡ map cell_of (take l.cell-index l.cells)

@@ -1,0 +1,6 @@
+use Rattle.std.proofs.Common.{◌≡◌, map, take}
+use Rattle.cpp_tree.specs.Units.{global_of}
+use Rattle.elab_decls.proofs.scratch.copy_globals.Given as goal
+
+abbrev pub invariant-loop-global : goal.invariant-loop-global
+invariant-loop-global l = map global_of l.copies.items ≡ map global_of (take l.global-index l.globals)
