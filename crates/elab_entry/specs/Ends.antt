@@ -1,0 +1,28 @@
+-- The end of a body, part by part.
+use Rattle.std.specs.Prelude.{Bool, true, false}
+use Rattle.tx_ints.specs.declared.kinds.IntKind.TheVariants.{ULong}
+use Rattle.cpp_types.specs.Typ.{Typ, ptr}
+use Rattle.cpp_types.specs.declared.classes.At.{At}
+use Rattle.cpp_types.specs.declared.ranks.Cat.TheVariants.{Lvalue}
+use Rattle.cpp_tree.specs.declared.kinds.TKind.{TKind}
+use Rattle.cpp_tree.specs.declared.kinds.TKind.TheVariants as forms
+use Rattle.cpp_tree.specs.Notation.{plain}
+use Rattle.cpp_tree.specs.Trees.{Tree, node, Trees, none, one, two}
+use Rattle.elab_ctx.specs.Ctx.{Ctx}
+use Rattle.elab_rules.specs.Functions.{void_at, zero_result, result_zeroed}
+
+abbrev pub is_literal : TKind → Bool
+is_literal (forms.Literal w) = true
+is_literal kind = false
+
+-- the object that a call gives, at the address in place 0 of the frame
+abbrev pub address_of : At → Typ → Tree
+address_of at t = void_at (forms.Load ULong false) at (one (node (forms.Local 0) (plain (ptr t)) Lvalue at none))
+
+-- the end of a body that gives an object
+abbrev pub object_end : Ctx → Typ → At → Trees
+object_end c t at = two (result_zeroed c t at) (void_at forms.Return at none)
+
+-- the end of a body that gives a value
+abbrev pub value_end : Typ → At → Trees
+value_end t at = one (void_at forms.Return at (one (zero_result t at)))

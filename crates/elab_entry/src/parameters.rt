@@ -1,0 +1,90 @@
+// Parameters in the scope of a function (C++14 8.4.1, 3.3.3).
+
+ghost use Rattle.std.specs.Prelude.{◌≡◌, map, OnOk};
+ghost use Rattle.cpp_types.specs.Typ.{typ_of};
+ghost use Rattle.cpp_lex.specs.Tokens.{lexemes_of};
+ghost use Rattle.elab_rules.specs.Functions.{unnamed_parameter, with_parameters as with_parameters_of};
+ghost use Rattle.elab_types.specs.Shown.{parameter_of};
+ghost use Rattle.elab_scopes.specs.States.{state_of, made};
+ghost use Rattle.elab_scopes.specs.Says.{Changes};
+ghost use Rattle.elab_entry.specs.Parameters.{named_parameter, one_parameter};
+
+use crate::items::word_item;
+use cpp_lex::Tokens;
+use cpp_tree::{ElabFault, IllRule};
+use cpp_types::{Ty, copy};
+use elab_ctx::{Variable, add_item};
+use elab_scopes::State;
+use elab_scopes::scopes::declare;
+use elab_types::Parameter;
+use elab_types::specifiers::ill;
+use elab_types::syntax::spelling;
+use elab_types::types::is_complete_type;
+use std::alloc::{AllocError, Global};
+
+// A parameter without a name.
+fn add_unnamed(alloc: Global, st: &mut State, ty: Ty) -> Result<(), AllocError>
+    ensures is { OnOk result (state_of st.new ≡ unnamed_parameter (state_of st.old) (typ_of ty)) }
+    ensures nodes { made st.new ≡ made st.old }
+{
+    let item = word_item(alloc, &ty)?;
+    let place = add_item(&mut st.work, item)?;
+    st.env.variables.push(Variable {
+        ty: Some(ty),
+        place,
+    })?;
+    Ok(())
+}
+
+// A parameter with the name that a token spells.
+fn add_named(
+    alloc: Global,
+    tokens: &Tokens,
+    st: &mut State,
+    param: &Parameter,
+    ty: Ty,
+    token: u32,
+) -> Result<(), ElabFault>
+    ensures { Changes st.old st.new result (named_parameter (lexemes_of tokens.now) (state_of st.old) param.now.at (typ_of ty) token) }
+{
+    let item = word_item(alloc, &ty)?;
+    let place = add_item(&mut st.work, item)?;
+    let name = spelling(tokens, token);
+    declare(&mut st.env, param.at, name, Some(ty), place)
+}
+
+fn with_parameter(
+    alloc: Global,
+    tokens: &Tokens,
+    st: &mut State,
+    param: &Parameter,
+) -> Result<(), ElabFault>
+    ensures { Changes st.old st.new result (one_parameter (lexemes_of tokens.now) (state_of st.old) (parameter_of param.now)) }
+{
+    if !is_complete_type(&st.env, &param.ty) {
+        return Err(ill(param.at, IllRule::Incomplete));
+    }
+    let ty = copy(alloc, &param.ty)?;
+    match param.name {
+        Some(token) => add_named(alloc, tokens, st, param, ty, token),
+        None => {
+            add_unnamed(alloc, st, ty)?;
+            Ok(())
+        }
+    }
+}
+
+/// The parameters of a function, each with its item of the frame.
+pub fn with_parameters(
+    alloc: Global,
+    tokens: &Tokens,
+    st: &mut State,
+    params: &[Parameter],
+) -> Result<(), ElabFault>
+    ensures { Changes st.old st.new result (with_parameters_of (lexemes_of tokens.now) (state_of st.old) (map parameter_of params.now)) }
+{
+    for param in params {
+        with_parameter(alloc, tokens, st, param)?;
+    }
+    Ok(())
+}
