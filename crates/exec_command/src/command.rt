@@ -19,8 +19,8 @@ use tx_words::{Exec, PickerName};
 /// The most objects that a call takes.
 const MOST_OBJECTS: usize = 16;
 
-// Answers where the schedule was not read.
-fn halt_schedule<H: Host>(
+/// Answers where the schedule was not read.
+pub fn halt_schedule<H: Host>(
     alloc: Global,
     host: &mut H,
     picker: &PickerName,

@@ -82,8 +82,8 @@ fn with_image(
     }
 }
 
-// The objects are linked.
-fn with_objects(
+/// What is decided on objects: they are linked, the image is verified, and it is run.
+pub fn with_objects(
     alloc: Global,
     options: &RunOptions,
     objects: &[Object],
