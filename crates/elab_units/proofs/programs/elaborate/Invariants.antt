@@ -1,0 +1,6 @@
+use Rattle.std.proofs.Common.{◌≡◌, length}
+use Rattle.elab_units.specs.Readable.{AreReadable}
+use Rattle.elab_units.proofs.programs.elaborate.Given as goal
+
+abbrev pub invariant-loop-unit : goal.invariant-loop-unit
+invariant-loop-unit l = record { long : length l.trees.items ≡ l.unit-index; readable : AreReadable l.trees.items }

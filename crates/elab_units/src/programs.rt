@@ -1,0 +1,105 @@
+// The typed program of some units (C++14 2.1, 3.5): each unit has its own names; classes keep their numbers through all
+// of them.
+
+ghost use Rattle.std.specs.Prelude.{◌≡◌, ◌++◌, ◌∷◌, [], length, true, IfOk, OnOk};
+ghost use Rattle.cpp_ast.specs.Orders.{are_below};
+ghost use Rattle.cpp_types.specs.Class.{InOrder, classes_of};
+ghost use Rattle.elab_units.specs.Readable.{IsReadable, AreReadable};
+
+use crate::beginning::{Classes, no_classes, start_behind};
+use crate::declarations::all_declared;
+use crate::shown::{Made, unit_shown};
+use cpp_ast::Unit;
+use cpp_tree::{ElabFault, Program, UnitTree};
+use elab_members::with_implied;
+use elab_scopes::State;
+use std::alloc::{AllocError, Global};
+use unit_syntax::whole_unit;
+
+/// A unit, and the classes of all units behind it.
+#[derive(Drop)]
+struct Behind {
+    unit: UnitTree,
+    known: Classes,
+}
+
+// What is kept of a unit.
+fn unit_made(
+    alloc: Global,
+    unit: &Unit,
+    whole: &unit_syntax::WholeUnit,
+    st: State,
+) -> Result<Behind, ElabFault>
+    requires { are_below (length whole.now.nodes) whole.now.decls.items ≡ true }
+    ensures { IfOk result (λ b. IsReadable b.unit) }
+{
+    let env = st.env;
+    let work = st.work;
+    let made = Made {
+        types: env.types,
+        funcs: env.funcs,
+        globals: work.globals,
+        bodies: st.bodies,
+    };
+    let known = Classes {
+        classes: env.classes,
+        traits: env.traits,
+        slots: env.slots,
+    };
+    let unit = unit_shown(
+        alloc,
+        &unit.tokens,
+        &whole.nodes,
+        &whole.decls,
+        made,
+        &known.classes,
+    )?;
+    Ok(Behind { unit, known })
+}
+
+// A unit behind others: its declarations, and the bodies of the implicit members to which they refer.
+fn unit_behind(alloc: Global, source: u32, unit: &Unit, known: Classes) -> Result<Behind, ElabFault>
+    ensures { IfOk result (λ b. IsReadable b.unit) }
+{
+    let whole = whole_unit(alloc, unit)?;
+    let mut st = start_behind(alloc, source, known)?;
+    all_declared(alloc, &unit.tokens, &whole.nodes, &mut st, &whole.decls)?;
+    with_implied(alloc, &mut st)?;
+    unit_made(alloc, unit, &whole, st)
+}
+
+fn keep_unit(units: &mut Vec<UnitTree>, unit: UnitTree) -> Result<(), AllocError>
+    ensures { OnOk result (units.new.items ≡ units.old.items ++ unit ∷ []) }
+{
+    units.push(unit)?;
+    Ok(())
+}
+
+/// The typed program of units, in their order, or the first fault: each unit as `parse_unit` answers it, with its place
+/// in the list as its source.
+///
+/// C++14 clauses 3 to 15, cut to the profile, and the TS. A fault names its place and the rule that is broken there; it
+/// stands in the first declaration, member, initialiser or statement in the order of the text that has one. Want of
+/// memory is `Memory`. The classes are in order, so that their objects have sizes, and the check for safety can read each
+/// unit.
+pub fn elaborate(alloc: Global, units: &[Unit]) -> Result<Program, ElabFault>
+    ensures many { IfOk result (λ p. length p.units.items ≡ length units.now) }
+    ensures readable { IfOk result (λ p. AreReadable p.units.items) }
+    ensures in_order { IfOk result (λ p. InOrder (classes_of p.classes.items)) }
+{
+    let mut known = no_classes(alloc);
+    let mut trees = Vec::new(alloc);
+    for unit in units {
+        let Ok(source) = u32::try_from(trees.len()) else {
+            return Err(ElabFault::Memory);
+        };
+        let behind = unit_behind(alloc, source, unit, known)?;
+        keep_unit(&mut trees, behind.unit)?;
+        known = behind.known;
+    }
+    Ok(Program {
+        units: trees,
+        classes: known.classes,
+        slots: known.slots,
+    })
+}
