@@ -1,0 +1,18 @@
+// Places in lists of nodes.
+
+ghost use Rattle.std.specs.Prelude.{◌<◌, length, OnOk};
+ghost use Rattle.cpp_tree.specs.Arena.{trees_of};
+
+use cpp_tree::{TNode, TNodeId};
+use std::alloc::AllocError;
+
+/// Tests that a node with an id stands in a list. Each id that is asked for here was made in that list; one that does
+/// not stand there counts as want of memory.
+pub fn stands(nodes: &Vec<TNode>, id: TNodeId) -> Result<(), AllocError>
+    ensures { OnOk result (id.0 < length (trees_of nodes.now.items)) }
+{
+    if id.0 as usize >= nodes.len() {
+        return Err(AllocError);
+    }
+    Ok(())
+}

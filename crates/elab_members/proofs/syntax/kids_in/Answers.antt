@@ -1,0 +1,8 @@
+use Rattle.std.proofs.Common.{◌≡◌, true, List, length, subst, sym}
+use Rattle.cpp_ast.specs.Orders.{are_below}
+use Rattle.cpp_ast.specs.declared.arena.NodeId.{NodeId}
+use Rattle.elab_types.proofs.KidLists.{wider}
+use Rattle.elab_members.proofs.syntax.kids_in.Goals as goal
+
+pub returns : goal.returns
+returns c = subst (λ (z : List NodeId). are_below (length c.args.nodes.now) z ≡ true) (sym c.deref.ensures.value) (wider c.args.id.0 (length c.args.nodes.now) c.node_at-node.result.now.kids.items c.requires c.node_at-node.ensures.lower)
