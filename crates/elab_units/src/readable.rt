@@ -1,6 +1,6 @@
 // What the check for safety asks of a unit: kids stand before their nodes, and bodies in the list.
 
-ghost use Rattle.std.specs.Prelude.{◌≡◌, ◌<◌, ◌↔◌, IsTrue, length, true, IfOk};
+ghost use Rattle.std.specs.Prelude.{◌≡◌, ◌<◌, ◌↔◌, IsTrue, true, IfOk};
 ghost use Rattle.cpp_tree.specs.Arena.{are_below, IsOrdered};
 ghost use Rattle.elab_units.specs.Readable.{HasRoot, HaveRoots, IsReadable, ordered_from};
 

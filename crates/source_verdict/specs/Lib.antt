@@ -1,0 +1,4 @@
+pub mod Front
+pub mod Places
+pub mod Names
+pub mod Verdict

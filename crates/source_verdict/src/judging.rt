@@ -1,0 +1,94 @@
+//! The verdict.
+
+ghost use Rattle.std.specs.Prelude.{◌≡◌, map, IfOk, string_bytes};
+ghost use Rattle.cpp_tree.specs.WellFormed.{WellFormed};
+ghost use Rattle.source_verdict.specs.Front.{AreRead};
+ghost use Rattle.source_verdict.specs.Verdict.{Says};
+
+use crate::front::read_units;
+use crate::refusals::{refuse_fault, refuse_front, refuse_unsafe};
+use cpp_ast::Unit;
+use cpp_tree::Program;
+use elab_units::elaborate;
+use std::alloc::{AllocError, Global};
+use tree_check::is_well_formed;
+use tx_answers::Decision;
+use tx_safety::laws::readable;
+use tx_safety::{SafeProgram, SafetyFault, check};
+
+/// What becomes of the texts of sources.
+#[derive(Drop)]
+pub enum Verdict {
+    /// Their typed program, which is safe.
+    Accepted(SafeProgram),
+    /// Their first refusal.
+    Refused(Decision),
+}
+
+// A program that is well formed is checked for safety.
+fn checked(
+    alloc: Global,
+    names: &[String],
+    texts: &[Vec<u8>],
+    units: &[Unit],
+    program: Program,
+) -> Result<Verdict, AllocError>
+    requires read { AreRead 0 (map (λ text. text.items) texts.now) units.now }
+    requires well_formed { WellFormed program }
+    ensures { IfOk result (Says (map string_bytes names.now) (map (λ text. text.items) texts.now)) }
+{
+    let _units = units;
+    readable();
+    match check(alloc, program) {
+        Ok(safe) => Ok(Verdict::Accepted(safe)),
+        Err(SafetyFault::Unsafe { at, reason }) => Ok(Verdict::Refused(refuse_unsafe(
+            alloc, names, texts, at, reason,
+        )?)),
+        Err(SafetyFault::Memory) => Err(AllocError),
+    }
+}
+
+// The program of the units is tested for being well formed, which it always is, and checked.
+fn with_program(
+    alloc: Global,
+    names: &[String],
+    texts: &[Vec<u8>],
+    units: &[Unit],
+    program: Program,
+) -> Result<Verdict, AllocError>
+    requires { AreRead 0 (map (λ text. text.items) texts.now) units.now }
+    ensures { IfOk result (Says (map string_bytes names.now) (map (λ text. text.items) texts.now)) }
+{
+    if is_well_formed(alloc, &program)? {
+        checked(alloc, names, texts, units, program)
+    } else {
+        Err(AllocError)
+    }
+}
+
+// The units get their typed program.
+fn with_units(
+    alloc: Global,
+    names: &[String],
+    texts: &[Vec<u8>],
+    units: &[Unit],
+) -> Result<Verdict, AllocError>
+    requires { AreRead 0 (map (λ text. text.items) texts.now) units.now }
+    ensures { IfOk result (Says (map string_bytes names.now) (map (λ text. text.items) texts.now)) }
+{
+    match elaborate(alloc, units) {
+        Ok(program) => with_program(alloc, names, texts, units, program),
+        Err(fault) => Ok(Verdict::Refused(refuse_fault(alloc, names, texts, fault)?)),
+    }
+}
+
+/// The verdict on the texts of sources, whose files have these names: each text in order is cut to tokens and read as a unit, then the units get their typed
+/// program, then it is checked for safety. The first of these steps that refuses names its place.
+pub fn verdict_of(alloc: Global, names: &[String], texts: &[Vec<u8>]) -> Result<Verdict, AllocError>
+    ensures { IfOk result (Says (map string_bytes names.now) (map (λ text. text.items) texts.now)) }
+{
+    match read_units(alloc, texts) {
+        Ok(units) => with_units(alloc, names, texts, units.as_slice()),
+        Err(unread) => Ok(Verdict::Refused(refuse_front(alloc, names, texts, unread)?)),
+    }
+}

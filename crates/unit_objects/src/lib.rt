@@ -1,0 +1,6 @@
+//! The objects of the units of a safe program.
+#![tactic(auto)]
+
+mod compiling;
+
+pub use compiling::{unit_object, unit_objects};
