@@ -1,0 +1,97 @@
+-- What `run`, `selftest` and `build` come to.
+use Rattle.std.specs.Prelude.{◌≡◌, ◌≤◌, ◌<◌, ℕ, List, [], ◌∷◌, ◌++◌, take, length, Option, None, codes, map, string_bytes}
+use Rattle.std.specs.Option.{option_map}
+use Rattle.command_io.specs.Reads.{Wanted, wanted, wanted_each, wanted_given, bytes_of}
+use Rattle.command_io.specs.Writes.{Written, to_file}
+use Rattle.command_io.specs.declared.files.FileKind.TheVariants.{Source, Input, Schedule}
+use Rattle.cpp_tree.specs.declared.program.Program.{Program}
+use Rattle.exec_command.specs.Exec.{schedule_name, bad_schedule_line}
+use Rattle.exec_command.specs.Files.{schedule_file}
+use Rattle.object_bytes.specs.Spelling.{object_bytes}
+use Rattle.prog_gen.specs.Program.{program as program_text}
+use Rattle.run_command.specs.Runs.{DecidesTexts}
+use Rattle.schedules.specs.Text.{Spells as Says, IsFirstBad, most_entries}
+use Rattle.source_verdict.specs.Verdict.{Accepts, RefusesTexts}
+use Rattle.tx_answers.specs.Ends.{Ends, Refuses, bare}
+use Rattle.tx_answers.specs.declared.answer.Answer.{Answer}
+use Rattle.tx_answers.specs.declared.answer.Status.TheVariants.{Done, Limit, BadSchedule}
+use Rattle.tx_code.specs.Objects.{ObjectView}
+use Rattle.tx_code.specs.WellFormed.{IsObject}
+use Rattle.tx_host.specs.Told.{HostState}
+use Rattle.tx_words.specs.declared.command.Run.{Run}
+use Rattle.tx_words.specs.declared.command.RunOptions.{RunOptions}
+use Rattle.tx_words.specs.declared.command.PickerName.TheVariants.{Round}
+use Rattle.tx_words.specs.declared.command.PolicyName.TheVariants.{Older}
+
+-- ---- run
+
+abbrev pub source_files : Run → List (List ℕ)
+source_files r = map string_bytes r.sources.items
+
+abbrev pub input_file : Run → Option (List ℕ)
+input_file r = option_map string_bytes r.options.input_file
+
+-- the sources in order, then the input, then the schedule
+abbrev pub wants_of : Run → List Wanted
+wants_of r = wanted_each Source (source_files r) ++ (wanted_given Input (input_file r) ++ wanted_given Schedule (schedule_file r.options.picker))
+
+-- These are the texts of the files. A file that is not named has none, and stands for an empty text.
+pub record AreTexts (r : Run) (texts sources : List (List ℕ)) (input schedule : List ℕ) : Type 0 where
+  pub texts_are : texts ≡ sources ++ (bytes_of (input_file r) input ++ bytes_of (schedule_file r.options.picker) schedule)
+  pub many : length sources ≡ length (source_files r)
+  pub no_input : input_file r ≡ None → input ≡ []
+  pub no_schedule : schedule_file r.options.picker ≡ None → schedule ≡ []
+
+-- the schedule is read: a run looks at its first entries alone
+pub data Decides (r : Run) (sources : List (List ℕ)) (input schedule : List ℕ) (a : Answer) (writes : List Written) : Type 0 where
+  bad_schedule : (line : ℕ) → IsFirstBad schedule line → Refuses 10 (bad_schedule_line (schedule_name r.options.picker) line) BadSchedule a writes → Decides r sources input schedule a writes
+  scheduled : (entries : List ℕ) → Says schedule entries → DecidesTexts r.options (source_files r) sources input (take most_entries entries) a writes → Decides r sources input schedule a writes
+
+pub record DecidesOn (r : Run) (texts : List (List ℕ)) (a : Answer) (writes : List Written) : Type 0 where
+  pub sources : List (List ℕ)
+  pub input : List ℕ
+  pub schedule : List ℕ
+  pub texts_are : AreTexts r texts sources input schedule
+  pub decides : Decides r sources input schedule a writes
+
+abbrev pub TooMany : List (List ℕ) → Answer → List Written → Type 0
+TooMany texts a writes = Refuses 7 (codes "Limit Sources") Limit a writes
+
+abbrev pub no_files : List Wanted
+no_files = []
+
+-- more than 16 sources are refused before any file is read
+pub data Runs (r : Run) (old new : HostState) (a : Answer) : Type 0 where
+  too_many : 16 < length (source_files r) → Ends no_files TooMany old new a → Runs r old new a
+  runs : length (source_files r) ≤ 16 → Ends (wants_of r) (DecidesOn r) old new a → Runs r old new a
+
+-- ---- build
+
+-- the bytes of some object are written to the file. Which object the compiler makes of a unit is not told yet.
+pub record PutsSome (to : List ℕ) (a : Answer) (writes : List Written) : Type 0 where
+  pub object : ObjectView
+  pub is_object : IsObject object
+  pub answer : a ≡ bare Done
+  pub writes_are : writes ≡ to_file to (object_bytes object) ∷ []
+
+-- the first refusal of the text; or it is a safe program, which is compiled
+pub data DecidesBuild (name to text : List ℕ) (a : Answer) (writes : List Written) : Type 0 where
+  refuses : RefusesTexts (name ∷ []) (text ∷ []) a writes → DecidesBuild name to text a writes
+  builds : (p : Program) → Accepts (text ∷ []) p → PutsSome to a writes → DecidesBuild name to text a writes
+
+-- ---- selftest
+
+-- the options that a run has where none is given
+pub record AreDefaults (o : RunOptions) : Type 0 where
+  pub steps : o.steps ≡ 4000000
+  pub input : o.input_file ≡ None
+  pub picker : o.picker ≡ Round 1
+  pub policy : o.policy ≡ Older
+  pub order : o.order_file ≡ None
+  pub recorded : o.record_file ≡ None
+
+-- the generated program is run, with the empty input
+pub record DecidesSelftest (n : ℕ) (texts : List (List ℕ)) (a : Answer) (writes : List Written) : Type 0 where
+  pub options : RunOptions
+  pub are_defaults : AreDefaults options
+  pub decides : DecidesTexts options (codes "selftest" ∷ []) (program_text n ∷ []) [] [] a writes

@@ -1,0 +1,11 @@
+//! The commands that compile sources: `run`, which runs what they are compiled to, `selftest`, which runs a generated program, and `build`, which writes an object.
+#![tactic(auto)]
+
+mod building;
+mod running;
+mod selftesting;
+mod steps;
+
+pub use building::build;
+pub use running::run;
+pub use selftesting::selftest;
