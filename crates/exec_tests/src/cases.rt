@@ -1,5 +1,6 @@
 // Cases of commands: the words, and behind bars the files of the host, `fails=2` for a host whose call number 2 fails, and what
-// is shown beside the status and what was written: a file, `number`, `ran` or `refusal`.
+// is shown beside the status and what was written: a file, `number`, `ran`, `counts` or `refusal`. With `end` the error output is
+// shown as far as its first line, which says how a run ended: the numbers behind it are those of the code that was made.
 
 use case_texts::{bytes_of, words_of};
 use std::alloc::{AllocError, Global};
@@ -45,6 +46,31 @@ fn read_case(alloc: Global, line: &str) -> Result<Case, AllocError> {
     Ok(case)
 }
 
+// Whether a case asks for how a run ended alone.
+fn asks_end(case: &Case) -> bool {
+    for name in &case.shown {
+        if name.as_str() == "end" {
+            return true;
+        }
+    }
+    false
+}
+
+// How many bytes of the error output are shown: those of its first line, or all.
+fn shown_length(err: &[u8], ends: bool) -> usize {
+    for (index, byte) in err.iter().enumerate() {
+        if ends && *byte == b'\n' {
+            return index + 1;
+        }
+    }
+    err.len()
+}
+
+// The error output, as far as it is shown.
+fn shown_lines(err: &[u8], ends: bool) -> &[u8] {
+    err.get(..shown_length(err, ends)).unwrap_or(err)
+}
+
 // How a command ended, and what it wrote.
 fn ended(alloc: Global, answer: &Answer, out: &[u8], err: &[u8]) -> Result<String, AllocError> {
     let status = answer.status;
@@ -64,6 +90,14 @@ fn ran(alloc: Global, answer: &Answer) -> Result<String, AllocError> {
             ran.order.as_slice(),
             ran.picked.len()
         ),
+        None => format!(in alloc; "ran none"),
+    }
+}
+
+// Whether turns waited, and whether a transaction was rolled back.
+fn counts(alloc: Global, answer: &Answer) -> Result<String, AllocError> {
+    match &answer.ran {
+        Some(ran) => format!(in alloc; "waited {} rolled {}", ran.waited > 0, ran.rolled > 0),
         None => format!(in alloc; "ran none"),
     }
 }
@@ -92,6 +126,7 @@ fn shown(
     match name {
         "number" => format!(in alloc; "number {}", answer.status.number()),
         "ran" => ran(alloc, answer),
+        "counts" => counts(alloc, answer),
         "refusal" => refusal(alloc, answer),
         _ => match file {
             Some(bytes) => format!(in alloc; "{name} {}", bytes.escape_ascii()),
@@ -102,24 +137,30 @@ fn shown(
 
 // What comes of a case over a host whose calls do not fail.
 fn steady(alloc: Global, case: Case) -> Result<String, AllocError> {
+    let ends = asks_end(&case);
     let mut host = SteadyHost::new(alloc, case.files)?;
     let answer = txcc(alloc, &case.words, &mut host);
-    let mut line = ended(alloc, &answer, host.out(), host.err())?;
+    let mut line = ended(alloc, &answer, host.out(), shown_lines(host.err(), ends))?;
     for name in &case.shown {
-        let text = shown(alloc, &answer, name, host.file(name))?;
-        line.push_str(&format!(in alloc; " {text}")?)?;
+        if name.as_str() != "end" {
+            let text = shown(alloc, &answer, name, host.file(name))?;
+            line.push_str(&format!(in alloc; " {text}")?)?;
+        }
     }
     Ok(line)
 }
 
 // What comes of a case over a host some of whose calls fail.
 fn failing(alloc: Global, case: Case) -> Result<String, AllocError> {
+    let ends = asks_end(&case);
     let mut host = MemHost::new(alloc, case.files, case.fails)?;
     let answer = txcc(alloc, &case.words, &mut host);
-    let mut line = ended(alloc, &answer, host.out(), host.err())?;
+    let mut line = ended(alloc, &answer, host.out(), shown_lines(host.err(), ends))?;
     for name in &case.shown {
-        let text = shown(alloc, &answer, name, host.file(name))?;
-        line.push_str(&format!(in alloc; " {text}")?)?;
+        if name.as_str() != "end" {
+            let text = shown(alloc, &answer, name, host.file(name))?;
+            line.push_str(&format!(in alloc; " {text}")?)?;
+        }
     }
     Ok(line)
 }

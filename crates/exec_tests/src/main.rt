@@ -7,7 +7,6 @@ mod reports;
 use case_texts::is_case;
 use std::alloc::{AllocError, Global};
 use std::io;
-use txcc_core::{one_replay, one_tree};
 
 // The answer to a case.
 fn answer(alloc: Global, case: &str) -> Result<String, AllocError> {
@@ -31,8 +30,6 @@ fn answers(alloc: Global, text: &str) -> Result<String, AllocError> {
 }
 
 fn main(rt: HostRuntime) -> io::Result<()> {
-    one_tree();
-    one_replay();
     let text = io::read_to_string(rt.alloc(), rt.reader())?;
     rt.print(answers(rt.alloc(), &text)?)
 }

@@ -15,9 +15,9 @@ has_slot Clash h = tt
 has_slot (File name) h = tt
 
 pub can_do : (words : List (List ℕ)) (c : Command) → Says words c → CanDo c
-can_do words (command.Run r) h = tt
+can_do words (command.Run r) h = record { steps = h.says.1.options.bound; slot = has_slot r.options.picker h.says.1.options.picker.bounds }
 can_do words (command.Check c) h = tt
-can_do words (command.Selftest n) h = tt
+can_do words (command.Selftest n) h = (h.says.1.least, h.says.1.most)
 can_do words (command.Build b) h = tt
 can_do words (command.Exec e) h = record { steps = h.says.1.options.bound; slot = has_slot e.options.picker h.says.1.options.picker.bounds }
 can_do words (command.Replay r) h = tt

@@ -1,9 +1,1 @@
-pub mod Syntax
-pub mod Grammar
-pub mod Found
-pub mod SourceRun
-pub mod Below
-pub mod Code
-pub mod Machine
 pub mod TopCall
-pub mod FirstPath

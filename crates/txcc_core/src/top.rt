@@ -2,18 +2,20 @@
 
 ghost use Rattle.std.specs.Prelude.{◌≡◌, ◌≤◌, [], map, length, IfOk, codes, string_bytes, ℕ, List};
 ghost use Rattle.command_io.specs.Writes.{written_of};
+ghost use Rattle.exec_command.specs.Exec.{CanRun};
 ghost use Rattle.tx_answers.specs.Ends.{Ends, bare};
-ghost use Rattle.txcc_core.specs.TopCall.{Answers, CanDo, Does, Runs, DecidesUsage, no_files};
+ghost use Rattle.txcc_core.specs.TopCall.{Answers, CanDo, Does, DecidesUsage, no_files, RunsUnfolded, BuildsUnfolded};
 
-use crate::run::{form_of, run_file};
+use check_command::check;
 use command_io::Write;
 use exec_command::exec;
 use explain_command::explain;
+use run_command::{build, run, selftest};
 use std::alloc::{AllocError, Global};
 use text_commands::{asm, dis};
 use tx_answers::{Answer, Decision, Status, bare, settle};
 use tx_host::Host;
-use tx_words::{Command, Run, read};
+use tx_words::{Build, Command, Run, read};
 
 // What is written where the words say no command.
 fn usage_lines(alloc: Global) -> Result<Decision, AllocError>
@@ -34,14 +36,30 @@ fn usage<H: Host>(alloc: Global, host: &mut H) -> Answer
     settle(host, usage_lines(alloc))
 }
 
-// Runs the file of the command on its first path.
-fn run<H: Host>(alloc: Global, run: &Run, host: &mut H) -> Answer
-    ensures { Runs run.now (H.state host.old) (H.state host.new) result }
+// Runs sources. Constants are not folded yet.
+fn run_unfolded<H: Host>(alloc: Global, options: &Run, host: &mut H) -> Answer
+    requires { CanRun options.now.options }
+    ensures { RunsUnfolded options.now (H.state host.old) (H.state host.new) result }
 {
-    match form_of(run) {
-        Some(form) => run_file(alloc, form.file, form.steps, host),
-        None => usage(alloc, host),
+    if options.fold {
+        return usage(alloc, host);
     }
+    run(alloc, options, host)
+}
+
+// Writes an object. Constants are not folded yet.
+fn build_unfolded<H: Host>(alloc: Global, options: &Build, host: &mut H) -> Answer
+    ensures { BuildsUnfolded options.now (H.state host.old) (H.state host.new) result }
+{
+    if options.fold {
+        return usage(alloc, host);
+    }
+    build(
+        alloc,
+        options.source.as_str(),
+        options.object_file.as_str(),
+        host,
+    )
 }
 
 // Does a command.
@@ -50,7 +68,9 @@ fn execute<H: Host>(alloc: Global, command: &Command, host: &mut H) -> Answer
     ensures { Does command.now (H.state host.old) (H.state host.new) result }
 {
     match command {
-        Command::Run(options) => run(alloc, options, host),
+        Command::Run(options) => run_unfolded(alloc, options, host),
+        Command::Build(options) => build_unfolded(alloc, options, host),
+        Command::Selftest(n) => selftest(alloc, *n, host),
         Command::Dis(object) => dis(alloc, object.as_str(), host),
         Command::Asm(options) => asm(
             alloc,
@@ -59,12 +79,10 @@ fn execute<H: Host>(alloc: Global, command: &Command, host: &mut H) -> Answer
             host,
         ),
         Command::Exec(options) => exec(alloc, options, host),
+        Command::Check(options) => check(alloc, options, host),
         Command::Explain(rule) => explain(alloc, rule.as_str(), host),
-        Command::Check(_)
-        | Command::Selftest(_)
-        | Command::Build(_)
-        | Command::Replay(_)
-        | Command::Races(_) => usage(alloc, host),
+        Command::Replay(_) => usage(alloc, host),
+        Command::Races(_) => usage(alloc, host),
     }
 }
 

@@ -9,7 +9,19 @@ use Rattle.txcc_core.specs.TopCall.{CanDo, Does}
 use Rattle.txcc_core.proofs.top.execute.Goals as goal
 
 pub returns-in-Run : goal.returns-in-Run
-returns-in-Run g c = subst (λ k. Does k (g.H.Host.state c.args.host.now) (g.H.Host.state c.run.new.host) c.run.result) (sym c.in-Run.is) c.run.ensures
+returns-in-Run g c = subst (λ k. Does k (g.H.Host.state c.args.host.now) (g.H.Host.state c.run_unfolded.new.host) c.run_unfolded.result) (sym c.in-Run.is) c.run_unfolded.ensures
+
+pub run_unfolded-requires : goal.run_unfolded-requires
+run_unfolded-requires g c = subst CanDo c.in-Run.is c.requires
+
+pub returns-in-Build : goal.returns-in-Build
+returns-in-Build g c = subst (λ k. Does k (g.H.Host.state c.args.host.now) (g.H.Host.state c.build_unfolded.new.host) c.build_unfolded.result) (sym c.in-Build.is) c.build_unfolded.ensures
+
+pub selftest-requires : goal.selftest-requires
+selftest-requires g c = let h = subst CanDo c.in-Selftest.is c.requires in record { least = h.0; most = h.1 }
+
+pub returns-in-Selftest : goal.returns-in-Selftest
+returns-in-Selftest g c = subst (λ k. Does k (g.H.Host.state c.args.host.now) (g.H.Host.state c.selftest.new.host) c.selftest.result) (sym c.in-Selftest.is) c.selftest.ensures
 
 pub returns-in-Dis : goal.returns-in-Dis
 returns-in-Dis g c =
@@ -32,23 +44,8 @@ exec-requires g c = record { options = subst CanDo c.in-Exec.is c.requires }
 pub returns-in-Exec : goal.returns-in-Exec
 returns-in-Exec g c = subst (λ k. Does k (g.H.Host.state c.args.host.now) (g.H.Host.state c.exec.new.host) c.exec.result) (sym c.in-Exec.is) c.exec.ensures
 
--- none of the other commands is there yet
 pub returns-in-Check : goal.returns-in-Check
-returns-in-Check g c =
-    let Ending : Command → Type 0 = λ k. Does k (g.H.Host.state c.args.host.now) (g.H.Host.state c.usage.new.host) c.usage.result in
-    elim c.in-Check.is [
-      | inl check ↦ subst Ending (sym check.1) c.usage.ensures
-      | inr others ↦ elim others [
-        | inl selftest ↦ subst Ending (sym selftest.1) c.usage.ensures
-        | inr others ↦ elim others [
-          | inl build ↦ subst Ending (sym build.1) c.usage.ensures
-          | inr others ↦ elim others [
-            | inl replay ↦ subst Ending (sym replay.1) c.usage.ensures
-            | inr races ↦ subst Ending (sym races.1) c.usage.ensures
-          ]
-        ]
-      ]
-    ]
+returns-in-Check g c = subst (λ k. Does k (g.H.Host.state c.args.host.now) (g.H.Host.state c.check.new.host) c.check.result) (sym c.in-Check.is) c.check.ensures
 
 pub returns-in-Explain : goal.returns-in-Explain
 returns-in-Explain g c =
@@ -56,3 +53,10 @@ returns-in-Explain g c =
     let after = g.H.Host.state c.explain.new.host in
     subst (λ k. Does k before after c.explain.result) (sym c.in-Explain.is)
     (subst (λ (n : List ℕ). Ends [] (DecidesExplanation n) before after c.explain.result) c.as_str-in-Explain.ensures.value c.explain.ensures)
+
+-- not there yet
+pub returns-in-Replay : goal.returns-in-Replay
+returns-in-Replay g c = subst (λ k. Does k (g.H.Host.state c.args.host.now) (g.H.Host.state c.usage.new.host) c.usage.result) (sym c.in-Replay.is) c.usage.ensures
+
+pub returns-in-Races : goal.returns-in-Races
+returns-in-Races g c = subst (λ k. Does k (g.H.Host.state c.args.host.now) (g.H.Host.state c.usage-in-Races.new.host) c.usage-in-Races.result) (sym c.in-Races.is) c.usage-in-Races.ensures
