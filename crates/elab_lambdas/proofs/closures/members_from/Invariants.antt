@@ -1,0 +1,8 @@
+use Rattle.std.proofs.Common.{◌≡◌, map, take}
+use Rattle.cpp_types.specs.Class.{member_of}
+use Rattle.elab_ctx.specs.Ctx.{capture_of}
+use Rattle.elab_rules.specs.Lambdas.{capture_members}
+use Rattle.elab_lambdas.proofs.closures.members_from.Given as goal
+
+abbrev pub invariant-loop-found : goal.invariant-loop-found
+invariant-loop-found l = map member_of l.list.items ≡ capture_members (map capture_of (take l.found-index l.captures))

@@ -1,0 +1,8 @@
+use Rattle.std.proofs.Common.{◌≡◌, drop, map, not}
+use Rattle.elab_ctx.specs.Ctx.{ctx_of, capture_of}
+use Rattle.elab_rules.specs.Objects.{traits_at}
+use Rattle.elab_rules.specs.Lambdas.{all_captured}
+use Rattle.elab_lambdas.proofs.traits.all_whole.Given as goal
+
+abbrev pub invariant-loop-found : goal.invariant-loop-found
+invariant-loop-found l = all_captured (λ n. not (traits_at (ctx_of l.env) n).is_volatile) (map capture_of l.captures) ≡ all_captured (λ n. not (traits_at (ctx_of l.env) n).is_volatile) (map capture_of (drop l.found-index l.captures))

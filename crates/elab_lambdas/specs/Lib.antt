@@ -1,0 +1,6 @@
+pub mod Checkpoints
+pub mod Outcomes
+pub mod Says
+pub mod Shown
+pub mod Steps
+pub mod Whole

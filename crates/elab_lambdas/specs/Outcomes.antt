@@ -1,0 +1,32 @@
+-- What answers of lambdas say.
+use Rattle.std.specs.Prelude.{◌≡◌, true, Vec, length, Result, Ok, Err}
+use Rattle.std.specs.declared.alloc.Global.{Global}
+use Rattle.cpp_types.specs.Typ.{typ_of}
+use Rattle.cpp_types.specs.declared.types.Ty.{Ty}
+use Rattle.cpp_tree.specs.declared.faults.ElabFault.{ElabFault}
+use Rattle.cpp_tree.specs.declared.arena.TNodeId.{TNodeId}
+use Rattle.cpp_tree.specs.Arena.{trees_at}
+use Rattle.elab_ctx.specs.Says.{Faults, are_within}
+use Rattle.elab_rules.specs.Statements.{Done, done}
+use Rattle.elab_scopes.specs.declared.state.State.{State as StateRec}
+use Rattle.elab_scopes.specs.States.{state_of, made, Grown}
+use Rattle.elab_lambdas.specs.Whole.{Deduced}
+
+-- trees were made, one behind the other
+pub record AllListed (old new : StateRec) (v : Vec TNodeId Global) (x : Result Done ElabFault) : Type 0 where
+  pub grown : Grown old new
+  pub within : are_within (length (made new)) v.items ≡ true
+  pub is : x ≡ done (trees_at (made new) v.items) (state_of new)
+
+abbrev pub Lists : StateRec → StateRec → Result (Vec TNodeId Global) ElabFault → Result Done ElabFault → Type 0
+Lists old new (Ok v) x = AllListed old new v x
+Lists old new (Err e) x = Faults e x
+
+-- a result was found, and this stands behind it
+pub record DeducedAt (old new : StateRec) (t : Ty) (x : Result Deduced ElabFault) : Type 0 where
+  pub grown : Grown old new
+  pub is : x ≡ Ok (record { typ = typ_of t; state = state_of new })
+
+abbrev pub Deduces : StateRec → StateRec → Result Ty ElabFault → Result Deduced ElabFault → Type 0
+Deduces old new (Ok t) x = DeducedAt old new t x
+Deduces old new (Err e) x = Faults e x

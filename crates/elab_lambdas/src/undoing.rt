@@ -1,0 +1,105 @@
+// What reading a body for its result made, which is not kept.
+
+ghost use Rattle.std.specs.Prelude.{◌≡◌, take, OnOk};
+ghost use Rattle.cpp_types.specs.Class.{classes_of};
+ghost use Rattle.elab_ctx.specs.Ctx.{ctx_of, work_of};
+ghost use Rattle.elab_scopes.specs.States.{state_of, made};
+ghost use Rattle.elab_lambdas.specs.Checkpoints.{checkpoint_in, undone_to};
+
+use cpp_types::{ClassRec, is_in_order};
+use elab_ctx::{Env, Work};
+use elab_scopes::State;
+use std::alloc::{AllocError, Global};
+use std::mem;
+
+/// How many classes, functions, globals and bodies there are.
+#[derive(Clone, Copy)]
+pub struct Checkpoint {
+    classes: usize,
+    traits: usize,
+    slots: usize,
+    funcs: usize,
+    globals: usize,
+    bodies: usize,
+}
+
+/// How many there are here.
+pub fn checkpoint_here(st: &State) -> Checkpoint
+    ensures { result ≡ checkpoint_in st.now }
+{
+    Checkpoint {
+        classes: st.env.classes.len(),
+        traits: st.env.traits.len(),
+        slots: st.env.slots.len(),
+        funcs: st.env.funcs.len(),
+        globals: st.work.globals.len(),
+        bodies: st.bodies.len(),
+    }
+}
+
+/// Other classes in place of those that are known; a list that is not in order counts as want of memory.
+pub fn put_classes(env: &mut Env, classes: Vec<ClassRec>) -> Result<(), AllocError>
+    ensures { OnOk result (ctx_of env.new ≡ record (ctx_of env.old) { classes = classes_of classes.items }) }
+{
+    if !is_in_order(&classes) {
+        return Err(AllocError);
+    }
+    env.classes = classes;
+    Ok(())
+}
+
+// Takes away the classes of lambdas, to which no other class refers.
+fn undo_classes(alloc: Global, env: &mut Env, count: usize) -> Result<(), AllocError>
+    ensures { OnOk result (ctx_of env.new ≡ record (ctx_of env.old) { classes = take count (ctx_of env.old).classes }) }
+{
+    let mut classes = mem::replace(&mut env.classes, Vec::new(alloc));
+    classes.truncate(count);
+    put_classes(env, classes)?;
+    Ok(())
+}
+
+fn undo_traits(env: &mut Env, count: usize)
+    ensures { ctx_of env.new ≡ record (ctx_of env.old) { traits = take count (ctx_of env.old).traits } }
+{
+    env.traits.truncate(count);
+}
+
+fn undo_slots(env: &mut Env, count: usize)
+    ensures { ctx_of env.new ≡ record (ctx_of env.old) { slots = take count (ctx_of env.old).slots } }
+{
+    env.slots.truncate(count);
+}
+
+fn undo_functions(env: &mut Env, count: usize)
+    ensures { ctx_of env.new ≡ record (ctx_of env.old) { funcs = take count (ctx_of env.old).funcs } }
+{
+    env.funcs.truncate(count);
+}
+
+fn undo_globals(work: &mut Work, count: usize)
+    ensures is { work_of work.new ≡ record (work_of work.old) { globals = take count (work_of work.old).globals } }
+    ensures nodes { work.new.nodes ≡ work.old.nodes }
+{
+    work.globals.truncate(count);
+}
+
+fn undo_bodies(st: &mut State, count: usize)
+    ensures is { state_of st.new ≡ record (state_of st.old) { bodies = take count (state_of st.old).bodies } }
+    ensures made { made st.new ≡ made st.old }
+{
+    st.bodies.truncate(count);
+}
+
+/// Takes away what was declared and made since.
+pub fn undo(alloc: Global, st: &mut State, mark: Checkpoint) -> Result<(), AllocError>
+    ensures is { OnOk result (state_of st.new ≡ undone_to mark (state_of st.old)) }
+    ensures made { OnOk result (made st.new ≡ made st.old) }
+{
+    undo_classes(alloc, &mut st.env, mark.classes)?;
+    undo_traits(&mut st.env, mark.traits);
+    undo_slots(&mut st.env, mark.slots);
+    undo_functions(&mut st.env, mark.funcs);
+    undo_globals(&mut st.work, mark.globals);
+    undo_bodies(st, mark.bodies);
+    Ok(())
+}
