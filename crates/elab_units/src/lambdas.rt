@@ -1,3 +1,3 @@
-// What makes the lambdas of a unit. So far none is made: a lambda is outside the profile.
+// What makes the lambdas of a unit.
 
-pub use elab_scopes::NoLambdas as UnitLambdas;
+pub use elab_lambdas::AllLambdas as UnitLambdas;
