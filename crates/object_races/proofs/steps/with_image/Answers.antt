@@ -1,0 +1,13 @@
+use Rattle.std.proofs.lemmas.Result.{IfOk-weaker}
+use Rattle.code_verify.specs.declared.verified.BadCode.TheVariants as code
+use Rattle.object_races.specs.ObjectRaces.{bad_code, runs}
+use Rattle.object_races.proofs.steps.with_image.Goals as goal
+
+pub returns-in-Ok : goal.returns-in-Ok
+returns-in-Ok c = IfOk-weaker c.run.result _ _ (λ d h. runs h) c.run.ensures
+
+pub returns-in-Err-Rule : goal.returns-in-Err-Rule
+returns-in-Err-Rule c =
+    IfOk-weaker c.bad_code.result _ _ (λ d h.
+    bad_code (code.Rule c.in-Err-Rule.func c.in-Err-Rule.index c.in-Err-Rule.rule) (rw c.in-Err-Rule.field-0-is at c.in-Err-Rule.ensures.refused) h)
+    c.bad_code.ensures

@@ -1,0 +1,10 @@
+use Rattle.std.proofs.lemmas.Result.{IfOk-weaker}
+use Rattle.tx_safety.specs.Answers.{checked_in}
+use Rattle.races_command.specs.Commands.{runs, refuses}
+use Rattle.races_command.proofs.steps.with_texts.Goals as goal
+
+pub returns-in-Accepted : goal.returns-in-Accepted
+returns-in-Accepted c = IfOk-weaker c.compiled.result _ _ (λ d h. runs (checked_in c.in-Accepted.safe) (rw c.in-Accepted.is at c.in_ok-safe.ensures) h) c.compiled.ensures
+
+pub returns-in-Refused : goal.returns-in-Refused
+returns-in-Refused c = refuses (rw c.in-Refused.is at c.in_ok-safe.ensures)

@@ -1,0 +1,46 @@
+-- What `races` comes to.
+use Rattle.std.specs.Prelude.{◌≤◌, ◌<◌, ℕ, List, take, length, string_bytes}
+use Rattle.std.specs.List.{All}
+use Rattle.command_io.specs.Writes.{Written}
+use Rattle.cpp_tree.specs.declared.program.Program.{Program}
+use Rattle.exec_command.specs.Exec.{schedule_name, bad_schedule_line}
+use Rattle.object_races.specs.ObjectRaces.{DecidesObjects}
+use Rattle.run_command.specs.Commands.{source_files, wants_of, AreTexts, TooMany, no_files}
+use Rattle.schedules.specs.Text.{Spells as Says, IsFirstBad, most_entries}
+use Rattle.source_verdict.specs.Verdict.{Accepts, RefusesTexts}
+use Rattle.tx_answers.specs.Ends.{Ends, Refuses}
+use Rattle.tx_answers.specs.declared.answer.Answer.{Answer}
+use Rattle.tx_answers.specs.declared.answer.Status.TheVariants.{BadSchedule}
+use Rattle.tx_code.specs.Objects.{ObjectView}
+use Rattle.tx_code.specs.WellFormed.{IsObject}
+use Rattle.tx_host.specs.Told.{HostState}
+use Rattle.tx_words.specs.declared.command.Races.{Races}
+use Rattle.tx_words.specs.declared.command.RunOptions.{RunOptions}
+
+-- Some objects are linked, verified and run, and the races of the run are reported. Which ones the compiler makes of a program is not told yet.
+pub record RacesSome (o : RunOptions) (file input entries : List ℕ) (a : Answer) (writes : List Written) : Type 0 where
+  pub objects : List ObjectView
+  pub are_objects : All IsObject objects
+  pub decides : DecidesObjects o file objects input entries a writes
+
+-- the first refusal of the texts; or they are a safe program, which is compiled and run
+pub data DecidesTexts (o : RunOptions) (file : List ℕ) (names texts : List (List ℕ)) (input entries : List ℕ) (a : Answer) (writes : List Written) : Type 0 where
+  refuses : RefusesTexts names texts a writes → DecidesTexts o file names texts input entries a writes
+  runs : (p : Program) → Accepts texts p → RacesSome o file input entries a writes → DecidesTexts o file names texts input entries a writes
+
+-- the schedule is read: a run looks at its first entries alone
+pub data Decides (r : Races) (sources : List (List ℕ)) (input schedule : List ℕ) (a : Answer) (writes : List Written) : Type 0 where
+  bad_schedule : (line : ℕ) → IsFirstBad schedule line → Refuses 10 (bad_schedule_line (schedule_name r.run.options.picker) line) BadSchedule a writes → Decides r sources input schedule a writes
+  scheduled : (entries : List ℕ) → Says schedule entries → DecidesTexts r.run.options (string_bytes r.report_file) (source_files r.run) sources input (take most_entries entries) a writes → Decides r sources input schedule a writes
+
+pub record DecidesOn (r : Races) (texts : List (List ℕ)) (a : Answer) (writes : List Written) : Type 0 where
+  pub sources : List (List ℕ)
+  pub input : List ℕ
+  pub schedule : List ℕ
+  pub texts_are : AreTexts r.run texts sources input schedule
+  pub decides : Decides r sources input schedule a writes
+
+-- more than 16 sources are refused before any file is read
+pub data Reports (r : Races) (old new : HostState) (a : Answer) : Type 0 where
+  too_many : 16 < length (source_files r.run) → Ends no_files TooMany old new a → Reports r old new a
+  reports : length (source_files r.run) ≤ 16 → Ends (wants_of r.run) (DecidesOn r) old new a → Reports r old new a

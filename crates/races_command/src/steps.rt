@@ -1,0 +1,77 @@
+//! What is decided on texts: the verdict, and the run of what accepted sources are compiled to, with its races.
+
+ghost use Rattle.std.specs.Prelude.{◌≡◌, map, IfOk, true, nat_lt, string_bytes};
+ghost use Rattle.std.specs.List.{list_all, All};
+ghost use Rattle.command_io.specs.Writes.{written_of};
+ghost use Rattle.exec_command.specs.Exec.{CanRun};
+ghost use Rattle.tx_code.specs.Objects.{object_view};
+ghost use Rattle.tx_code.specs.WellFormed.{IsObject};
+ghost use Rattle.tx_events.specs.declared.TheConstants.{THREAD_LIMIT};
+ghost use Rattle.races_command.specs.Commands.{DecidesTexts, RacesSome};
+
+use object_races::with_objects;
+use source_verdict::{Verdict, verdict_of};
+use std::alloc::{AllocError, Global};
+use tx_answers::Decision;
+use tx_code::Object;
+use tx_safety::SafeProgram;
+use tx_words::RunOptions;
+use unit_objects::unit_objects;
+
+// Objects are linked, verified and run, and the races of the run are reported.
+fn with_all(
+    alloc: Global,
+    options: &RunOptions,
+    file: &str,
+    objects: &[Object],
+    input: Vec<u8>,
+    entries: &[u8],
+) -> Result<Decision, AllocError>
+    requires objects { All (λ o. IsObject (object_view o)) objects.now }
+    requires options { CanRun options.now }
+    requires threads { list_all (λ t. nat_lt t THREAD_LIMIT) entries.now ≡ true }
+    ensures { IfOk result (λ d. RacesSome options.now file.now input.items entries.now d.answer (map written_of d.writes.items)) }
+{
+    with_objects(alloc, options, file, objects, input, entries)
+}
+
+// A program that is accepted is compiled and run.
+fn compiled(
+    alloc: Global,
+    options: &RunOptions,
+    file: &str,
+    safe: &SafeProgram,
+    names: &[String],
+    texts: &[Vec<u8>],
+    input: Vec<u8>,
+    entries: &[u8],
+) -> Result<Decision, AllocError>
+    requires options { CanRun options.now }
+    requires threads { list_all (λ t. nat_lt t THREAD_LIMIT) entries.now ≡ true }
+    ensures { IfOk result (λ d. RacesSome options.now file.now input.items entries.now d.answer (map written_of d.writes.items)) }
+{
+    let objects = unit_objects(alloc, safe, names, texts)?;
+    with_all(alloc, options, file, objects.as_slice(), input, entries)
+}
+
+/// What is decided on texts whose files have these names; the report is written to `file`.
+pub fn with_texts(
+    alloc: Global,
+    options: &RunOptions,
+    file: &str,
+    names: &[String],
+    texts: &[Vec<u8>],
+    input: Vec<u8>,
+    entries: &[u8],
+) -> Result<Decision, AllocError>
+    requires options { CanRun options.now }
+    requires threads { list_all (λ t. nat_lt t THREAD_LIMIT) entries.now ≡ true }
+    ensures { IfOk result (λ d. DecidesTexts options.now file.now (map string_bytes names.now) (map (λ text. text.items) texts.now) input.items entries.now d.answer (map written_of d.writes.items)) }
+{
+    match verdict_of(alloc, names, texts)? {
+        Verdict::Accepted(safe) => compiled(
+            alloc, options, file, &safe, names, texts, input, entries,
+        ),
+        Verdict::Refused(decision) => Ok(decision),
+    }
+}

@@ -1,0 +1,3 @@
+mod FittingItems
+mod NumberedWorlds
+pub mod TraceItems
