@@ -23,5 +23,5 @@ can_do words (command.Exec e) h = record { steps = h.says.1.options.bound; slot 
 can_do words (command.Replay r) h = tt
 can_do words (command.Dis object) h = tt
 can_do words (command.Asm m) h = tt
-can_do words (command.Races r) h = tt
+can_do words (command.Races r) h = record { steps = h.says.1.run.options.bound; slot = has_slot r.run.options.picker h.says.1.run.options.picker.bounds }
 can_do words (command.Explain rule) h = tt

@@ -7,6 +7,8 @@ use Rattle.command_io.specs.Writes.{Written, to_err}
 use Rattle.tx_words.specs.Reads.{Says}
 use Rattle.tx_words.specs.declared.command.Run.{Run}
 use Rattle.tx_words.specs.declared.command.Build.{Build}
+use Rattle.tx_words.specs.declared.command.Races.{Races}
+use Rattle.races_command.specs.Commands.{Reports}
 use Rattle.run_command.specs.Commands.{Runs, DecidesBuild, DecidesSelftest}
 use Rattle.tx_words.specs.declared.command.Command.{Command}
 use Rattle.tx_words.specs.declared.command.Command.TheVariants as command
@@ -30,13 +32,16 @@ pub record DecidesUsage (texts : List (List ℕ)) (a : Answer) (writes : List Wr
 abbrev pub no_files : List Wanted
 no_files = []
 
--- `run` and `build` with `--fold` are to come: they are usage
+-- `run`, `build` and `races` with `--fold` are to come: they are usage
 abbrev pub where_folded : Bool → Type 0 → Type 0 → Type 0
 where_folded true folded unfolded = folded
 where_folded false folded unfolded = unfolded
 
 abbrev pub RunsUnfolded : Run → HostState → HostState → Answer → Type 0
 RunsUnfolded r old new a = where_folded r.fold (Ends no_files DecidesUsage old new a) (Runs r old new a)
+
+abbrev pub RacesUnfolded : Races → HostState → HostState → Answer → Type 0
+RacesUnfolded r old new a = where_folded r.run.fold (Ends no_files DecidesUsage old new a) (Reports r old new a)
 
 abbrev pub BuildsUnfolded : Build → HostState → HostState → Answer → Type 0
 BuildsUnfolded b old new a = where_folded b.fold (Ends no_files DecidesUsage old new a)
@@ -52,7 +57,7 @@ Does (command.Exec e) old new a = Executes e old new a
 Does (command.Replay r) old new a = Ends no_files DecidesUsage old new a
 Does (command.Dis object) old new a = Ends (wanted kind.Object (string_bytes object) ∷ []) (on_one (Disassembles (string_bytes object))) old new a
 Does (command.Asm m) old new a = Ends (wanted kind.Text (string_bytes m.text) ∷ []) (on_one (Assembles (string_bytes m.text) (string_bytes m.object_file))) old new a
-Does (command.Races r) old new a = Ends no_files DecidesUsage old new a
+Does (command.Races r) old new a = RacesUnfolded r old new a
 Does (command.Explain rule) old new a = Ends no_files (DecidesExplanation (string_bytes rule)) old new a
 
 -- a command whose options are such as the words can say
@@ -65,7 +70,7 @@ CanDo (command.Exec e) = CanRun e.options
 CanDo (command.Replay r) = Unit {0}
 CanDo (command.Dis object) = Unit {0}
 CanDo (command.Asm m) = Unit {0}
-CanDo (command.Races r) = Unit {0}
+CanDo (command.Races r) = CanRun r.run.options
 CanDo (command.Explain rule) = Unit {0}
 
 pub data Answers (words : List (List ℕ)) (old new : HostState) (a : Answer) : Type 0 where

@@ -4,18 +4,19 @@ ghost use Rattle.std.specs.Prelude.{◌≡◌, ◌≤◌, [], map, length, IfOk,
 ghost use Rattle.command_io.specs.Writes.{written_of};
 ghost use Rattle.exec_command.specs.Exec.{CanRun};
 ghost use Rattle.tx_answers.specs.Ends.{Ends, bare};
-ghost use Rattle.txcc_core.specs.TopCall.{Answers, CanDo, Does, DecidesUsage, no_files, RunsUnfolded, BuildsUnfolded};
+ghost use Rattle.txcc_core.specs.TopCall.{Answers, CanDo, Does, DecidesUsage, no_files, RunsUnfolded, BuildsUnfolded, RacesUnfolded};
 
 use check_command::check;
 use command_io::Write;
 use exec_command::exec;
 use explain_command::explain;
+use races_command::races;
 use run_command::{build, run, selftest};
 use std::alloc::{AllocError, Global};
 use text_commands::{asm, dis};
 use tx_answers::{Answer, Decision, Status, bare, settle};
 use tx_host::Host;
-use tx_words::{Build, Command, Run, read};
+use tx_words::{Build, Command, Races, Run, read};
 
 // What is written where the words say no command.
 fn usage_lines(alloc: Global) -> Result<Decision, AllocError>
@@ -45,6 +46,17 @@ fn run_unfolded<H: Host>(alloc: Global, options: &Run, host: &mut H) -> Answer
         return usage(alloc, host);
     }
     run(alloc, options, host)
+}
+
+// Runs sources, and reports the races of the run. Constants are not folded yet.
+fn races_unfolded<H: Host>(alloc: Global, options: &Races, host: &mut H) -> Answer
+    requires { CanRun options.now.run.options }
+    ensures { RacesUnfolded options.now (H.state host.old) (H.state host.new) result }
+{
+    if options.run.fold {
+        return usage(alloc, host);
+    }
+    races(alloc, options, host)
 }
 
 // Writes an object. Constants are not folded yet.
@@ -82,7 +94,7 @@ fn execute<H: Host>(alloc: Global, command: &Command, host: &mut H) -> Answer
         Command::Check(options) => check(alloc, options, host),
         Command::Explain(rule) => explain(alloc, rule.as_str(), host),
         Command::Replay(_) => usage(alloc, host),
-        Command::Races(_) => usage(alloc, host),
+        Command::Races(options) => races_unfolded(alloc, options, host),
     }
 }
 
