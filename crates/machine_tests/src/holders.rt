@@ -42,8 +42,8 @@ fn taken(
         "holds" => format!(in alloc; "{:?}", holders.holds(word, t)),
         "before-load" => format!(in alloc; "{}", holders.blockers(word, t, false)),
         "before-store" => format!(in alloc; "{}", holders.blockers(word, t, true)),
-        "stripe" => format!(in alloc; "{:?}", holders.stripe(t)),
-        _ => format!(in alloc; "{}", holders.stripe(t).len()),
+        "stripe" => format!(in alloc; "{:?}", holders.stripe(u16::from(t))),
+        _ => format!(in alloc; "{}", holders.stripe(u16::from(t)).len()),
     }
 }
 

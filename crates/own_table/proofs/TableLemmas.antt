@@ -6,6 +6,7 @@ use Rattle.std.specs.List.{list_all}
 use Rattle.std.proofs.lemmas.Bool.{eqb-true, eqb-false, eq-eqb, ne_eqb, cases_eq, cases_Bool, cases_lt, true≢false, false≢true, and_parts, not-true}
 use Rattle.std.proofs.lemmas.List.{get_or-set_same, get_or-set_other}
 use Rattle.std.proofs.lemmas.Option.{slice_get_past, slice_get_read, slice_get-get_or, none-some, same_Some}
+use Rattle.own_table.specs.declared.TheConstants.{STRIPES}
 use Rattle.own_table.specs.Bits.{has_bit}
 use Rattle.own_table.specs.declared.hold.HoldRec.{HoldRec}
 use Rattle.own_table.specs.declared.hold.Mode.{Mode}
@@ -48,7 +49,7 @@ pub words_at-set : (xs : List HeldWords) (i : ℕ) (v : HeldWords) (t : ℕ) →
 words_at-set xs i v t h = ap words_in (get_set xs i v t h) ∙ elim (t == i) as (λ b. words_in (cond b (Some v) (slice_get xs t)) ≡ cond b (words_in (Some v)) (words_at xs t)) [ true ↦ refl | false ↦ refl ]
 
 -- the holds after the record of one word became r
-pub hold_at-set : (xs : List Stripe) (word : ℕ) (v : Stripe) (r : Option HoldRec) → length xs ≡ 256 → ((w : ℕ) → record_of v.records.items w ≡ cond (word == w) r (record_of (records_at xs (stripe_of word)) w)) → (u w : ℕ) → hold_at (set xs (stripe_of word) v) u w ≡ cond (word == w) (mode_in r u) (hold_at xs u w)
+pub hold_at-set : (xs : List Stripe) (word : ℕ) (v : Stripe) (r : Option HoldRec) → length xs ≡ STRIPES → ((w : ℕ) → record_of v.records.items w ≡ cond (word == w) r (record_of (records_at xs (stripe_of word)) w)) → (u w : ℕ) → hold_at (set xs (stripe_of word) v) u w ≡ cond (word == w) (mode_in r u) (hold_at xs u w)
 hold_at-set xs word v r l found u w =
     let within : stripe_of word < length xs = omega arith in
     ap (λ rs. mode_in (record_of rs w) u) (records_at-set xs (stripe_of word) v (stripe_of w) within)
@@ -73,7 +74,7 @@ one_hold word t new r old changed u w = elim (cases_Bool (word == w)) [
       ∙ sym (ap (λ b. cond (u == t && b) new (old u w)) e ∙ elim (u == t) as (λ b. cond (b && false) new (old u w) ≡ old u w) [ true ↦ refl | false ↦ refl ])
 ]
 
-pub placed-set : (xs : List Stripe) (word : ℕ) (v : Stripe) → length xs ≡ 256 → IsPlaced xs → list_all (λ r. stripe_of r.word == stripe_of word) v.records.items ≡ true → IsPlaced (set xs (stripe_of word) v)
+pub placed-set : (xs : List Stripe) (word : ℕ) (v : Stripe) → length xs ≡ STRIPES → IsPlaced xs → list_all (λ r. stripe_of r.word == stripe_of word) v.records.items ≡ true → IsPlaced (set xs (stripe_of word) v)
 placed-set xs word v l placed here s =
     let within : stripe_of word < length xs = omega arith in
     let all : ℕ → List HoldRec → Bool = λ n rs. list_all (λ r. stripe_of r.word == n) rs in
@@ -87,7 +88,7 @@ pub stripe_there : (xs : List Stripe) (i s : ℕ) (v : Stripe) → i ≡ s → i
 stripe_there xs i s v e l here = ap (records_at xs) (sym e) ∙ ap records_in (slice_get_read xs (length xs) i v refl l here)
 
 -- the same of the stripe at an index, whose records were those of the word's stripe before
-pub placed_at : (xs : List Stripe) (word i : ℕ) (before v : Stripe) → length xs ≡ 256 → i ≡ stripe_of word → before ≡ get_or xs i before → IsPlaced xs → (list_all (λ r. stripe_of r.word == stripe_of word) before.records.items ≡ true → list_all (λ r. stripe_of r.word == stripe_of word) v.records.items ≡ true) → IsPlaced (set xs i v)
+pub placed_at : (xs : List Stripe) (word i : ℕ) (before v : Stripe) → length xs ≡ STRIPES → i ≡ stripe_of word → before ≡ get_or xs i before → IsPlaced xs → (list_all (λ r. stripe_of r.word == stripe_of word) before.records.items ≡ true → list_all (λ r. stripe_of r.word == stripe_of word) v.records.items ≡ true) → IsPlaced (set xs i v)
 placed_at xs word i before v l e here placed kept =
     let p : HoldRec → Bool = λ r. stripe_of r.word == stripe_of word in
     let was : list_all p before.records.items ≡ true = ap (list_all p) (sym (stripe_there xs i (stripe_of word) before e (omega arith) here)) ∙ placed (stripe_of word) in
@@ -139,7 +140,7 @@ pub words_there : (xs : List HeldWords) (t : ℕ) (v : HeldWords) → t < length
 words_there xs t v l here = ap words_in (slice_get_read xs (length xs) t v refl l here)
 
 -- the holds after the record of one word has changed the hold of one thread
-pub holds_changed : (xs : List Stripe) (word i t k : ℕ) (before v : Stripe) (r : Option HoldRec) (new : Option Mode) → length xs ≡ 256 → i ≡ stripe_of word → before ≡ get_or xs i before → k ≡ word → ((w : ℕ) → record_of v.records.items w ≡ cond (k == w) r (record_of before.records.items w)) → ((u : ℕ) → mode_in r u ≡ cond (u == t) new (hold_at xs u word)) → (u w : ℕ) → hold_at (set xs i v) u w ≡ cond (u == t && word == w) new (hold_at xs u w)
+pub holds_changed : (xs : List Stripe) (word i t k : ℕ) (before v : Stripe) (r : Option HoldRec) (new : Option Mode) → length xs ≡ STRIPES → i ≡ stripe_of word → before ≡ get_or xs i before → k ≡ word → ((w : ℕ) → record_of v.records.items w ≡ cond (k == w) r (record_of before.records.items w)) → ((u : ℕ) → mode_in r u ≡ cond (u == t) new (hold_at xs u word)) → (u w : ℕ) → hold_at (set xs i v) u w ≡ cond (u == t && word == w) new (hold_at xs u w)
 holds_changed xs word i t k before v r new l at here same found changed u w =
     let within : i < length xs = omega arith in
     let there : records_at xs (stripe_of word) ≡ before.records.items = stripe_there xs i (stripe_of word) before at within here in

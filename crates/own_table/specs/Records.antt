@@ -2,6 +2,7 @@
 use Rattle.std.specs.Prelude.{ℕ, ◌==◌, ◌/◌, ◌%◌, ◌&&◌, Bool, true, false, not, nat_lt, if◌then◌else◌, Option, Some, None, List}
 use Rattle.std.specs.List.{find, count_by}
 use Rattle.own_table.specs.Bits.{has_bit}
+use Rattle.own_table.specs.declared.TheConstants.{STRIPES}
 use Rattle.own_table.specs.declared.hold.HoldRec.{HoldRec}
 use Rattle.own_table.specs.declared.hold.Mode.{Mode}
 use Rattle.own_table.specs.declared.hold.Mode.TheVariants.{Read, Write}
@@ -59,4 +60,4 @@ mode_in (Some r) t = mode_of r t
 
 -- the stripe of a word
 abbrev pub stripe_of : ℕ → ℕ
-stripe_of word = word / 8 % 256
+stripe_of word = word / 8 % STRIPES

@@ -40,8 +40,8 @@ IsPlaced stripes = (s : ℕ) → list_all (λ r. stripe_of r.word == s) (records
 abbrev pub HasSpare : List HeldWords → ℕ → Type 0
 HasSpare held count = (t : ℕ) (h : HeldWords) → slice_get held t ≡ Some h → heap_len h.words + count ≤ heap_capacity h.words
 
--- there are 256 stripes, each record is in the stripe of its word, each thread's heap has once each word that the records
--- say it holds, and it can take so many words more
+-- there are `STRIPES` stripes, each record is in the stripe of its word, each thread's heap has once each word that the
+-- records say it holds, and it can take so many words more
 pub record IsTable (stripes : List Stripe) (held : List HeldWords) (count : ℕ) : Type 0 where
   pub stripes_len : length stripes ≡ STRIPES
   pub threads : length held ≤ THREAD_LIMIT

@@ -13,7 +13,7 @@ mod table;
 mod words;
 
 /// The number of stripes of a table.
-pub const STRIPES: u64 = 256;
+pub const STRIPES: u64 = 1024;
 
 pub use hold::{HoldRec, Mode};
 pub use table::Holders;

@@ -26,6 +26,7 @@ pub struct Holders {
 
 impl Holders {
     ghost use Rattle.std.specs.Prelude.{◌≡◌, ◌==◌, ◌≢◌, ◌<◌, ◌≤◌, ◌&&◌, ◌↔◌, not, true, false, ℕ, Some, None, if◌then◌else◌, IfOk, OnOk, IfNone, IfSome, IsSome, is_some, All};
+    ghost use Rattle.own_table.specs.declared.TheConstants.{STRIPES};
     ghost use Rattle.own_table.specs.Bits.{has_bit};
     ghost use Rattle.own_table.specs.Records.{blocks, is_write, is_sound, raised, record_of, records_of, stripe_of};
     ghost use Rattle.own_table.specs.Stripes.{records_at};
@@ -118,8 +119,10 @@ impl Holders {
         }
     }
 
-    /// The records of one stripe: those of the words held by some thread whose address, divided by 8, is `s` modulo 256.
-    pub fn stripe(&self, s: u8) -> &[HoldRec]
+    /// The records of one stripe: those of the words held by some thread whose address, divided by 8, is `s` modulo
+    /// `STRIPES`.
+    pub fn stripe(&self, s: u16) -> &[HoldRec]
+        requires { s < STRIPES }
         ensures once { (w : ℕ) → records_of result.now w ≤ 1 }
         ensures there { (w : ℕ) → IsSome (record_of result.now w)
             ↔ ((stripe_of w ≡ s) × ((t : ℕ) × IsSome (hold_of self.now t w))) }

@@ -19,7 +19,7 @@ use Rattle.tx_runtime.specs.declared.access.Blockers.{Blockers}
 use Rattle.tx_runtime.specs.Saves.{saves_of}
 use Rattle.tx_serial.proofs.SearchLemmas.{eldest_none}
 use Rattle.tx_runtime.proofs.ThreadTables.{thread_at}
-use Rattle.tx_runtime.specs.Blocks.{Sums, SumsOf, NoneOf}
+use Rattle.tx_runtime.specs.Blocks.{Sums, SumsOf}
 use Rattle.tx_runtime.specs.Threads.{is_write, local_in, tx_of, tx_by, threads_of, birth_in, has_saves, undoes}
 
 birth_by : {S : Type 0} (g : Stage) (b : ℕ) (k : S) (ss : List Save) → birth (tx_by g b k ss) ≡ b
@@ -58,14 +58,6 @@ sums_more p f n (Some b) h s = record {
 pub count_most : (p : ℕ → Bool) (n : ℕ) → count p n ≤ n
 count_most p zero = omega arith
 count_most p (suc n) = let rest = count_most p n in elim (p n) as (λ b. cond b (suc (count p n)) (count p n) ≤ suc n) [ true ↦ omega (arith, rest) | false ↦ omega (arith, rest) ]
-
-pub none_at_all : (p : ℕ → Bool) (f : ℕ → ℕ) (n : ℕ) → ((u : ℕ) → p u ≡ false) → NoneOf p f n
-none_at_all p f zero h = record { eldest = refl; greatest = refl; count = refl }
-none_at_all p f (suc n) h = let r = none_at_all p f n h in record {
-  eldest = ap (λ b. cond b (elder f n (eldest p f n)) (eldest p f n)) (h n) ∙ r.eldest;
-  greatest = ap (λ b. cond b (max (f n) (greatest p f n)) (greatest p f n)) (h n) ∙ r.greatest;
-  count = ap (λ b. cond b (suc (count p n)) (count p n)) (h n) ∙ r.count;
-}
 
 -- the least number
 

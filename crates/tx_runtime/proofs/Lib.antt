@@ -6,6 +6,7 @@ pub mod ThreadTables
 pub mod AppliedRow
 pub mod RowMachines
 pub mod ConflictingThreads
+pub mod SetBits
 pub mod AccessSizes
 pub mod OutsideRows
 pub mod TransactionParts

@@ -1,6 +1,6 @@
 -- What a runtime hands out, and the turns so far.
 use Rattle.std.proofs.Common.{ℕ, zero, suc, ◌≡◌, ◌==◌, ◌<◌, ◌≤◌, Bool, true, false, cond, Option, Some, None, List, [], ◌∷◌, ◌++◌, length, refl, ap, sym, ◌∙◌, subst, arith}
-use Rattle.std.specs.Prelude.{is_some, slice_get, ◌&&◌, ◌||◌, reverse, replicate}
+use Rattle.std.specs.Prelude.{is_some, slice_get, ◌&&◌, reverse, replicate}
 use Rattle.choosers.specs.declared.Clash.{Clash}
 use Rattle.choosers.specs.declared.Choice.{Choice}
 use Rattle.tx_events.specs.declared.TheConstants.{THREAD_LIMIT}

@@ -6,8 +6,7 @@ use Rattle.tx_runtime.specs.Here.{IsReady, IsReadyToNote}
 use Rattle.std.specs.List.{list_all}
 use Rattle.std.proofs.Math.ListN.{set, length-set}
 use Rattle.std.proofs.Math.Path.{fun_ext}
-use Rattle.std.proofs.lemmas.Bool.{eqb-true, eqb-false, cases_lt, cases_eq, eq-eqb, ne_eqb, ltb-true, lt-ltb, and_parts}
-use Rattle.std.proofs.lemmas.List.{get_or-set_same, get_or-set_other}
+use Rattle.std.proofs.lemmas.Bool.{eqb-true, cases_eq, eq-eqb, ne_eqb, ltb-true, lt-ltb, and_parts}
 use Rattle.std.proofs.lemmas.List.Folds.{list_all-append}
 use Rattle.std.proofs.lemmas.Option.{slice_get_past, slice_get-get_or, same_Some}
 use Rattle.tx_events.specs.Memory.{MemoryLayout, update}

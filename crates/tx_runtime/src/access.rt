@@ -1,5 +1,5 @@
 //! Accesses to words that other threads hold.
-ghost use Rattle.std.specs.Prelude.{◌≡◌, ℕ, ◌<◌, ◌≤◌, ◌+◌, ◌^◌, Bool, true, Some, None, length};
+ghost use Rattle.std.specs.Prelude.{◌≡◌, ℕ, ◌<◌, ◌≤◌, ◌+◌, ◌^◌, Bool, true, false, Some, None, length, IfNone, IfSome};
 ghost use Rattle.own_table.specs.Bits.{has_bit};
 ghost use Rattle.tx_events.specs.declared.TheConstants.{THREAD_LIMIT};
 ghost use Rattle.tx_events.specs.Memory.{word_of};
@@ -10,7 +10,6 @@ ghost use Rattle.tx_serial.specs.Machine.{birth_of};
 ghost use Rattle.tx_serial.specs.Turn.{waited};
 
 use crate::engine::Engine;
-use own_table::bits::is_in;
 use tx_events::{Actor, TurnKind};
 
 /// The word of an address.
@@ -18,6 +17,21 @@ pub(crate) fn word_of(addr: u64) -> u64
     ensures { result ≡ word_of addr }
 {
     addr - addr % 8
+}
+
+/// The least thread of the set whose number is not below `from`.
+fn least_from(threads: u64, from: usize) -> Option<usize>
+    requires { from < THREAD_LIMIT }
+    ensures none { IfNone result ((v : ℕ) → from ≤ v → has_bit threads v ≡ false) }
+    ensures from { IfSome result (λ u. from ≤ u) }
+    ensures there { IfSome result (λ u. has_bit threads u ≡ true) }
+    ensures least { IfSome result (λ u. (v : ℕ) → from ≤ v → v < u → has_bit threads v ≡ false) }
+{
+    let rest = threads >> from;
+    if rest == 0 {
+        return None;
+    }
+    Some(from + rest.trailing_zeros() as usize)
 }
 
 /// The transactions that keep an access off: the thread of the eldest one, the least and the greatest birth, and how many
@@ -68,18 +82,21 @@ impl<A: Actor> Engine<A, A::Saved> {
         self.sum_up(self.holders.blockers(word, t, store))
     }
 
-    /// The transactions of these threads, as bits of a number.
+    /// The transactions of these threads, as bits of a number. Threads that are not among them cost nothing.
     fn sum_up(&self, threads: u64) -> Option<Blockers>
         ensures { Sums (has_bit threads) (λ v. birth_of ((machine_in A.state A.saved_state self.now).threads v)) (length self.now.threads.items) result }
     {
-        if threads == 0 {
-            return None;
-        }
         let mut found = None;
-        for u in 0..self.threads.len() {
-            if is_in(threads, u as u8) {
-                found = Some(self.and_blocker(found, u as u8));
+        let mut from: usize = 0;
+        'threads: while from < self.threads.len() {
+            let Some(u) = least_from(threads, from) else {
+                return found;
+            };
+            if u >= self.threads.len() {
+                return found;
             }
+            found = Some(self.and_blocker(found, u as u8));
+            from = u + 1;
         }
         found
     }

@@ -26,7 +26,8 @@ use vm_frames::step::{Callee, Change, Given, Landing, Step};
 use vm_frames::values::{bits, number_in, with_number, zeros};
 
 /// `load`, `tload` and `vload`.
-fn load(frames: &FrameStack, kind: u8, volatile: bool) -> Step
+#[inline(always)]
+pub(crate) fn load(frames: &FrameStack, kind: u8, volatile: bool) -> Step
     requires { frames.now.top.index < 18446744073709551615 }
     ensures { Means result (meaning.load_act kind volatile (top_of frames.now) (rest_of frames.now)) (top_of frames.now) (rest_of frames.now) }
 {
@@ -51,7 +52,8 @@ fn load(frames: &FrameStack, kind: u8, volatile: bool) -> Step
 }
 
 /// `store`, `tstore` and `vstore`.
-fn store(frames: &FrameStack, kind: u8, volatile: bool) -> Step
+#[inline(always)]
+pub(crate) fn store(frames: &FrameStack, kind: u8, volatile: bool) -> Step
     requires { frames.now.top.index < 18446744073709551615 }
     ensures { Means result (meaning.store_act kind volatile (top_of frames.now) (rest_of frames.now)) (top_of frames.now) (rest_of frames.now) }
 {
@@ -76,8 +78,9 @@ fn store(frames: &FrameStack, kind: u8, volatile: bool) -> Step
     }
 }
 
-// A silent step that takes operands off and leaves a word.
-fn leave_word(frames: &FrameStack, taken: u8, word: u64) -> Step
+/// A silent step that takes operands off and leaves a word.
+#[inline(always)]
+pub(crate) fn leave_word(frames: &FrameStack, taken: u8, word: u64) -> Step
     requires { frames.now.top.index < 18446744073709551615 }
     ensures { Means result (meaning.goes (meaning.Runs (meaning.on_with (top_of frames.now) (word ∷ drop taken (top_of frames.now).words)) (rest_of frames.now))) (top_of frames.now) (rest_of frames.now) }
 {
@@ -112,6 +115,7 @@ fn traps(trap: Trap) -> Step
 }
 
 // What an operator comes to, the operands being taken off.
+#[inline(always)]
 fn value_step(frames: &FrameStack, taken: u8, value: Result<i128, ArithTrap>) -> Step
     requires { frames.now.top.index < 18446744073709551615 }
     ensures { Means result (meaning.result_act value (λ v. meaning.goes (meaning.Runs (meaning.on_with (top_of frames.now) (word_of v ∷ drop taken (top_of frames.now).words)) (rest_of frames.now)))) (top_of frames.now) (rest_of frames.now) }
@@ -123,6 +127,7 @@ fn value_step(frames: &FrameStack, taken: u8, value: Result<i128, ArithTrap>) ->
 }
 
 // The kind of a right operand.
+#[inline(always)]
 fn right_kind(operator: BinOp, kind: IntKind) -> IntKind
     ensures { result ≡ meaning.right_kind operator kind }
 {
@@ -133,6 +138,7 @@ fn right_kind(operator: BinOp, kind: IntKind) -> IntKind
 }
 
 // An operator on two words.
+#[inline(always)]
 fn operate(operator: BinOp, kind: IntKind, two: Two<u64>) -> Result<i128, ArithTrap>
     ensures { result ≡ apply_of operator kind (value_of_word kind two.low) (value_of_word (meaning.right_kind operator kind) two.high) }
 {
@@ -141,8 +147,9 @@ fn operate(operator: BinOp, kind: IntKind, two: Two<u64>) -> Result<i128, ArithT
     apply(operator, kind, left, right)
 }
 
-// `bin`.
-fn bin(frames: &FrameStack, op: u8, kind: u8) -> Step
+/// `bin`.
+#[inline(always)]
+pub(crate) fn bin(frames: &FrameStack, op: u8, kind: u8) -> Step
     requires { frames.now.top.index < 18446744073709551615 }
     ensures { Means result (meaning.bin_act op kind (top_of frames.now) (rest_of frames.now)) (top_of frames.now) (rest_of frames.now) }
 {
@@ -161,8 +168,9 @@ fn bin(frames: &FrameStack, op: u8, kind: u8) -> Step
     }
 }
 
-// `neg`.
-fn neg(frames: &FrameStack, kind: u8) -> Step
+/// `neg`.
+#[inline(always)]
+pub(crate) fn neg(frames: &FrameStack, kind: u8) -> Step
     requires { frames.now.top.index < 18446744073709551615 }
     ensures { Means result (meaning.neg_act kind (top_of frames.now) (rest_of frames.now)) (top_of frames.now) (rest_of frames.now) }
 {
@@ -175,8 +183,9 @@ fn neg(frames: &FrameStack, kind: u8) -> Step
     }
 }
 
-// `conv`.
-fn conv(frames: &FrameStack, from: u8, to: u8) -> Step
+/// `conv`.
+#[inline(always)]
+pub(crate) fn conv(frames: &FrameStack, from: u8, to: u8) -> Step
     requires { frames.now.top.index < 18446744073709551615 }
     ensures { Means result (meaning.conv_act from to (top_of frames.now) (rest_of frames.now)) (top_of frames.now) (rest_of frames.now) }
 {
@@ -195,8 +204,9 @@ fn conv(frames: &FrameStack, from: u8, to: u8) -> Step
     }
 }
 
-// `dup`.
-fn dup(frames: &FrameStack) -> Step
+/// `dup`.
+#[inline(always)]
+pub(crate) fn dup(frames: &FrameStack) -> Step
     requires { frames.now.top.index < 18446744073709551615 }
     ensures { Means result (meaning.one (top_of frames.now).words (λ w ws. meaning.goes (meaning.Runs (meaning.on_with (top_of frames.now) (w ∷ w ∷ ws)) (rest_of frames.now)))) (top_of frames.now) (rest_of frames.now) }
 {
@@ -206,8 +216,9 @@ fn dup(frames: &FrameStack) -> Step
     }
 }
 
-// `over`.
-fn over(frames: &FrameStack) -> Step
+/// `over`.
+#[inline(always)]
+pub(crate) fn over(frames: &FrameStack) -> Step
     requires { frames.now.top.index < 18446744073709551615 }
     ensures { Means result (meaning.two (top_of frames.now).words (λ a b ws. meaning.goes (meaning.Runs (meaning.on_with (top_of frames.now) (a ∷ b ∷ a ∷ ws)) (rest_of frames.now)))) (top_of frames.now) (rest_of frames.now) }
 {
@@ -217,8 +228,9 @@ fn over(frames: &FrameStack) -> Step
     }
 }
 
-// `drop`.
-fn pop(frames: &FrameStack) -> Step
+/// `drop`.
+#[inline(always)]
+pub(crate) fn pop(frames: &FrameStack) -> Step
     requires { frames.now.top.index < 18446744073709551615 }
     ensures { Means result (meaning.one (top_of frames.now).words (λ w ws. meaning.goes (meaning.Runs (meaning.on_with (top_of frames.now) ws) (rest_of frames.now)))) (top_of frames.now) (rest_of frames.now) }
 {
@@ -251,8 +263,9 @@ fn swap(frames: &FrameStack) -> Step
     }
 }
 
-// `jump`.
-fn jump(frames: &FrameStack, target: u32) -> Step
+/// `jump`.
+#[inline(always)]
+pub(crate) fn jump(frames: &FrameStack, target: u32) -> Step
     ensures { Means result (meaning.goes (meaning.Runs (meaning.at (top_of frames.now) target (top_of frames.now).words) (rest_of frames.now))) (top_of frames.now) (rest_of frames.now) }
 {
     Step::Does {
@@ -265,8 +278,9 @@ fn jump(frames: &FrameStack, target: u32) -> Step
     }
 }
 
-// `jzero`.
-fn jump_zero(frames: &FrameStack, target: u32) -> Step
+/// `jzero`.
+#[inline(always)]
+pub(crate) fn jump_zero(frames: &FrameStack, target: u32) -> Step
     requires { frames.now.top.index < 18446744073709551615 }
     ensures { Means result (meaning.one (top_of frames.now).words (λ w ws. meaning.goes (meaning.Runs (meaning.at (top_of frames.now) (if nat_eq w 0 then target else ((top_of frames.now).index + 1)) ws) (rest_of frames.now)))) (top_of frames.now) (rest_of frames.now) }
 {
@@ -685,8 +699,8 @@ fn aborts() -> Step
     Step::Ends(Event::Stop { end: End::Abort })
 }
 
-// An address in the frame.
-fn frame_address(frames: &FrameStack, offset: u32) -> u64
+/// An address in the frame.
+pub(crate) fn frame_address(frames: &FrameStack, offset: u32) -> u64
     ensures { result ≡ meaning.offset_by frames.now.top.address offset }
 {
     u64::from(frames.top.address) + u64::from(offset)

@@ -6,6 +6,7 @@
 mod deciding;
 pub mod laws;
 mod lookups;
+mod plain;
 pub mod thread;
 
 pub use thread::{Here, VmThread};

@@ -9,6 +9,7 @@ ghost use Rattle.vm_thread.specs.ThreadLaws.{running_laws};
 
 use crate::deciding::next_step;
 use crate::lookups::stack_start;
+use crate::plain::{go_on, plain_step};
 use std::alloc::{AllocError, Global};
 use tx_code::Image;
 use tx_code::laws::an_image_is_whole;
@@ -52,6 +53,9 @@ impl<'a> Actor for VmThread<'a> {
     ghost thread = { running };
 
     fn next(&self) -> Event {
+        if let Some(plain) = plain_step(self.image, &self.frames) {
+            return plain.event;
+        }
         match next_step(self.image, &self.frames) {
             Step::Does { event, change: _ } => event,
             Step::Ends(event) => event,
@@ -64,6 +68,10 @@ impl<'a> Actor for VmThread<'a> {
     }
 
     fn take(&mut self, reply: Reply) {
+        if let Some(plain) = plain_step(self.image, &self.frames) {
+            go_on(&mut self.frames, plain, reply);
+            return;
+        }
         match next_step(self.image, &self.frames) {
             Step::Does { event: _, change } => apply(&mut self.frames, change, reply),
             Step::Ends(_) | Step::Lost => {}
