@@ -1,21 +1,17 @@
 -- Folded trees in another list.
-use Rattle.std.proofs.Common.{◌≡◌, ℕ, zero, suc, ◌+◌, ◌<◌, ◌≤◌, Bool, true, List, [], ◌∷◌, ◌++◌, length, drop, get_or, slice_get, refl, sym, ◌∙◌, ap, arith, nat_lt, Option, Some, None, Result, Ok, Err, IfOk}
+use Rattle.std.proofs.Common.{◌≡◌, ℕ, ◌+◌, ◌<◌, ◌≤◌, Bool, true, List, [], ◌∷◌, ◌++◌, length, drop, get_or, refl, sym, ◌∙◌, ap, arith, nat_lt, Option, Some, None, Result, IfOk}
 use Rattle.std.specs.Prelude.{option_map, unwrap_or}
 use Rattle.std.specs.declared.alloc.AllocError.{AllocError}
 use Rattle.std.proofs.lemmas.Bool.{ltb-true, lt-ltb, and_parts}
 use Rattle.std.proofs.lemmas.Option.{slice_get_read}
-use Rattle.cpp_types.specs.Typ.{Typ, typ_of}
-use Rattle.cpp_types.specs.declared.classes.At.{At}
-use Rattle.cpp_types.specs.declared.ranks.Cat.{Cat}
+use Rattle.cpp_types.specs.Typ.{typ_of}
 use Rattle.cpp_types.specs.declared.ranks.Cat.TheVariants.{Prvalue}
-use Rattle.cpp_tree.specs.declared.kinds.TKind.{TKind}
 use Rattle.cpp_tree.specs.declared.kinds.TKind.TheVariants.{Literal}
 use Rattle.cpp_tree.specs.declared.arena.TNodeId.{TNodeId}
 use Rattle.cpp_tree.specs.declared.arena.TNode.{TNode}
 use Rattle.cpp_tree.specs.Trees.{Tree, node, Trees, none, more}
 use Rattle.cpp_tree.specs.Arena.{IsOrdered, are_below, tree_at, trees_at, tree_of, Adds}
 use Rattle.tree_fold.specs.declared.sights.Sight.{Sight}
-use Rattle.tree_fold.specs.Constants.{constant}
 use Rattle.tree_fold.specs.Folding.{taken, folded, all_folded}
 use Rattle.tree_fold.specs.Sights.{folded_at, AreSights, constant_seen, taken_seen, followed_by, Adding}
 use Rattle.tree_fold.proofs.Growing.{both_true, adds_same, last_adds, adding_one, adding_done, drop_step, drop_past}

@@ -11,15 +11,12 @@ use Rattle.cpp_types.specs.declared.classes.At.{At}
 use Rattle.cpp_types.specs.declared.ranks.Cat.{Cat}
 use Rattle.cpp_tree.specs.declared.kinds.TKind.{TKind}
 use Rattle.cpp_tree.specs.declared.kinds.TKind.TheVariants.{Literal, Convert, Binary, Conditional, Comma}
-use Rattle.cpp_tree.specs.Trees.{Tree, node, Trees, none, more, kind_of}
-use Rattle.cpp_tree.specs.Typing.{is_prvalue}
+use Rattle.cpp_tree.specs.Trees.{Tree, node, Trees, none, more}
 use Rattle.cpp_tree.specs.Units.{Func, Unit as TypedUnit, TypedProgram}
 use Rattle.tx_unsafe.specs.Volatile.{has_volatile_part}
 use Rattle.src_mean.specs.Source.{converted, applied}
-use Rattle.tree_fold.specs.declared.words.Operands.{Operands}
-use Rattle.tree_fold.specs.Bare.{is_bare}
-use Rattle.tree_fold.specs.Constants.{is_integer, literal_word, integer_word, both_words, value_word, operator_word, comma_word, of_integer, constant}
-use Rattle.tree_fold.specs.Folding.{stands_for, only_taken, taken_by, taken, literal_or, folded_node, folded, all_folded}
+use Rattle.tree_fold.specs.Constants.{is_integer, integer_word, both_words, value_word, operator_word, comma_word, constant}
+use Rattle.tree_fold.specs.Folding.{taken_by, taken, literal_or, folded_node, folded, all_folded}
 use Rattle.tree_fold.specs.Folded.{is_integer_literal, word_in, has_value, is_integer_value, may_drop, is_foldable, is_folded, are_folded}
 use Rattle.tree_fold.specs.Programs.{folded_func, folded_unit, folded_program, IsFolded}
 use Rattle.tree_fold.proofs.Growing.{both_true}

@@ -1,10 +1,9 @@
 -- Functions, units and programs whose bodies are folded one by one.
-use Rattle.std.proofs.Common.{◌≡◌, ℕ, zero, suc, ◌+◌, ◌<◌, ◌≤◌, Bool, true, false, List, [], ◌∷◌, ◌++◌, length, drop, take, map, set, get_or, slice_get, refl, sym, ◌∙◌, ap, subst, arith, nat_lt, ◌&&◌, append_assoc, append-nil, add-one, Option, Some, None}
-use Rattle.std.specs.Prelude.{option_map, slice_set, Result, Ok, Err, OnOk}
+use Rattle.std.proofs.Common.{◌≡◌, ℕ, zero, suc, ◌+◌, ◌<◌, ◌≤◌, Bool, true, List, [], ◌∷◌, ◌++◌, length, drop, take, map, set, slice_get, refl, sym, ◌∙◌, ap, subst, arith, append_assoc, append-nil, add-one, Option, Some, None}
+use Rattle.std.specs.Prelude.{option_map, Result, Ok, Err, OnOk}
 use Rattle.std.proofs.Math.Path.{fun_ext}
 use Rattle.std.proofs.lemmas.Bool.{ltb-true, lt-ltb, and_parts}
-use Rattle.std.proofs.lemmas.Option.{slice_get-get_or, slice_get_within}
-use Rattle.std.proofs.lemmas.List.{take-set, drop-set-lt, length-set, take_all}
+use Rattle.std.proofs.lemmas.List.{length-set}
 use Rattle.cpp_tree.specs.declared.arena.TNode.{TNode}
 use Rattle.cpp_tree.specs.declared.arena.TNodeId.{TNodeId}
 use Rattle.cpp_tree.specs.declared.program.TFunc.{TFunc}

@@ -1,7 +1,7 @@
 -- What is known of the kids' folded trees tells what becomes of a node.
-use Rattle.std.proofs.Common.{◌≡◌, ℕ, zero, suc, ◌+◌, ◌<◌, ◌≤◌, ◌==◌, Bool, true, false, List, [], ◌∷◌, ◌++◌, length, get_or, slice_get, refl, sym, ◌∙◌, ap, arith, nat_lt, ◌&&◌, length-append, Option, Some, None, cond, inl, inr}
+use Rattle.std.proofs.Common.{◌≡◌, ℕ, ◌+◌, ◌<◌, ◌==◌, Bool, true, false, List, [], ◌∷◌, ◌++◌, length, get_or, slice_get, refl, sym, ◌∙◌, ap, arith, nat_lt, ◌&&◌, length-append, Option, Some, None, cond, inl, inr}
 use Rattle.std.specs.Prelude.{option_map, unwrap_or}
-use Rattle.std.proofs.lemmas.Bool.{ltb-true, lt-ltb, and_parts, cases_lt}
+use Rattle.std.proofs.lemmas.Bool.{ltb-true, and_parts, cases_lt}
 use Rattle.std.proofs.lemmas.Option.{slice_get-get_or, slice_get_within, get_or_from_slice_get, cond_some, slice_get_read}
 use Rattle.std.proofs.lemmas.List.{get_or_append_left, get_or_push}
 use Rattle.cpp_types.specs.Typ.{Typ, typ_of}
@@ -12,9 +12,9 @@ use Rattle.cpp_tree.specs.declared.kinds.TKind.{TKind}
 use Rattle.cpp_tree.specs.declared.kinds.TKind.TheVariants.{Literal, Convert, Binary, Conditional, Comma}
 use Rattle.cpp_tree.specs.declared.arena.TNodeId.{TNodeId}
 use Rattle.cpp_tree.specs.declared.arena.TNode.{TNode}
-use Rattle.cpp_tree.specs.Trees.{Tree, node, Trees, none, more, kind_of, literal}
+use Rattle.cpp_tree.specs.Trees.{Tree, node, Trees, none, kind_of, literal}
 use Rattle.cpp_tree.specs.Typing.{is_prvalue}
-use Rattle.cpp_tree.specs.Arena.{IsOrdered, are_below, tree_at, trees_at, trees_of, tree_of}
+use Rattle.cpp_tree.specs.Arena.{IsOrdered, are_below, trees_at, trees_of, tree_of}
 use Rattle.cpp_tree.proofs.Shown.{tree_of_node}
 use Rattle.src_mean.specs.Source.{converted}
 use Rattle.tree_fold.specs.declared.words.Operands.{Operands}

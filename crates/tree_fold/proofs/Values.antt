@@ -1,5 +1,5 @@
 -- What folds to a literal comes to its word in a run, without an event.
-use Rattle.std.proofs.Common.{◌≡◌, ℕ, zero, suc, ◌==◌, Bool, true, false, List, ◌∷◌, refl, sym, ◌∙◌, ap, subst, ◌&&◌, Option, Some, None, cond, Result, Ok, Err}
+use Rattle.std.proofs.Common.{◌≡◌, ℕ, zero, suc, ◌==◌, Bool, true, false, List, ◌∷◌, refl, sym, ap, subst, ◌&&◌, Option, Some, None, cond, Result, Ok, Err}
 use Rattle.std.specs.Prelude.{ℤ, option_map, unwrap_or}
 use Rattle.std.proofs.lemmas.Option.{cond_some}
 use Rattle.tx_ints.specs.declared.kinds.IntKind.{IntKind}
@@ -10,17 +10,14 @@ use Rattle.tx_events.specs.declared.Event.TheVariants.{Silent}
 use Rattle.cpp_types.specs.Typ.{Typ}
 use Rattle.cpp_types.specs.declared.classes.At.{At}
 use Rattle.cpp_types.specs.declared.ranks.Cat.{Cat}
-use Rattle.cpp_types.specs.declared.ranks.Cat.TheVariants.{Prvalue}
-use Rattle.cpp_tree.specs.declared.kinds.TKind.{TKind}
 use Rattle.cpp_tree.specs.declared.kinds.TKind.TheVariants.{Literal, Convert, Binary, Conditional, Comma}
 use Rattle.cpp_tree.specs.Trees.{Tree, node, Trees, none, more}
 use Rattle.cpp_tree.specs.Typing.{is_prvalue}
 use Rattle.src_mean.specs.Linked.{Program}
 use Rattle.src_mean.specs.Frames.{Here, Way, value, Frame, Run, Then, Converts, Right, Apply, Choose, State, at}
 use Rattle.src_mean.specs.Source.{give, finish, converted, applied}
-use Rattle.tree_fold.specs.declared.words.Operands.{Operands}
-use Rattle.tree_fold.specs.Constants.{is_integer, literal_word, integer_word, both_words, value_word, operator_word, comma_word, of_integer}
-use Rattle.tree_fold.specs.Folding.{only_taken, taken_by, literal_or, folded, all_folded}
+use Rattle.tree_fold.specs.Constants.{is_integer, integer_word, both_words, value_word, operator_word, comma_word, of_integer}
+use Rattle.tree_fold.specs.Folding.{taken_by, literal_or, folded}
 use Rattle.tree_fold.specs.Quiet.{Quiet, ComesTo, GoesTo}
 
 -- Steps behind steps

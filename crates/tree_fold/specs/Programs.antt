@@ -1,5 +1,5 @@
 -- Programs whose bodies are folded; all else stays.
-use Rattle.std.specs.Prelude.{◌≡◌, ℕ, Bool, true, List, map, Option, Some, slice_get, option_map}
+use Rattle.std.specs.Prelude.{◌≡◌, ℕ, Bool, true, map, Some, slice_get, option_map}
 use Rattle.cpp_tree.specs.Trees.{Tree}
 use Rattle.cpp_tree.specs.Units.{Func, Unit as TypedUnit, TypedProgram}
 use Rattle.tx_unsafe.specs.Volatile.{has_volatile_part}

@@ -1,5 +1,5 @@
 -- What is known of each node's folded tree, and what becomes of a node by that of its kids.
-use Rattle.std.specs.Prelude.{◌≡◌, ◌<◌, ◌==◌, ℕ, Bool, true, false, nat_lt, ◌&&◌, List, [], ◌∷◌, length, get_or, slice_get, Option, Some, None, option_map, unwrap_or, cond}
+use Rattle.std.specs.Prelude.{◌≡◌, ◌==◌, ℕ, Bool, true, false, nat_lt, ◌&&◌, List, [], ◌∷◌, length, get_or, slice_get, Option, Some, None, option_map, unwrap_or, cond}
 use Rattle.std.specs.List.{list_all}
 use Rattle.cpp_types.specs.Typ.{Typ, typ_of}
 use Rattle.cpp_types.specs.declared.ranks.Cat.{Cat}

@@ -1,4 +1,4 @@
-use Rattle.std.proofs.Common.{length, refl}
+use Rattle.std.proofs.Common.{length}
 use Rattle.cpp_tree.specs.Arena.{trees_of}
 use Rattle.tree_fold.proofs.Growing.{adding_first}
 use Rattle.tree_fold.proofs.Copied.{word_copied, rest_copied, kid_copied, own_copied, node_copied, kid_added, kids_added}
