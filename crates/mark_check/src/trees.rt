@@ -1,6 +1,6 @@
 //! Marks of `volatile` in the tree of a body.
 
-ghost use Rattle.std.specs.Prelude.{◌≡◌, ◌<◌, length};
+ghost use Rattle.std.specs.Prelude.{◌≡◌, ◌<◌, ◌||◌, length, not};
 ghost use Rattle.cpp_tree.specs.Arena.{IsOrdered, tree_at, trees_of};
 ghost use Rattle.block_marks.specs.Marks.{below};
 ghost use Rattle.safe_blocks.specs.UnsafeFree.{is_marked_store as is_marked_kind, is_unmarked};
@@ -15,6 +15,13 @@ fn is_marked_store(kind: TKind) -> bool
         TKind::Store { volatile, .. } | TKind::CopyScalar { volatile, .. } => volatile,
         _ => false,
     }
+}
+
+// Whether a node may store as it does: without a mark, or outside of blocks.
+fn may_store(kind: TKind, outside: bool) -> bool
+    ensures { result ≡ (not (is_marked_kind kind) || outside) }
+{
+    !is_marked_store(kind) || outside
 }
 
 // Whether what stands below a node is outside of all atomic blocks.
@@ -34,7 +41,7 @@ pub fn is_tree_unmarked(nodes: &[TNode], outside: bool, id: TNodeId) -> bool
     ensures { result ≡ is_unmarked outside (tree_at (trees_of nodes.now) id) }
 {
     let node = &nodes[id.0 as usize];
-    if is_marked_store(node.kind) && !outside {
+    if !may_store(node.kind, outside) {
         return false;
     }
     let deeper = stays_outside(node.kind, outside);
