@@ -10,6 +10,7 @@ use crate::refusals::{refuse_fault, refuse_front, refuse_unsafe};
 use cpp_ast::Unit;
 use cpp_tree::Program;
 use elab_units::elaborate;
+use mark_check::is_unmarked;
 use std::alloc::{AllocError, Global};
 use tree_check::is_well_formed;
 use tx_answers::Decision;
@@ -25,7 +26,8 @@ pub enum Verdict {
     Refused(Decision),
 }
 
-// A program that is well formed is checked for safety.
+// A program that is well formed is checked for safety. One that is safe is tested for marks of `volatile` where the check does not look: elaboration makes none,
+// so that one with such a mark counts as want of memory.
 fn checked(
     alloc: Global,
     names: &[String],
@@ -40,7 +42,13 @@ fn checked(
     let _units = units;
     readable();
     match check(alloc, program) {
-        Ok(safe) => Ok(Verdict::Accepted(safe)),
+        Ok(safe) => {
+            if is_unmarked(&safe)? {
+                Ok(Verdict::Accepted(safe))
+            } else {
+                Err(AllocError)
+            }
+        }
         Err(SafetyFault::Unsafe { at, reason }) => Ok(Verdict::Refused(refuse_unsafe(
             alloc, names, texts, at, reason,
         )?)),

@@ -4,6 +4,7 @@
 
 mod front;
 mod judging;
+pub mod laws;
 pub mod limits;
 mod names;
 mod places;

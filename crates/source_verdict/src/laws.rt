@@ -1,0 +1,13 @@
+//! What holds of the programs that are accepted. A function here does nothing: its clauses are the laws.
+ghost use Rattle.std.specs.Prelude.{ℕ, List, Option};
+ghost use Rattle.cpp_tree.specs.declared.program.Program.{Program};
+ghost use Rattle.cpp_tree.specs.Units.{SlotFunc, program_of};
+ghost use Rattle.safe_blocks.specs.UnsafeFree.{safely_linked, LinksSafely, HidesBlocks, EntersSafe};
+ghost use Rattle.source_verdict.specs.Verdict.{Accepts};
+
+/// The blocks of an accepted program that links safely make no event that is volatile, output, input, or the start or
+/// join of a thread, and no unsafe function is entered in them, whatever its slots name (the TS, [stmt.tx]).
+pub fn accepted_is_unsafe_free()
+    ensures hides { (texts : List (List ℕ)) (p : Program) (symbol : SlotFunc → Option (List ℕ)) (entry : List ℕ) → Accepts texts p → LinksSafely (program_of p) → HidesBlocks (safely_linked symbol entry (program_of p)) }
+    ensures enters { (texts : List (List ℕ)) (p : Program) (symbol : SlotFunc → Option (List ℕ)) (entry : List ℕ) → Accepts texts p → LinksSafely (program_of p) → EntersSafe (safely_linked symbol entry (program_of p)) }
+{}
