@@ -1,1 +1,9 @@
+pub mod CopyLists
+pub mod Deferring
+pub mod GivenParts
+pub mod Implying
+pub mod Keeping
+pub mod MemberSteps
 pub mod ObjectParts
+pub mod PartLists
+pub mod TableMarks

@@ -1,9 +1,16 @@
 // What is written for the parts of an object in a constructor (C++14 12.6.2), and the base while it is made (10.4).
 
-use cpp_tree::TNodeId;
+ghost use Rattle.std.specs.Prelude.{◌≡◌, true, false, length, map, OnOk};
+ghost use Rattle.cpp_tree.specs.Arena.{trees_of};
+ghost use Rattle.elab_ctx.specs.Ctx.{ctx_of, traits_of};
+ghost use Rattle.elab_implicit.specs.Written.{found_for, are_there as are_there_of, traits_in, marked_abstract, was_abstract, with_abstract};
+
+use crate::places::stands;
+use cpp_tree::{TNode, TNodeId};
 use cpp_types::At;
-use elab_ctx::Env;
+use elab_ctx::{Env, Traits};
 use elab_names::captures::is_same_variable;
+use std::alloc::AllocError;
 
 /// What is written for the base, or for the member of an index.
 #[derive(Clone, Copy)]
@@ -14,7 +21,9 @@ pub struct Given {
 }
 
 /// What is written for a part.
-pub fn given_for(list: &[Given], member: Option<u32>) -> Option<Given> {
+pub fn given_for(list: &[Given], member: Option<u32>) -> Option<Given>
+    ensures { result ≡ found_for member list.now }
+{
     for found in list {
         if is_same_variable(member, found.member) {
             return Some(*found);
@@ -23,26 +32,47 @@ pub fn given_for(list: &[Given], member: Option<u32>) -> Option<Given> {
     None
 }
 
-/// An object of an abstract class is made as a base (C++14 10.4). What is answered is whether the class is abstract.
-pub fn allow_base(env: &mut Env, base: Option<u32>) -> bool {
-    let Some(base) = base else {
-        return false;
-    };
-    match env.traits.get_mut(base as usize) {
+/// Tests that each initialiser stands in a list of nodes; one that does not counts as want of memory.
+pub fn are_there(nodes: &Vec<TNode>, list: &[Given]) -> Result<(), AllocError>
+    ensures { OnOk result (are_there_of (length (trees_of nodes.now.items)) list.now ≡ true) }
+{
+    for found in list {
+        stands(nodes, found.init)?;
+    }
+    Ok(())
+}
+
+// A class is marked as abstract or not. What is answered is whether it was.
+fn mark_abstract(list: &mut Vec<Traits>, class: u32, is_abstract: bool) -> bool
+    ensures marked { map traits_of list.new.items ≡ marked_abstract (map traits_of list.old.items) class is_abstract }
+    ensures was { result ≡ (traits_in (map traits_of list.old.items) class).is_abstract }
+{
+    match list.get_mut(class as usize) {
         Some(found) => {
             let was = found.is_abstract;
-            found.is_abstract = false;
+            found.is_abstract = is_abstract;
             was
         }
         None => false,
     }
 }
 
+/// An object of an abstract class is made as a base (C++14 10.4). What is answered is whether the class is abstract.
+pub fn allow_base(env: &mut Env, base: Option<u32>) -> bool
+    ensures ctx { ctx_of env.new ≡ with_abstract (ctx_of env.old) base false }
+    ensures was { result ≡ was_abstract (ctx_of env.old) base }
+{
+    match base {
+        Some(base) => mark_abstract(&mut env.traits, base, false),
+        None => false,
+    }
+}
+
 /// The class is again what it was.
-pub fn restore_base(env: &mut Env, base: Option<u32>, was: bool) {
-    if let Some(base) = base
-        && let Some(found) = env.traits.get_mut(base as usize)
-    {
-        found.is_abstract = was;
+pub fn restore_base(env: &mut Env, base: Option<u32>, was: bool)
+    ensures { ctx_of env.new ≡ with_abstract (ctx_of env.old) base was }
+{
+    if let Some(base) = base {
+        let _marked = mark_abstract(&mut env.traits, base, was);
     }
 }

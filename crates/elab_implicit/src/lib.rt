@@ -7,9 +7,10 @@ pub mod copying;
 pub mod ending;
 pub mod given;
 pub mod implicit;
+mod marks;
 pub mod object;
 pub mod parts;
 pub mod places;
-pub mod referred;
+mod slots;
 
 pub use implicit::with_implied;

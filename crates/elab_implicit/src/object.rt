@@ -1,13 +1,21 @@
 // The object at hand in a constructor, a destructor or an initialiser of a member: the pointer in place 0 of the frame.
 
-ghost use Rattle.std.specs.Prelude.{◌≡◌, ◌∷◌, IfOk};
-ghost use Rattle.cpp_types.specs.Typ.{class as class_form, typ_of};
+ghost use Rattle.std.specs.Prelude.{◌≡◌, ◌∷◌, [], Some, IfOk, OnOk};
+ghost use Rattle.cpp_types.specs.Typ.{class as class_form, void, typ_of};
+ghost use Rattle.cpp_types.specs.Class.{classes_of};
+ghost use Rattle.cpp_tree.specs.Trees.{one};
 ghost use Rattle.cpp_tree.specs.Notation.{plain};
 ghost use Rattle.cpp_tree.specs.Arena.{trees_of, tree_at, Adds};
 ghost use Rattle.elab_ctx.specs.Ctx.{ctx_of};
 ghost use Rattle.elab_rules.specs.Values.{part_at as part_at_of, size_type as size_type_of};
 ghost use Rattle.elab_rules.specs.Names.{this_pointer as this_pointer_of, held_by as held_by_of};
-ghost use Rattle.elab_rules.specs.Members.{own_this, own_base as own_base_of, part_init as part_init_of};
+ghost use Rattle.elab_rules.specs.Calls.{pointer_offset as pointer_offset_of};
+ghost use Rattle.elab_rules.specs.Members.{own_this, own_base as own_base_of, part_init as part_init_of, pointer_stored as pointer_stored_of};
+ghost use Rattle.elab_ctx.specs.Says.{AddsAll};
+ghost use Rattle.elab_scopes.specs.States.{state_of, made};
+ghost use Rattle.elab_entry.specs.Round.{round_of, trees_round, round_function};
+ghost use Rattle.elab_entry.specs.Bodies.{entered};
+ghost use Rattle.elab_implicit.specs.Building.{table_tree, assigned, stored_tree, base_init as base_init_of, member_init as member_init_of};
 
 use crate::places::stands;
 use cpp_tree::{TKind, TNode, TNodeId, add_binary, add_leaf, add_unary};
@@ -18,6 +26,8 @@ use elab_ctx::{Env, This};
 use elab_entry::{Around, enter_function};
 use elab_init::{keep, keep_all};
 use elab_make::destroys;
+use elab_make::lists::one_of;
+use elab_names::offset_at;
 use elab_names::parts::{part_at, plain_type};
 use elab_names::variables::this_pointer;
 use elab_scopes::State;
@@ -33,7 +43,12 @@ pub fn class_type(class: u32) -> Ty
 }
 
 /// Into a function of an object: no result, and the pointer to the object in place 0.
-pub fn enter_object(alloc: Global, st: &mut State, class: u32) -> Result<Around, AllocError> {
+pub fn enter_object(alloc: Global, st: &mut State, class: u32) -> Result<Around, AllocError>
+    ensures is { OnOk result (state_of st.new ≡ entered (state_of st.old) (plain void) (Some (plain (class_form class))) (Some class)) }
+    ensures nodes { OnOk result (made st.new ≡ []) }
+    ensures round { IfOk result (λ a. round_of a ≡ round_function (state_of st.old)) }
+    ensures trees { IfOk result (λ a. trees_round a ≡ made st.old) }
+{
     let void = plain_type(Shape::Void);
     enter_function(alloc, st, &void, Some(class_type(class)), Some(class))
 }
@@ -145,23 +160,35 @@ fn size_type() -> Ty
     plain_type(Shape::Int(IntKind::ULong))
 }
 
-// The class pointer at an offset points to the table of the class.
-fn stored_at(
+// The table of a class.
+fn class_table(
     alloc: Global,
     nodes: &mut Vec<TNode>,
     at: At,
     class: u32,
-    offset: u32,
-) -> Result<TNodeId, AllocError> {
-    let object = own_part(alloc, nodes, at, class, offset, &size_type())?;
-    let table = add_leaf(
+) -> Result<TNodeId, AllocError>
+    ensures { IfOk result (λ r. Adds (trees_of nodes.old.items) (trees_of nodes.new.items) r (table_tree at class)) }
+{
+    add_leaf(
         alloc,
         nodes,
         TKind::ClassTable { class },
         size_type(),
         Cat::Prvalue,
         at,
-    )?;
+    )
+}
+
+// A word is assigned to an object.
+fn word_assigned(
+    alloc: Global,
+    nodes: &mut Vec<TNode>,
+    at: At,
+    object: TNodeId,
+    value: TNodeId,
+) -> Result<TNodeId, AllocError>
+    ensures { IfOk result (λ r. Adds (trees_of nodes.old.items) (trees_of nodes.new.items) r (assigned at (tree_at (trees_of nodes.old.items) object) (tree_at (trees_of nodes.old.items) value))) }
+{
     let assign = TKind::Assign {
         kind: IntKind::ULong,
         volatile: false,
@@ -174,8 +201,37 @@ fn stored_at(
         Cat::Lvalue,
         at,
         object,
-        table,
+        value,
     )
+}
+
+// The class pointer at an offset points to the table of the class.
+fn stored_at(
+    alloc: Global,
+    nodes: &mut Vec<TNode>,
+    at: At,
+    class: u32,
+    offset: u32,
+) -> Result<TNodeId, AllocError>
+    ensures { IfOk result (λ r. Adds (trees_of nodes.old.items) (trees_of nodes.new.items) r (stored_tree at class offset)) }
+{
+    let object = own_part(alloc, nodes, at, class, offset, &size_type())?;
+    let table = class_table(alloc, nodes, at, class)?;
+    word_assigned(alloc, nodes, at, object, table)
+}
+
+// The same as a list.
+fn pointer_at(
+    alloc: Global,
+    nodes: &mut Vec<TNode>,
+    at: At,
+    class: u32,
+    offset: u32,
+) -> Result<Vec<TNodeId>, AllocError>
+    ensures { IfOk result (λ ids. AddsAll (trees_of nodes.old.items) (trees_of nodes.new.items) ids.items (one (stored_tree at class offset))) }
+{
+    let made = stored_at(alloc, nodes, at, class, offset)?;
+    one_of(alloc, made)
 }
 
 /// The class pointer, where the class or a base has one, points to the table of the class (C++14 10.3, 12.7).
@@ -185,13 +241,50 @@ pub fn pointer_stored(
     nodes: &mut Vec<TNode>,
     at: At,
     class: u32,
-    list: &mut Vec<TNodeId>,
-) -> Result<(), AllocError> {
+) -> Result<Vec<TNodeId>, AllocError>
+    ensures { IfOk result (λ ids. AddsAll (trees_of nodes.old.items) (trees_of nodes.new.items) ids.items (pointer_stored_of at class (pointer_offset_of (classes_of env.now.classes.items) class))) }
+{
     match pointer_offset(env, class)? {
-        Some(offset) => {
-            let made = stored_at(alloc, nodes, at, class, offset)?;
-            keep(list, made)
-        }
-        None => Ok(()),
+        Some(offset) => pointer_at(alloc, nodes, at, class, offset),
+        None => Ok(Vec::new(alloc)),
     }
+}
+
+/// The base of a number with its initialiser, which stands at a place as a whole.
+pub fn base_init(
+    alloc: Global,
+    env: &Env,
+    nodes: &mut Vec<TNode>,
+    at: At,
+    place: At,
+    class: u32,
+    base: u32,
+    init: TNodeId,
+) -> Result<TNodeId, AllocError>
+    ensures { IfOk result (λ r. Adds (trees_of nodes.old.items) (trees_of nodes.new.items) r (base_init_of (ctx_of env.now) at place class base (tree_at (trees_of nodes.old.items) init))) }
+{
+    stands(nodes, init)?;
+    let object = own_base(alloc, nodes, place, class, base)?;
+    let ty = class_type(base);
+    part_init(alloc, env, nodes, at, place, &ty, object, init)
+}
+
+/// A member with its initialiser, which stands at a place as a whole.
+pub fn member_init(
+    alloc: Global,
+    env: &Env,
+    nodes: &mut Vec<TNode>,
+    at: At,
+    place: At,
+    class: u32,
+    member: u32,
+    ty: &Ty,
+    init: TNodeId,
+) -> Result<TNodeId, AllocError>
+    ensures { IfOk result (λ r. Adds (trees_of nodes.old.items) (trees_of nodes.new.items) r (member_init_of (ctx_of env.now) at place class member (typ_of ty.now) (tree_at (trees_of nodes.old.items) init))) }
+{
+    stands(nodes, init)?;
+    let offset = offset_at(env, class, member)?;
+    let object = own_part(alloc, nodes, place, class, offset, ty)?;
+    part_init(alloc, env, nodes, at, place, ty, object, init)
 }

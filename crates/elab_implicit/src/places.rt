@@ -1,7 +1,8 @@
 // Places in lists of nodes.
 
-ghost use Rattle.std.specs.Prelude.{◌<◌, length, OnOk};
+ghost use Rattle.std.specs.Prelude.{◌≡◌, ◌<◌, length, true, OnOk};
 ghost use Rattle.cpp_tree.specs.Arena.{trees_of};
+ghost use Rattle.elab_ctx.specs.Says.{are_within};
 
 use cpp_tree::{TNode, TNodeId};
 use std::alloc::AllocError;
@@ -13,6 +14,16 @@ pub fn stands(nodes: &Vec<TNode>, id: TNodeId) -> Result<(), AllocError>
 {
     if id.0 as usize >= nodes.len() {
         return Err(AllocError);
+    }
+    Ok(())
+}
+
+/// Tests the same of several ids.
+pub fn all_stand(nodes: &Vec<TNode>, ids: &[TNodeId]) -> Result<(), AllocError>
+    ensures { OnOk result (are_within (length (trees_of nodes.now.items)) ids.now ≡ true) }
+{
+    for id in ids {
+        stands(nodes, *id)?;
     }
     Ok(())
 }

@@ -1,0 +1,16 @@
+use Rattle.std.proofs.Common.{◌≡◌, Err, refl, ap, map, rules}
+use Rattle.cpp_types.specs.Typ.{typ_of}
+use Rattle.elab_ctx.specs.Ctx.{work_of, closure_of}
+use Rattle.elab_scopes.specs.States.{state_of}
+use Rattle.elab_scopes.proofs.Choices.{does_fail}
+use Rattle.elab_implicit.proofs.CopyLists.{cleared_is}
+use Rattle.elab_implicit.proofs.PartLists.{default_is_done, default_refused}
+use Rattle.elab_implicit.proofs.building.default_done.Goals as goal
+
+pub returns-clause-is : goal.returns-clause-is
+returns-clause-is c = default_is_done c.args.st.now _ c.args.at c.args.class c.args.member (typ_of c.args.ty.now) _ _ c.in_ok-made.ensures (cleared_is (state_of c.args.st.now) _ _ _ refl (ap (map closure_of) c.clear.ensures.items))
+
+pub returns-in_err-made-clause-is : goal.returns-in_err-made-clause-is
+returns-in_err-made-clause-is c =
+    let is_error : c.from_residual.result ≡ Err c.in_err-made.field-0.0 = search rules in
+    does_fail _ _ _ _ _ is_error (default_refused (state_of c.args.st.now) c.args.at c.args.class c.args.member (typ_of c.args.ty.now) _ c.in_err-made.ensures)

@@ -1,0 +1,35 @@
+-- A table of the functions that trees name.
+use Rattle.std.specs.Prelude.{ℕ, Bool, true, false, List, fold, slice_set, replicate}
+use Rattle.cpp_tree.specs.declared.kinds.TKind.{TKind}
+use Rattle.cpp_tree.specs.declared.kinds.TKind.TheVariants as forms
+use Rattle.cpp_tree.specs.Trees.{Tree, node, Trees, none, more}
+use Rattle.elab_rules.specs.Statements.{Body}
+
+-- the function that a node names is marked
+abbrev pub marked_kind : TKind → List Bool → List Bool
+marked_kind (forms.Function f) ms = slice_set ms f true
+marked_kind (forms.Call f) ms = slice_set ms f true
+marked_kind (forms.VirtualCall f n slot pointer) ms = slice_set ms f true
+marked_kind (forms.Construct f) ms = slice_set ms f true
+marked_kind (forms.CopyConstruct f) ms = slice_set ms f true
+marked_kind (forms.Destroy f offset count stride) ms = slice_set ms f true
+marked_kind kind ms = ms
+
+abbrev mutual
+  pub marked : Tree → List Bool → List Bool
+  marked (node kind t cat at kids) ms = all_marked kids (marked_kind kind ms)
+
+  pub all_marked : Trees → List Bool → List Bool
+  all_marked none ms = ms
+  all_marked (more t ts) ms = all_marked ts (marked t ms)
+
+abbrev pub with_marks : List Bool → Body → List Bool
+with_marks ms b = marked b.tree ms
+
+-- those that bodies name
+abbrev pub body_marks : List Body → List Bool → List Bool
+body_marks bodies ms = fold with_marks ms bodies
+
+-- the table of so many functions says which of them bodies name
+abbrev pub table_of : ℕ → List Body → List Bool
+table_of count bodies = body_marks bodies (replicate count false)

@@ -1,0 +1,88 @@
+// Functions that stand in slots of classes (C++14 10.3).
+
+ghost use Rattle.std.specs.Prelude.{◌≡◌, ◌==◌, ◌&&◌, Some, map, if◌then◌else◌};
+ghost use Rattle.std.specs.List.{list_any};
+ghost use Rattle.cpp_tree.specs.Units.{SlotFunc, slot_of};
+ghost use Rattle.elab_ctx.specs.Ctx.{ctx_of, func_of};
+ghost use Rattle.elab_rules.specs.Initialising.{func_at, same_number};
+ghost use Rattle.elab_rules.specs.Calls.{index_in_class as index_in_class_of};
+ghost use Rattle.elab_rules.specs.Implicit.{is_in_slot as is_in_slot_of};
+ghost use Rattle.elab_call.specs.Slots.{members_among as members_among_of};
+ghost use Rattle.elab_implicit.specs.Implied.{stands_in_slot as stands_in_slot_of};
+
+use cpp_tree::SlotRec;
+use elab_ctx::{Env, FuncDecl, function_at};
+use elab_names::functions::is_number;
+
+// Whether one of some slots has the function with an index in a class.
+fn are_slots_of(slots: &[SlotRec], class: u32, index: usize) -> bool
+    ensures { result ≡ list_any (λ (x : SlotFunc). same_number x.class (Some class) && x.func == index) (map slot_of slots.now) }
+{
+    for slot in slots {
+        if class == slot.class && slot.func as usize == index {
+            return true;
+        }
+    }
+    false
+}
+
+// The same of the slots of all classes.
+fn is_in_slot(slots: &[Vec<SlotRec>], class: u32, index: usize) -> bool
+    ensures { result ≡ is_in_slot_of (Some class) index (map (λ slots. map slot_of slots.items) slots.now) }
+{
+    for list in slots {
+        if are_slots_of(list, class, index) {
+            return true;
+        }
+    }
+    false
+}
+
+fn one_if(holds: bool) -> usize
+    ensures { result ≡ (if holds then 1 else 0) }
+{
+    if holds { 1 } else { 0 }
+}
+
+// How many of these are functions of a class.
+fn members_among(funcs: &[FuncDecl], class: u32) -> usize
+    ensures { result ≡ members_among_of class (map func_of funcs.now) }
+{
+    let mut count: usize = 0;
+    for found in funcs {
+        count += one_if(is_number(class, found.class));
+    }
+    count
+}
+
+// How many functions of a class stand before a place.
+#[tactic(auto, using(elab_call::proofs::Indices::all_counted, elab_call::proofs::Indices::first_counted))]
+fn index_in_class(funcs: &[FuncDecl], class: u32, place: u32) -> usize
+    ensures { result ≡ index_in_class_of class place (map func_of funcs.now) }
+{
+    let end = place as usize;
+    if end >= funcs.len() {
+        return members_among(funcs, class);
+    }
+    members_among(&funcs[..end], class)
+}
+
+// The class of which a function is a member.
+fn class_of(env: &Env, func: u32) -> Option<u32>
+    ensures { result ≡ (func_at (ctx_of env.now).funcs func).class }
+{
+    function_at(env, func)?.class
+}
+
+/// Whether a function stands in a slot of a class.
+pub fn stands_in_slot(env: &Env, func: u32) -> bool
+    ensures { result ≡ stands_in_slot_of (ctx_of env.now) func }
+{
+    match class_of(env, func) {
+        Some(class) => {
+            let index = index_in_class(&env.funcs, class, func);
+            is_in_slot(&env.slots, class, index)
+        }
+        None => false,
+    }
+}
