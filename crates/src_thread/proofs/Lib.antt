@@ -1,0 +1,4 @@
+pub mod Skips
+pub mod Labels
+pub mod Steps
+pub mod Waits
