@@ -63,4 +63,3 @@ returns-in-Races g c = subst (λ k. Does k (g.H.Host.state c.args.host.now) (g.H
 -- not there yet
 pub returns-in-Replay : goal.returns-in-Replay
 returns-in-Replay g c = subst (λ k. Does k (g.H.Host.state c.args.host.now) (g.H.Host.state c.usage.new.host) c.usage.result) (sym c.in-Replay.is) c.usage.ensures
-
