@@ -5,4 +5,5 @@ pub mod Folded
 pub mod Programs
 pub mod Sights
 pub mod Quiet
+pub mod Examples
 pub mod Bodies

@@ -3,6 +3,7 @@
 
 mod bare;
 mod copying;
+pub mod examples;
 pub mod laws;
 mod program;
 pub mod sights;
