@@ -1,5 +1,5 @@
 -- What `run`, `selftest` and `build` come to.
-use Rattle.std.specs.Prelude.{◌≡◌, ◌≤◌, ◌<◌, ℕ, List, [], ◌∷◌, ◌++◌, take, length, Option, None, codes, map, string_bytes}
+use Rattle.std.specs.Prelude.{◌≡◌, ◌≤◌, ◌<◌, ℕ, Bool, false, List, [], ◌∷◌, ◌++◌, take, length, Option, None, codes, map, string_bytes}
 use Rattle.std.specs.Option.{option_map}
 use Rattle.command_io.specs.Reads.{Wanted, wanted, wanted_each, wanted_given, bytes_of}
 use Rattle.command_io.specs.Writes.{Written, to_file}
@@ -9,7 +9,7 @@ use Rattle.exec_command.specs.Exec.{schedule_name, bad_schedule_line}
 use Rattle.exec_command.specs.Files.{schedule_file}
 use Rattle.object_bytes.specs.Spelling.{object_bytes}
 use Rattle.prog_gen.specs.Program.{program as program_text}
-use Rattle.run_command.specs.Runs.{DecidesTexts}
+use Rattle.run_command.specs.Runs.{Compiled, DecidesTexts}
 use Rattle.schedules.specs.Text.{Spells as Says, IsFirstBad, most_entries}
 use Rattle.source_verdict.specs.Verdict.{Accepts, RefusesTexts}
 use Rattle.tx_answers.specs.Ends.{Ends, Refuses, bare}
@@ -45,7 +45,7 @@ pub record AreTexts (r : Run) (texts sources : List (List ℕ)) (input schedule 
 -- the schedule is read: a run looks at its first entries alone
 pub data Decides (r : Run) (sources : List (List ℕ)) (input schedule : List ℕ) (a : Answer) (writes : List Written) : Type 0 where
   bad_schedule : (line : ℕ) → IsFirstBad schedule line → Refuses 10 (bad_schedule_line (schedule_name r.options.picker) line) BadSchedule a writes → Decides r sources input schedule a writes
-  scheduled : (entries : List ℕ) → Says schedule entries → DecidesTexts r.options (source_files r) sources input (take most_entries entries) a writes → Decides r sources input schedule a writes
+  scheduled : (entries : List ℕ) → Says schedule entries → DecidesTexts r.options r.fold (source_files r) sources input (take most_entries entries) a writes → Decides r sources input schedule a writes
 
 pub record DecidesOn (r : Run) (texts : List (List ℕ)) (a : Answer) (writes : List Written) : Type 0 where
   pub sources : List (List ℕ)
@@ -74,10 +74,16 @@ pub record PutsSome (to : List ℕ) (a : Answer) (writes : List Written) : Type 
   pub answer : a ≡ bare Done
   pub writes_are : writes ≡ to_file to (object_bytes object) ∷ []
 
+-- a safe program is compiled
+pub record CompilesAndPuts (fold : Bool) (p : Program) (to : List ℕ) (a : Answer) (writes : List Written) : Type 0 where
+  pub program : Program
+  pub compiled : Compiled fold p program
+  pub puts : PutsSome to a writes
+
 -- the first refusal of the text; or it is a safe program, which is compiled
-pub data DecidesBuild (name to text : List ℕ) (a : Answer) (writes : List Written) : Type 0 where
-  refuses : RefusesTexts (name ∷ []) (text ∷ []) a writes → DecidesBuild name to text a writes
-  builds : (p : Program) → Accepts (text ∷ []) p → PutsSome to a writes → DecidesBuild name to text a writes
+pub data DecidesBuild (fold : Bool) (name to text : List ℕ) (a : Answer) (writes : List Written) : Type 0 where
+  refuses : RefusesTexts (name ∷ []) (text ∷ []) a writes → DecidesBuild fold name to text a writes
+  builds : (p : Program) → Accepts (text ∷ []) p → CompilesAndPuts fold p to a writes → DecidesBuild fold name to text a writes
 
 -- ---- selftest
 
@@ -94,4 +100,4 @@ pub record AreDefaults (o : RunOptions) : Type 0 where
 pub record DecidesSelftest (n : ℕ) (texts : List (List ℕ)) (a : Answer) (writes : List Written) : Type 0 where
   pub options : RunOptions
   pub are_defaults : AreDefaults options
-  pub decides : DecidesTexts options (codes "selftest" ∷ []) (program_text n ∷ []) [] [] a writes
+  pub decides : DecidesTexts options false (codes "selftest" ∷ []) (program_text n ∷ []) [] [] a writes

@@ -1,14 +1,28 @@
 -- What becomes of texts that are to be run.
-use Rattle.std.specs.Prelude.{ℕ, List}
+use Rattle.std.specs.Prelude.{◌≡◌, ℕ, Bool, true, false, List}
 use Rattle.std.specs.List.{All}
 use Rattle.command_io.specs.Writes.{Written}
 use Rattle.cpp_tree.specs.declared.program.Program.{Program}
+use Rattle.cpp_tree.specs.Units.{program_of}
+use Rattle.cpp_tree.specs.WellFormed.{WellFormed}
 use Rattle.exec_command.specs.Exec.{DecidesObjects}
 use Rattle.source_verdict.specs.Verdict.{Accepts, RefusesTexts}
 use Rattle.tx_answers.specs.declared.answer.Answer.{Answer}
+use Rattle.tree_fold.specs.Programs.{folded_program}
 use Rattle.tx_code.specs.Objects.{ObjectView}
 use Rattle.tx_code.specs.WellFormed.{IsObject}
+use Rattle.tx_safety.specs.Safe.{IsSafe}
 use Rattle.tx_words.specs.declared.command.RunOptions.{RunOptions}
+
+-- What is compiled of a program: the program itself, or with `--fold` one that shows the folded program. It is well formed and safe too
+abbrev pub IsCompiled : (fold : Bool) → Program → Program → Type 0
+IsCompiled true p q = program_of q ≡ folded_program (program_of p)
+IsCompiled false p q = q ≡ p
+
+pub record Compiled (fold : Bool) (p q : Program) : Type 0 where
+  pub is : IsCompiled fold p q
+  pub well_formed : WellFormed q
+  pub safe : IsSafe (program_of q)
 
 -- Some objects are linked, verified and run. Which ones the compiler makes of a program is not told yet.
 pub record RunsSome (o : RunOptions) (input entries : List ℕ) (a : Answer) (writes : List Written) : Type 0 where
@@ -16,7 +30,13 @@ pub record RunsSome (o : RunOptions) (input entries : List ℕ) (a : Answer) (wr
   pub are_objects : All IsObject objects
   pub decides : DecidesObjects o objects input entries a writes
 
+-- a safe program is compiled and run
+pub record CompilesAndRuns (o : RunOptions) (fold : Bool) (p : Program) (input entries : List ℕ) (a : Answer) (writes : List Written) : Type 0 where
+  pub program : Program
+  pub compiled : Compiled fold p program
+  pub runs : RunsSome o input entries a writes
+
 -- the first refusal of the texts; or they are a safe program, which is compiled and run
-pub data DecidesTexts (o : RunOptions) (names texts : List (List ℕ)) (input entries : List ℕ) (a : Answer) (writes : List Written) : Type 0 where
-  refuses : RefusesTexts names texts a writes → DecidesTexts o names texts input entries a writes
-  runs : (p : Program) → Accepts texts p → RunsSome o input entries a writes → DecidesTexts o names texts input entries a writes
+pub data DecidesTexts (o : RunOptions) (fold : Bool) (names texts : List (List ℕ)) (input entries : List ℕ) (a : Answer) (writes : List Written) : Type 0 where
+  refuses : RefusesTexts names texts a writes → DecidesTexts o fold names texts input entries a writes
+  runs : (p : Program) → Accepts texts p → CompilesAndRuns o fold p input entries a writes → DecidesTexts o fold names texts input entries a writes

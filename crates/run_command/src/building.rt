@@ -4,11 +4,16 @@ ghost use Rattle.std.specs.Prelude.{◌≡◌, ◌<◌, [], ◌∷◌, map, leng
 ghost use Rattle.command_io.specs.Reads.{wanted};
 ghost use Rattle.command_io.specs.Writes.{written_of};
 ghost use Rattle.command_io.specs.declared.files.FileKind.TheVariants as kind;
-ghost use Rattle.run_command.specs.Commands.{DecidesBuild, PutsSome};
+ghost use Rattle.cpp_tree.specs.Units.{program_of};
+ghost use Rattle.cpp_tree.specs.WellFormed.{WellFormed};
+ghost use Rattle.tx_safety.specs.Answers.{checked_in};
+ghost use Rattle.tx_safety.specs.Safe.{IsSafe};
+ghost use Rattle.run_command.specs.Commands.{CompilesAndPuts, DecidesBuild, PutsSome};
 ghost use Rattle.tx_answers.specs.Ends.{Ends, on_one};
 ghost use Rattle.tx_code.specs.Objects.{object_view};
 ghost use Rattle.tx_code.specs.WellFormed.{IsObject};
 
+use crate::steps::folded_if;
 use command_io::{FileKind, Write, read_file};
 use object_bytes::write;
 use source_verdict::{Verdict, verdict_of};
@@ -33,8 +38,8 @@ fn put(alloc: Global, to: &str, object: &Object) -> Result<Decision, AllocError>
     })
 }
 
-// The unit of an accepted source is compiled.
-fn built(
+// The object of a program of one unit is written.
+fn put_program(
     alloc: Global,
     safe: &SafeProgram,
     name: &str,
@@ -49,6 +54,23 @@ fn built(
     }
     let object = unit_object(alloc, safe, 0, name.as_bytes(), text)?;
     put(alloc, to, &object)
+}
+
+// The unit of an accepted source is compiled.
+fn built(
+    alloc: Global,
+    fold: bool,
+    safe: SafeProgram,
+    name: &str,
+    to: &str,
+    text: &[u8],
+) -> Result<Decision, AllocError>
+    requires well_formed { WellFormed (checked_in safe) }
+    requires safe { IsSafe (program_of (checked_in safe)) }
+    ensures { IfOk result (λ d. CompilesAndPuts fold (checked_in safe) to.now d.answer (map written_of d.writes.items)) }
+{
+    let program = folded_if(alloc, fold, safe)?;
+    put_program(alloc, &program, name, to, text)
 }
 
 // A list of one name.
@@ -68,23 +90,29 @@ fn one_text(alloc: Global, text: &[u8]) -> Result<Vec<Vec<u8>>, AllocError>
 }
 
 // What the command decides on the text of its file.
-fn decided(alloc: Global, name: &str, to: &str, text: &[u8]) -> Result<Decision, AllocError>
-    ensures { IfOk result (λ d. DecidesBuild name.now to.now text.now d.answer (map written_of d.writes.items)) }
+fn decided(
+    alloc: Global,
+    fold: bool,
+    name: &str,
+    to: &str,
+    text: &[u8],
+) -> Result<Decision, AllocError>
+    ensures { IfOk result (λ d. DecidesBuild fold name.now to.now text.now d.answer (map written_of d.writes.items)) }
 {
     let names = one_name(alloc, name)?;
     let texts = one_text(alloc, text)?;
     match verdict_of(alloc, names.as_slice(), texts.as_slice())? {
-        Verdict::Accepted(safe) => built(alloc, &safe, name, to, text),
+        Verdict::Accepted(safe) => built(alloc, fold, safe, name, to, text),
         Verdict::Refused(decision) => Ok(decision),
     }
 }
 
-/// Reads the source of the command, and writes the object that it is compiled to; or the first refusal of the source. Nothing is linked.
-pub fn build<H: Host>(alloc: Global, name: &str, to: &str, host: &mut H) -> Answer
-    ensures { Ends (wanted kind.Source name.now ∷ []) (on_one (DecidesBuild name.now to.now)) (H.state host.old) (H.state host.new) result }
+/// Reads the source of the command, and writes the object that it is compiled to, with `fold` that of its folded program; or the first refusal of the source. Nothing is linked.
+pub fn build<H: Host>(alloc: Global, fold: bool, name: &str, to: &str, host: &mut H) -> Answer
+    ensures { Ends (wanted kind.Source name.now ∷ []) (on_one (DecidesBuild fold name.now to.now)) (H.state host.old) (H.state host.new) result }
 {
     match read_file(alloc, host, name, FileKind::Source) {
-        Ok(text) => settle(host, decided(alloc, name, to, text.as_slice())),
+        Ok(text) => settle(host, decided(alloc, fold, name, to, text.as_slice())),
         Err(unread) => halt(alloc, host, name, FileKind::Source, unread),
     }
 }

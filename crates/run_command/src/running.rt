@@ -33,6 +33,7 @@ fn decided(
         Ok(schedule) => with_texts(
             alloc,
             &run.options,
+            run.fold,
             run.sources.as_slice(),
             texts,
             input,

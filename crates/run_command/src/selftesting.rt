@@ -58,6 +58,7 @@ fn decided(alloc: Global, n: u32) -> Result<Decision, AllocError>
     with_texts(
         alloc,
         &options,
+        false,
         names.as_slice(),
         texts.as_slice(),
         input,

@@ -7,7 +7,11 @@ ghost use Rattle.exec_command.specs.Exec.{CanRun};
 ghost use Rattle.tx_code.specs.Objects.{object_view};
 ghost use Rattle.tx_code.specs.WellFormed.{IsObject};
 ghost use Rattle.tx_events.specs.declared.TheConstants.{THREAD_LIMIT};
-ghost use Rattle.run_command.specs.Runs.{DecidesTexts, RunsSome};
+ghost use Rattle.cpp_tree.specs.Units.{program_of};
+ghost use Rattle.cpp_tree.specs.WellFormed.{WellFormed};
+ghost use Rattle.tx_safety.specs.Answers.{checked_in};
+ghost use Rattle.tx_safety.specs.Safe.{IsSafe};
+ghost use Rattle.run_command.specs.Runs.{Compiled, CompilesAndRuns, DecidesTexts, RunsSome};
 
 use exec_command::steps::with_objects;
 use source_verdict::{Verdict, verdict_of};
@@ -15,6 +19,7 @@ use std::alloc::{AllocError, Global};
 use tx_answers::Decision;
 use tx_code::Object;
 use tx_safety::SafeProgram;
+use tx_safety::laws::readable;
 use tx_words::RunOptions;
 use unit_objects::unit_objects;
 
@@ -34,8 +39,25 @@ fn with_all(
     with_objects(alloc, options, objects, input, entries)
 }
 
-// A program that is accepted is compiled and run.
-fn compiled(
+/// What is compiled of a program: with `fold` the program that it folds to.
+pub(crate) fn folded_if(
+    alloc: Global,
+    fold: bool,
+    safe: SafeProgram,
+) -> Result<SafeProgram, AllocError>
+    requires well_formed { WellFormed (checked_in safe) }
+    requires safe { IsSafe (program_of (checked_in safe)) }
+    ensures { IfOk result (λ q. Compiled fold (checked_in safe) (checked_in q)) }
+{
+    if !fold {
+        return Ok(safe);
+    }
+    readable();
+    tree_fold::fold(alloc, safe)
+}
+
+// The objects of a program are run.
+fn run_program(
     alloc: Global,
     options: &RunOptions,
     safe: &SafeProgram,
@@ -52,10 +74,12 @@ fn compiled(
     with_all(alloc, options, objects.as_slice(), input, entries)
 }
 
-/// What is decided on texts whose files have these names.
-pub fn with_texts(
+// A program that is accepted is compiled and run.
+fn compiled(
     alloc: Global,
     options: &RunOptions,
+    fold: bool,
+    safe: SafeProgram,
     names: &[String],
     texts: &[Vec<u8>],
     input: Vec<u8>,
@@ -63,10 +87,32 @@ pub fn with_texts(
 ) -> Result<Decision, AllocError>
     requires options { CanRun options.now }
     requires threads { list_all (λ t. nat_lt t THREAD_LIMIT) entries.now ≡ true }
-    ensures { IfOk result (λ d. DecidesTexts options.now (map string_bytes names.now) (map (λ text. text.items) texts.now) input.items entries.now d.answer (map written_of d.writes.items)) }
+    requires well_formed { WellFormed (checked_in safe) }
+    requires safe { IsSafe (program_of (checked_in safe)) }
+    ensures { IfOk result (λ d. CompilesAndRuns options.now fold (checked_in safe) input.items entries.now d.answer (map written_of d.writes.items)) }
+{
+    let program = folded_if(alloc, fold, safe)?;
+    run_program(alloc, options, &program, names, texts, input, entries)
+}
+
+/// What is decided on texts whose files have these names.
+pub fn with_texts(
+    alloc: Global,
+    options: &RunOptions,
+    fold: bool,
+    names: &[String],
+    texts: &[Vec<u8>],
+    input: Vec<u8>,
+    entries: &[u8],
+) -> Result<Decision, AllocError>
+    requires options { CanRun options.now }
+    requires threads { list_all (λ t. nat_lt t THREAD_LIMIT) entries.now ≡ true }
+    ensures { IfOk result (λ d. DecidesTexts options.now fold (map string_bytes names.now) (map (λ text. text.items) texts.now) input.items entries.now d.answer (map written_of d.writes.items)) }
 {
     match verdict_of(alloc, names, texts)? {
-        Verdict::Accepted(safe) => compiled(alloc, options, &safe, names, texts, input, entries),
+        Verdict::Accepted(safe) => compiled(
+            alloc, options, fold, safe, names, texts, input, entries,
+        ),
         Verdict::Refused(decision) => Ok(decision),
     }
 }

@@ -5,10 +5,10 @@ use Rattle.command_io.specs.Reads.{Wanted, wanted}
 use Rattle.command_io.specs.declared.files.FileKind.TheVariants as kind
 use Rattle.command_io.specs.Writes.{Written, to_err}
 use Rattle.tx_words.specs.Reads.{Says}
-use Rattle.tx_words.specs.declared.command.Run.{Run}
 use Rattle.tx_words.specs.declared.command.Build.{Build}
 use Rattle.tx_words.specs.declared.command.Races.{Races}
 use Rattle.races_command.specs.Commands.{Reports}
+use Rattle.replay_command.specs.Replays.{Replays}
 use Rattle.run_command.specs.Commands.{Runs, DecidesBuild, DecidesSelftest}
 use Rattle.tx_words.specs.declared.command.Command.{Command}
 use Rattle.tx_words.specs.declared.command.Command.TheVariants as command
@@ -32,29 +32,25 @@ pub record DecidesUsage (texts : List (List ℕ)) (a : Answer) (writes : List Wr
 abbrev pub no_files : List Wanted
 no_files = []
 
--- `run`, `build` and `races` with `--fold` are to come: they are usage
+-- `races` with `--fold` is to come: it is usage
 abbrev pub where_folded : Bool → Type 0 → Type 0 → Type 0
 where_folded true folded unfolded = folded
 where_folded false folded unfolded = unfolded
 
-abbrev pub RunsUnfolded : Run → HostState → HostState → Answer → Type 0
-RunsUnfolded r old new a = where_folded r.fold (Ends no_files DecidesUsage old new a) (Runs r old new a)
-
 abbrev pub RacesUnfolded : Races → HostState → HostState → Answer → Type 0
 RacesUnfolded r old new a = where_folded r.run.fold (Ends no_files DecidesUsage old new a) (Reports r old new a)
 
-abbrev pub BuildsUnfolded : Build → HostState → HostState → Answer → Type 0
-BuildsUnfolded b old new a = where_folded b.fold (Ends no_files DecidesUsage old new a)
-    (Ends (wanted kind.Source (string_bytes b.source) ∷ []) (on_one (DecidesBuild (string_bytes b.source) (string_bytes b.object_file))) old new a)
+abbrev pub Builds : Build → HostState → HostState → Answer → Type 0
+Builds b old new a = Ends (wanted kind.Source (string_bytes b.source) ∷ []) (on_one (DecidesBuild b.fold (string_bytes b.source) (string_bytes b.object_file))) old new a
 
 -- what each command comes to. Those that the program does not have yet are usage
 abbrev pub Does : Command → HostState → HostState → Answer → Type 0
-Does (command.Run r) old new a = RunsUnfolded r old new a
+Does (command.Run r) old new a = Runs r old new a
 Does (command.Check c) old new a = Checks c old new a
 Does (command.Selftest n) old new a = Ends no_files (DecidesSelftest n) old new a
-Does (command.Build b) old new a = BuildsUnfolded b old new a
+Does (command.Build b) old new a = Builds b old new a
 Does (command.Exec e) old new a = Executes e old new a
-Does (command.Replay r) old new a = Ends no_files DecidesUsage old new a
+Does (command.Replay r) old new a = Replays r old new a
 Does (command.Dis object) old new a = Ends (wanted kind.Object (string_bytes object) ∷ []) (on_one (Disassembles (string_bytes object))) old new a
 Does (command.Asm m) old new a = Ends (wanted kind.Text (string_bytes m.text) ∷ []) (on_one (Assembles (string_bytes m.text) (string_bytes m.object_file))) old new a
 Does (command.Races r) old new a = RacesUnfolded r old new a

@@ -4,19 +4,20 @@ ghost use Rattle.std.specs.Prelude.{◌≡◌, ◌≤◌, [], map, length, IfOk,
 ghost use Rattle.command_io.specs.Writes.{written_of};
 ghost use Rattle.exec_command.specs.Exec.{CanRun};
 ghost use Rattle.tx_answers.specs.Ends.{Ends, bare};
-ghost use Rattle.txcc_core.specs.TopCall.{Answers, CanDo, Does, DecidesUsage, no_files, RunsUnfolded, BuildsUnfolded, RacesUnfolded};
+ghost use Rattle.txcc_core.specs.TopCall.{Answers, CanDo, Does, DecidesUsage, no_files, Builds, RacesUnfolded};
 
 use check_command::check;
 use command_io::Write;
 use exec_command::exec;
 use explain_command::explain;
 use races_command::races;
+use replay_command::replay;
 use run_command::{build, run, selftest};
 use std::alloc::{AllocError, Global};
 use text_commands::{asm, dis};
 use tx_answers::{Answer, Decision, Status, bare, settle};
 use tx_host::Host;
-use tx_words::{Build, Command, Races, Run, read};
+use tx_words::{Build, Command, Races, read};
 
 // What is written where the words say no command.
 fn usage_lines(alloc: Global) -> Result<Decision, AllocError>
@@ -37,17 +38,6 @@ fn usage<H: Host>(alloc: Global, host: &mut H) -> Answer
     settle(host, usage_lines(alloc))
 }
 
-// Runs sources. Constants are not folded yet.
-fn run_unfolded<H: Host>(alloc: Global, options: &Run, host: &mut H) -> Answer
-    requires { CanRun options.now.options }
-    ensures { RunsUnfolded options.now (H.state host.old) (H.state host.new) result }
-{
-    if options.fold {
-        return usage(alloc, host);
-    }
-    run(alloc, options, host)
-}
-
 // Runs sources, and reports the races of the run. Constants are not folded yet.
 fn races_unfolded<H: Host>(alloc: Global, options: &Races, host: &mut H) -> Answer
     requires { CanRun options.now.run.options }
@@ -59,15 +49,13 @@ fn races_unfolded<H: Host>(alloc: Global, options: &Races, host: &mut H) -> Answ
     races(alloc, options, host)
 }
 
-// Writes an object. Constants are not folded yet.
-fn build_unfolded<H: Host>(alloc: Global, options: &Build, host: &mut H) -> Answer
-    ensures { BuildsUnfolded options.now (H.state host.old) (H.state host.new) result }
+// Writes an object.
+fn build_object<H: Host>(alloc: Global, options: &Build, host: &mut H) -> Answer
+    ensures { Builds options.now (H.state host.old) (H.state host.new) result }
 {
-    if options.fold {
-        return usage(alloc, host);
-    }
     build(
         alloc,
+        options.fold,
         options.source.as_str(),
         options.object_file.as_str(),
         host,
@@ -80,8 +68,8 @@ fn execute<H: Host>(alloc: Global, command: &Command, host: &mut H) -> Answer
     ensures { Does command.now (H.state host.old) (H.state host.new) result }
 {
     match command {
-        Command::Run(options) => run_unfolded(alloc, options, host),
-        Command::Build(options) => build_unfolded(alloc, options, host),
+        Command::Run(options) => run(alloc, options, host),
+        Command::Build(options) => build_object(alloc, options, host),
         Command::Selftest(n) => selftest(alloc, *n, host),
         Command::Dis(object) => dis(alloc, object.as_str(), host),
         Command::Asm(options) => asm(
@@ -93,7 +81,7 @@ fn execute<H: Host>(alloc: Global, command: &Command, host: &mut H) -> Answer
         Command::Exec(options) => exec(alloc, options, host),
         Command::Check(options) => check(alloc, options, host),
         Command::Explain(rule) => explain(alloc, rule.as_str(), host),
-        Command::Replay(_) => usage(alloc, host),
+        Command::Replay(options) => replay(alloc, options, host),
         Command::Races(options) => races_unfolded(alloc, options, host),
     }
 }

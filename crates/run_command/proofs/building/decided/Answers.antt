@@ -6,6 +6,9 @@ use Rattle.source_verdict.specs.Verdict.{Accepts, RefusesTexts}
 use Rattle.run_command.specs.Commands.{builds, refuses}
 use Rattle.run_command.proofs.building.decided.Goals as goal
 
+pub built-requires : goal.built-requires
+built-requires c = let k = rw c.in-Accepted.is at c.in_ok-safe.ensures in record { well_formed = k.well_formed; safe = k.safe }
+
 pub returns-in-Accepted : goal.returns-in-Accepted
 returns-in-Accepted c =
     let texts : map (λ t. t.items) c.as_slice-2.result.now ≡ c.args.text.now ∷ [] = ap (λ l. map (λ t. t.items) l) c.as_slice-2.ensures.value ∙ c.in_ok-texts.ensures in

@@ -17,8 +17,8 @@ pub returns-in-Ok : goal.returns-in-Ok
 returns-in-Ok c =
     IfOk-weaker c.with_texts.result _ _ (λ d h.
     scheduled c.in-Ok.ensures.entries c.in-Ok.ensures.spelled
-    (subst (λ l. DecidesTexts c.args.run.now.options (map string_bytes c.args.run.now.sources.items) (map (λ text. text.items) c.args.texts.now) c.args.input.items l d.answer (map written_of d.writes.items)) (c.as_slice-in-Ok.ensures.value ∙ c.in-Ok.ensures.kept.0)
-    (subst (λ s. DecidesTexts c.args.run.now.options (map string_bytes s) (map (λ text. text.items) c.args.texts.now) c.args.input.items c.as_slice-in-Ok.result.now d.answer (map written_of d.writes.items)) c.as_slice.ensures.value h)))
+    (subst (λ l. DecidesTexts c.args.run.now.options c.args.run.now.fold (map string_bytes c.args.run.now.sources.items) (map (λ text. text.items) c.args.texts.now) c.args.input.items l d.answer (map written_of d.writes.items)) (c.as_slice-in-Ok.ensures.value ∙ c.in-Ok.ensures.kept.0)
+    (subst (λ s. DecidesTexts c.args.run.now.options c.args.run.now.fold (map string_bytes s) (map (λ text. text.items) c.args.texts.now) c.args.input.items c.as_slice-in-Ok.result.now d.answer (map written_of d.writes.items)) c.as_slice.ensures.value h)))
     c.with_texts.ensures
 
 pub returns-in-Err-BadSchedule : goal.returns-in-Err-BadSchedule

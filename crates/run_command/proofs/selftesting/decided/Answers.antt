@@ -1,4 +1,4 @@
-use Rattle.std.proofs.Common.{◌≡◌, ℕ, List, [], ◌∷◌, ap, ◌∙◌, map, string_bytes, subst}
+use Rattle.std.proofs.Common.{◌≡◌, ℕ, false, List, [], ◌∷◌, ap, ◌∙◌, map, string_bytes, subst}
 use Rattle.std.specs.Prelude.{codes}
 use Rattle.std.proofs.lemmas.Result.{IfOk-weaker}
 use Rattle.command_io.specs.Writes.{written_of}
@@ -14,7 +14,7 @@ returns c =
       options = c.defaults-options.result;
       are_defaults = c.defaults-options.ensures;
       decides =
-          subst (λ l. DecidesTexts c.defaults-options.result l (program_text c.args.n ∷ []) [] [] d.answer (map written_of d.writes.items)) names
-          (subst (λ l. DecidesTexts c.defaults-options.result (map string_bytes c.as_slice.result.now) l [] [] d.answer (map written_of d.writes.items)) texts
-          (subst (λ l. DecidesTexts c.defaults-options.result (map string_bytes c.as_slice.result.now) (map (λ t. t.items) c.as_slice-2.result.now) l [] d.answer (map written_of d.writes.items)) c.new-input.ensures.items h));
+          subst (λ l. DecidesTexts c.defaults-options.result false l (program_text c.args.n ∷ []) [] [] d.answer (map written_of d.writes.items)) names
+          (subst (λ l. DecidesTexts c.defaults-options.result false (map string_bytes c.as_slice.result.now) l [] [] d.answer (map written_of d.writes.items)) texts
+          (subst (λ l. DecidesTexts c.defaults-options.result false (map string_bytes c.as_slice.result.now) (map (λ t. t.items) c.as_slice-2.result.now) l [] d.answer (map written_of d.writes.items)) c.new-input.ensures.items h));
     }) c.with_texts.ensures

@@ -9,13 +9,13 @@ use Rattle.txcc_core.specs.TopCall.{CanDo, Does}
 use Rattle.txcc_core.proofs.top.execute.Goals as goal
 
 pub returns-in-Run : goal.returns-in-Run
-returns-in-Run g c = subst (λ k. Does k (g.H.Host.state c.args.host.now) (g.H.Host.state c.run_unfolded.new.host) c.run_unfolded.result) (sym c.in-Run.is) c.run_unfolded.ensures
+returns-in-Run g c = subst (λ k. Does k (g.H.Host.state c.args.host.now) (g.H.Host.state c.run.new.host) c.run.result) (sym c.in-Run.is) c.run.ensures
 
-pub run_unfolded-requires : goal.run_unfolded-requires
-run_unfolded-requires g c = subst CanDo c.in-Run.is c.requires
+pub run-requires : goal.run-requires
+run-requires g c = record { options = subst CanDo c.in-Run.is c.requires }
 
 pub returns-in-Build : goal.returns-in-Build
-returns-in-Build g c = subst (λ k. Does k (g.H.Host.state c.args.host.now) (g.H.Host.state c.build_unfolded.new.host) c.build_unfolded.result) (sym c.in-Build.is) c.build_unfolded.ensures
+returns-in-Build g c = subst (λ k. Does k (g.H.Host.state c.args.host.now) (g.H.Host.state c.build_object.new.host) c.build_object.result) (sym c.in-Build.is) c.build_object.ensures
 
 pub selftest-requires : goal.selftest-requires
 selftest-requires g c = let h = subst CanDo c.in-Selftest.is c.requires in record { least = h.0; most = h.1 }
@@ -60,6 +60,5 @@ races_unfolded-requires g c = subst CanDo c.in-Races.is c.requires
 pub returns-in-Races : goal.returns-in-Races
 returns-in-Races g c = subst (λ k. Does k (g.H.Host.state c.args.host.now) (g.H.Host.state c.races_unfolded.new.host) c.races_unfolded.result) (sym c.in-Races.is) c.races_unfolded.ensures
 
--- not there yet
 pub returns-in-Replay : goal.returns-in-Replay
-returns-in-Replay g c = subst (λ k. Does k (g.H.Host.state c.args.host.now) (g.H.Host.state c.usage.new.host) c.usage.result) (sym c.in-Replay.is) c.usage.ensures
+returns-in-Replay g c = subst (λ k. Does k (g.H.Host.state c.args.host.now) (g.H.Host.state c.replay.new.host) c.replay.result) (sym c.in-Replay.is) c.replay.ensures

@@ -1,0 +1,8 @@
+use Rattle.std.proofs.Common.{map, subst, string_bytes}
+use Rattle.std.proofs.lemmas.Result.{IfOk-weaker}
+use Rattle.tx_safety.specs.Answers.{checked_in}
+use Rattle.replay_command.specs.Replays.{accepts, refuses}
+use Rattle.replay_command.proofs.steps.with_texts.Goals as goal
+
+pub returns-in-Accepted : goal.returns-in-Accepted
+returns-in-Accepted c = IfOk-weaker c.compiled.result _ _ (λ d h. accepts (checked_in c.in-Accepted.safe) (rw c.in-Accepted.is at c.in_ok-safe.ensures) h) c.compiled.ensures

@@ -1,0 +1,135 @@
+-- What `replay` comes to: the steps of the command, each with the refusal that ends it there.
+use Rattle.std.specs.Prelude.{◌≡◌, ◌≤◌, ◌<◌, ℕ, List, [], ◌∷◌, ◌++◌, length, Option, Some, None, codes, map, string_bytes}
+use Rattle.std.specs.Option.{option_map}
+use Rattle.std.specs.Fmt.{decimal}
+use Rattle.std.specs.List.{All}
+use Rattle.command_io.specs.Reads.{Wanted, wanted, wanted_each, wanted_given, bytes_of}
+use Rattle.command_io.specs.Writes.{Written, to_out, to_err}
+use Rattle.command_io.specs.declared.files.FileKind.TheVariants.{Source, Input, Schedule as ScheduleFile}
+use Rattle.cpp_tree.specs.declared.program.Program.{Program}
+use Rattle.exec_command.specs.Exec.{bad_schedule_line, RefusesLink}
+use Rattle.link_faults.specs.Answers.{Faulty}
+use Rattle.link_faults.specs.declared.fault.LinkFault.{LinkFault}
+use Rattle.schedules.specs.Text.{Spells as Says, IsFirstBad, Keeps, most_entries}
+use Rattle.schedules.specs.declared.Schedule.{Schedule}
+use Rattle.source_verdict.specs.Verdict.{Accepts, RefusesTexts}
+use Rattle.src_replay.specs.Orders.{IsReplayed, IsFault}
+use Rattle.src_replay.specs.declared.replaying.Replayed.{Replayed}
+use Rattle.src_replay.specs.declared.replaying.ReplayFault.TheVariants.{NotARun, Spent}
+use Rattle.tx_answers.specs.Ends.{Ends, Refuses, bare}
+use Rattle.tx_answers.specs.Report as report
+use Rattle.tx_answers.specs.declared.answer.Answer.{Answer}
+use Rattle.tx_answers.specs.declared.answer.Status.{Status}
+use Rattle.tx_answers.specs.declared.answer.Status.TheVariants.{Refused, StepsOut, Limit, BadSchedule, CostOut}
+use Rattle.tx_code.specs.Images.{ImageView}
+use Rattle.tx_code.specs.Linked.{ImageOf}
+use Rattle.tx_code.specs.Objects.{ObjectView}
+use Rattle.tx_code.specs.WellFormed.{IsObject}
+use Rattle.tx_events.specs.declared.End.{End}
+use Rattle.tx_host.specs.Told.{HostState}
+use Rattle.tx_words.specs.declared.command.Replay.{Replay}
+
+-- ---- the files
+
+abbrev pub source_files : Replay → List (List ℕ)
+source_files r = map string_bytes r.sources.items
+
+abbrev pub input_file : Replay → Option (List ℕ)
+input_file r = option_map string_bytes r.input_file
+
+abbrev pub order_file : Replay → List ℕ
+order_file r = string_bytes r.order_file
+
+-- the sources in order, then the input, then the order
+abbrev pub wants_of : Replay → List Wanted
+wants_of r = wanted_each Source (source_files r) ++ (wanted_given Input (input_file r) ++ wanted ScheduleFile (order_file r) ∷ [])
+
+-- These are the texts of the files. An input that is not named stands for an empty text.
+pub record AreTexts (r : Replay) (texts sources : List (List ℕ)) (input order : List ℕ) : Type 0 where
+  pub texts_are : texts ≡ sources ++ (bytes_of (input_file r) input ++ order ∷ [])
+  pub many : length sources ≡ length (source_files r)
+  pub no_input : input_file r ≡ None → input ≡ []
+
+-- ---- answers and refusals
+
+-- the line of the end, and of none; and the status
+abbrev pub end_line : Option End → List ℕ
+end_line (Some end) = report.end_line end
+end_line None = codes "open\n"
+
+abbrev pub status_of : Option End → Status
+status_of (Some end) = report.status_of end
+status_of None = StepsOut
+
+-- the output is written, and then the line of the end
+pub record Answers (o : Replayed) (a : Answer) (writes : List Written) : Type 0 where
+  pub answer : a ≡ bare (status_of o.end)
+  pub writes_are : writes ≡ to_out o.out.items ∷ to_err (end_line o.end) ∷ []
+
+abbrev pub limit_line : (name : List ℕ) → List ℕ
+limit_line name = name ++ codes ": Limit Order"
+
+abbrev pub not_a_run_line : (name : List ℕ) → (index : ℕ) → List ℕ
+not_a_run_line name index = name ++ (codes ": NotARun " ++ decimal index)
+
+abbrev pub spent_line : (index : ℕ) → List ℕ
+spent_line index = codes "cost out " ++ decimal index
+
+-- ---- the steps
+
+-- The order is replayed on the program. What the threads do is not told yet: of the answer of the call `replay` stands here what holds of each.
+pub data DecidesOrder (r : Replay) (order : List ℕ) (a : Answer) (writes : List Written) : Type 0 where
+  replayed : (o : Replayed) → IsReplayed order r.cost o → Answers o a writes → DecidesOrder r order a writes
+  not_a_run : (index : ℕ) → IsFault order r.cost (NotARun index) → Refuses 13 (not_a_run_line (order_file r) index) Refused a writes → DecidesOrder r order a writes
+  spent : (index : ℕ) → IsFault order r.cost (Spent index) → Refuses 15 (spent_line index) CostOut a writes → DecidesOrder r order a writes
+
+-- the objects of the units are linked
+pub data DecidesObjects (r : Replay) (objects : List ObjectView) (order : List ℕ) (a : Answer) (writes : List Written) : Type 0 where
+  faulty : (fault : LinkFault) → Faulty objects fault → RefusesLink fault a writes → DecidesObjects r objects order a writes
+  linked : (image : ImageView) → ImageOf objects image → DecidesOrder r order a writes → DecidesObjects r objects order a writes
+
+-- Some objects are linked. Which ones the compiler makes of a program is not told yet.
+pub record DecidesSome (r : Replay) (order : List ℕ) (a : Answer) (writes : List Written) : Type 0 where
+  pub objects : List ObjectView
+  pub are_objects : All IsObject objects
+  pub decides : DecidesObjects r objects order a writes
+
+-- the first refusal of the texts; or they are a safe program
+pub data DecidesTexts (r : Replay) (texts : List (List ℕ)) (order : List ℕ) (a : Answer) (writes : List Written) : Type 0 where
+  refuses : RefusesTexts (source_files r) texts a writes → DecidesTexts r texts order a writes
+  accepts : (p : Program) → Accepts texts p → DecidesSome r order a writes → DecidesTexts r texts order a writes
+
+-- an order of more entries is refused
+pub data OnEntries (r : Replay) (texts : List (List ℕ)) (entries : List ℕ) (a : Answer) (writes : List Written) : Type 0 where
+  too_long : most_entries < length entries → Refuses 7 (limit_line (order_file r)) Limit a writes → OnEntries r texts entries a writes
+  ordered : length entries ≤ most_entries → DecidesTexts r texts entries a writes → OnEntries r texts entries a writes
+
+-- what is decided where so many of the entries are kept
+abbrev pub OnKept : Replay → List (List ℕ) → Schedule → Answer → List Written → Type 0
+OnKept r texts order a writes = (entries : List ℕ) → Keeps most_entries entries order → OnEntries r texts entries a writes
+
+-- the order is read, on the texts of the sources
+pub data Decides (r : Replay) (texts : List (List ℕ)) (order : List ℕ) (a : Answer) (writes : List Written) : Type 0 where
+  bad_schedule : (line : ℕ) → IsFirstBad order line → Refuses 10 (bad_schedule_line (order_file r) line) BadSchedule a writes → Decides r texts order a writes
+  says : (entries : List ℕ) → Says order entries → OnEntries r texts entries a writes → Decides r texts order a writes
+
+-- ---- the command
+
+-- on the texts of its files
+pub record DecidesOn (r : Replay) (texts : List (List ℕ)) (a : Answer) (writes : List Written) : Type 0 where
+  pub sources : List (List ℕ)
+  pub input : List ℕ
+  pub order : List ℕ
+  pub texts_are : AreTexts r texts sources input order
+  pub decides : Decides r sources order a writes
+
+abbrev pub TooMany : List (List ℕ) → Answer → List Written → Type 0
+TooMany texts a writes = Refuses 7 (codes "Limit Sources") Limit a writes
+
+abbrev pub no_files : List Wanted
+no_files = []
+
+-- more than 16 sources are refused before any file is read
+pub data Replays (r : Replay) (old new : HostState) (a : Answer) : Type 0 where
+  too_many : 16 < length (source_files r) → Ends no_files TooMany old new a → Replays r old new a
+  replays : length (source_files r) ≤ 16 → Ends (wants_of r) (DecidesOn r) old new a → Replays r old new a

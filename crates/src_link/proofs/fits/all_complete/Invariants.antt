@@ -1,0 +1,9 @@
+use Rattle.std.proofs.Common.{map, drop}
+use Rattle.cpp_types.specs.Typ.{typ_of}
+use Rattle.cpp_types.specs.Class.{classes_of}
+use Rattle.cpp_layout.specs.Frames.{AllComplete}
+use Rattle.src_link.proofs.fits.all_complete.Given as goal
+
+-- all items are complete where those that are left are
+abbrev pub invariant-loop-item : goal.invariant-loop-item
+invariant-loop-item l = AllComplete (classes_of l.classes) (map typ_of (drop l.item-index l.items)) → AllComplete (classes_of l.classes) (map typ_of l.items)

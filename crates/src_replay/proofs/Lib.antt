@@ -1,0 +1,4 @@
+pub mod Undone
+pub mod Came
+pub mod Entries
+pub mod Words

@@ -1,0 +1,4 @@
+pub mod Orders
+pub mod Shown
+pub mod Undone
+pub mod Inner

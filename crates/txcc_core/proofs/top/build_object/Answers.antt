@@ -1,0 +1,15 @@
+use Rattle.std.proofs.Common.{subst, ◌∷◌, [], List, ℕ, string_bytes}
+use Rattle.command_io.specs.Reads.{wanted}
+use Rattle.command_io.specs.declared.files.FileKind.TheVariants.{Source}
+use Rattle.run_command.specs.Commands.{DecidesBuild}
+use Rattle.tx_answers.specs.Ends.{Ends, on_one}
+use Rattle.txcc_core.proofs.top.build_object.Goals as goal
+
+pub returns : goal.returns
+returns g c =
+    let before = g.H.Host.state c.args.host.now in
+    let after = g.H.Host.state c.build.new.host in
+    let fold = c.args.options.now.fold in
+    let object = string_bytes c.args.options.now.object_file in
+    subst (λ (n : List ℕ). Ends (wanted Source n ∷ []) (on_one (DecidesBuild fold n object)) before after c.build.result) c.as_str.ensures.value
+    (subst (λ (t : List ℕ). Ends (wanted Source c.as_str.result.now ∷ []) (on_one (DecidesBuild fold c.as_str.result.now t)) before after c.build.result) c.as_str-2.ensures.value c.build.ensures)
