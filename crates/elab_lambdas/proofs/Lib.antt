@@ -1,4 +1,3 @@
-pub mod Captured
 pub mod Closing
 pub mod Cuts
 pub mod Kept
@@ -6,4 +5,3 @@ pub mod Made
 pub mod Parts
 pub mod Refusals
 pub mod Results
-pub mod Scans

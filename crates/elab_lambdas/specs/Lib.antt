@@ -1,6 +1,5 @@
 pub mod Checkpoints
 pub mod Outcomes
-pub mod Says
 pub mod Shown
 pub mod Steps
 pub mod Whole

@@ -1,44 +1,9 @@
 -- What the records of the code show.
-use Rattle.std.specs.Prelude.{ℕ, Vec, List, [], ◌∷◌, map, fold}
-use Rattle.cpp_lex.specs.Tokens.{Lexeme}
-use Rattle.std.specs.declared.alloc.Global.{Global}
-use Rattle.elab_ctx.specs.declared.env.Capture.{Capture as CaptureRec}
-use Rattle.elab_ctx.specs.Ctx.{Capture, capture_of}
-use Rattle.elab_ctx.specs.Steps.{spelling}
 use Rattle.cpp_types.specs.Typ.{Signature}
 use Rattle.cpp_types.specs.Class.{Function}
-use Rattle.elab_rules.specs.Lambdas.{Used, Scan, Otherwise, nothing, by_copy, by_reference, call_record}
+use Rattle.elab_rules.specs.Lambdas.{call_record}
 use Rattle.elab_types.specs.Shown.{qualifiers_of}
 use Rattle.elab_lambdas.specs.declared.closures.CallWords.{CallWords}
-use Rattle.elab_lambdas.specs.declared.scanning.Used.{Used as UsedRec}
-use Rattle.elab_lambdas.specs.declared.scanning.Scan.{Scan as ScanRec}
-use Rattle.elab_lambdas.specs.declared.explicit.Otherwise.{Otherwise as OtherwiseRec}
-use Rattle.elab_lambdas.specs.declared.explicit.Otherwise.TheVariants as defaults
-
--- What a body names
-
-abbrev pub used_of : UsedRec → Used
-used_of u = record { variable = u.variable; at = u.at }
-
-abbrev pub with_own : List Lexeme → List (List ℕ) → ℕ → List (List ℕ)
-with_own s names t = spelling s t ∷ names
-
--- the names that were declared, the last one first; they are kept by their tokens, the last one last
-abbrev pub own_of : List Lexeme → List ℕ → List (List ℕ)
-own_of s tokens = fold (with_own s) [] tokens
-
-abbrev pub scan_of : List Lexeme → ScanRec → Scan
-scan_of s x = record { own = own_of s x.own.items; used = map used_of x.used.items }
-
--- Captures
-
-abbrev pub captures_of : Vec CaptureRec Global → List Capture
-captures_of v = map capture_of v.items
-
-abbrev pub otherwise_of : OtherwiseRec → Otherwise
-otherwise_of defaults.Nothing = nothing
-otherwise_of defaults.ByCopy = by_copy
-otherwise_of defaults.ByReference = by_reference
 
 -- The call of a lambda
 abbrev pub call_of : CallWords → Signature → Function

@@ -1,67 +1,16 @@
 -- The definitions of lambdas, step by step.
-use Rattle.std.specs.Prelude.{ℕ, Bool, false, not, ◌&&◌, ◌||◌, List, [], ◌∷◌, ◌++◌, Option, Some, None, Result, Ok, count_by, if◌then◌else◌}
-use Rattle.std.specs.Str.{bytes_eq}
+use Rattle.std.specs.Prelude.{ℕ, false, List, [], ◌∷◌, ◌++◌, Option, Some, None, Result, Ok, count_by, if◌then◌else◌}
 use Rattle.cpp_types.specs.Typ.{Typ}
 use Rattle.cpp_types.specs.Class.{Class, Function}
-use Rattle.cpp_types.specs.Conversion.{referred}
-use Rattle.cpp_types.specs.declared.classes.At.{At}
 use Rattle.cpp_ast.specs.declared.kinds.NodeKind.TheVariants as k
 use Rattle.cpp_ast.specs.Trees.{Tree, node, Trees, none, more}
 use Rattle.cpp_lex.specs.Tokens.{Lexeme}
 use Rattle.cpp_tree.specs.declared.faults.ElabFault.{ElabFault}
-use Rattle.cpp_tree.specs.declared.faults.IllRule.TheVariants.{OutOfProfile, Capture as CaptureRule}
-use Rattle.cpp_tree.specs.Typing.{form_in}
 use Rattle.elab_ctx.specs.Ctx.{Ctx, Work, Func, Capture}
-use Rattle.elab_ctx.specs.Steps.{and_then, check, spelling}
 use Rattle.elab_rules.specs.Types.{Parameter}
 use Rattle.elab_rules.specs.Expressions.{type_id_of}
 use Rattle.elab_rules.specs.Classes.{class_named, is_completed}
-use Rattle.elab_rules.specs.Lambdas.{Otherwise, captured_as, copies_closure, is_captured, capture_used, capture_this, adds, explicit_variable, Scan, declaring, scanned, scanned_all, capture_members, call_func, an_option}
-
--- Names
-
--- a token is spelled so
-abbrev pub spells : List Lexeme → List ℕ → ℕ → Bool
-spells s name t = bytes_eq (spelling s t) name
-
--- a name is this one
-abbrev pub is_name : List ℕ → List ℕ → Bool
-is_name name n = bytes_eq n name
-
-abbrev pub token_if : Option ℕ → List ℕ
-token_if (Some t) = t ∷ []
-token_if None = []
-
--- the tokens of the names of parameters, the last one first
-abbrev pub tokens_back : List Parameter → List ℕ
-tokens_back [] = []
-tokens_back (p ∷ ps) = tokens_back ps ++ token_if p.name
-
--- a declarator with its initialiser
-abbrev pub declarator_scanned : List Lexeme → Ctx → Scan → Option ℕ → Trees → Scan
-declarator_scanned s c x token none = x
-declarator_scanned s c x token (more d init) = scanned_all s c (declaring s (scanned s c x d) token) init
-
--- Captures
-
-abbrev pub with_capture : List Capture → Option ℕ → Bool → Typ → At → List Capture
-with_capture xs variable by_ref t at = xs ++ record { variable = variable; by_ref = by_ref; typ = t; at = at } ∷ []
-
--- a variable whose type is known
-abbrev pub capture_typed : Ctx → List Capture → At → ℕ → Bool → Typ → Result (List Capture) ElabFault
-capture_typed c xs at i by_ref t = and_then (check at OutOfProfile (by_ref || copies_closure c (form_in (referred t)))) (λ y. Ok (with_capture xs (Some i) by_ref (captured_as by_ref t) at))
-
--- what is named is captured, unless that is done
-abbrev pub capture_once : Ctx → Bool → List Capture → At → Option ℕ → Result (List Capture) ElabFault
-capture_once c by_ref xs at variable = if is_captured variable xs then Ok xs else capture_used c by_ref xs at variable
-
-abbrev pub explicit_this : Ctx → Otherwise → List Capture → At → Result (List Capture) ElabFault
-explicit_this c d xs at = and_then (check at CaptureRule (adds d false && not (is_captured None xs))) (λ y. capture_this c xs at)
-
--- a name that is written, if one is
-abbrev pub explicit_name : List Lexeme → Ctx → Otherwise → List Capture → At → Option ℕ → Bool → Result (List Capture) ElabFault
-explicit_name s c d xs at (Some t) by_ref = explicit_variable c d xs at (spelling s t) by_ref
-explicit_name s c d xs at None by_ref = Ok xs
+use Rattle.elab_rules.specs.Lambdas.{capture_members, call_func, an_option}
 
 -- The class and its call
 

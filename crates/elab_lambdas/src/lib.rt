@@ -2,12 +2,8 @@
 //! [expr.prim.lambda]).
 #![tactic(auto)]
 
-pub mod captures;
 pub mod closures;
-pub mod explicit;
 pub mod making;
-pub mod names;
-pub mod scanning;
 pub mod traits;
 pub mod undoing;
 pub mod written;

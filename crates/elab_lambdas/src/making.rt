@@ -22,7 +22,6 @@ ghost use Rattle.elab_lambdas.specs.Shown.{call_of};
 ghost use Rattle.elab_lambdas.specs.Whole.{written_of, call_signature, closure_entered, body_inside as body_inside_of, lambda_with as lambda_with_of, lambda_known as lambda_known_of, result_read, result_deduced as result_deduced_of, result_of as result_of_of, lambda_made as lambda_made_of};
 ghost use Rattle.elab_lambdas.specs.Outcomes.{Lists, Deduces};
 
-use crate::captures::copy_captures;
 use crate::closures::{CallWords, add_closure, next_class};
 use crate::undoing::{checkpoint_here, undo};
 use cpp_ast::{NodeId, Nodes};
@@ -41,6 +40,7 @@ use elab_types::declarators::{function_of, is_declared_safe};
 use elab_types::specifiers::ill;
 use elab_types::syntax::{node_at, place};
 use elab_types::types::is_complete_type;
+use lambda_captures::captures::copy_captures;
 use std::alloc::{AllocError, Global};
 
 /// What is written of a lambda.

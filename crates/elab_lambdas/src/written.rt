@@ -13,16 +13,13 @@ ghost use Rattle.elab_types.specs.Shown.{Says, parameter_of, qualifiers_of as qu
 ghost use Rattle.elab_types.specs.Syntax.{syntax_of, tree_at, trees_at};
 ghost use Rattle.elab_scopes.specs.States.{state_of};
 ghost use Rattle.elab_scopes.specs.Says.{Changes};
-ghost use Rattle.elab_lambdas.specs.Shown.{otherwise_of, captures_of as captures_view};
+ghost use Rattle.lambda_captures.specs.Shown.{otherwise_of, captures_of as captures_view};
 ghost use Rattle.elab_lambdas.specs.Steps.{trailing_in as trailing_in_of, trailing, result_written};
-ghost use Rattle.elab_lambdas.specs.Says.{Collects};
+ghost use Rattle.lambda_captures.specs.Says.{Collects};
 ghost use Rattle.elab_lambdas.specs.Whole.{written_of, lambda_written as lambda_written_of, lambda_from as lambda_from_of, lambda_of as lambda_of_of, lambdas_of, lambdas_among};
 
-use crate::captures::capture_uses;
 use crate::closures::CallWords;
-use crate::explicit::{Otherwise, default_in, explicit_captures};
 use crate::making::{Written, lambda_made};
-use crate::scanning::used_in;
 use cpp_ast::{NodeId, NodeKind, Nodes};
 use cpp_lex::Tokens;
 use cpp_tree::{ElabFault, IllRule, OverrideRule};
@@ -35,6 +32,9 @@ use elab_types::parts::qualifiers_of;
 use elab_types::specifiers::ill;
 use elab_types::syntax::{node_at, place};
 use elab_types::{Parameter, Qualifiers};
+use lambda_captures::captures::capture_uses;
+use lambda_captures::explicit::{Otherwise, default_in, explicit_captures};
+use lambda_captures::scanning::used_in;
 use std::alloc::Global;
 
 // The parameters of a lambda, among the kids of its declarator.

@@ -7,7 +7,7 @@ use Rattle.elab_rules.specs.Lambdas.{kids_of}
 use Rattle.elab_types.specs.Shown.{parameter_of, qualifiers_of}
 use Rattle.elab_types.specs.Syntax.{syntax_of, tree_at, trees_at}
 use Rattle.elab_scopes.specs.States.{state_of}
-use Rattle.elab_lambdas.specs.Shown.{otherwise_of}
+use Rattle.lambda_captures.specs.Shown.{otherwise_of}
 use Rattle.elab_lambdas.proofs.Parts.{written_is}
 use Rattle.elab_lambdas.proofs.written.lambda_written.Goals as goal
 

@@ -1,8 +1,0 @@
-use Rattle.std.proofs.Common.{◌≡◌, drop, map}
-use Rattle.elab_ctx.specs.Ctx.{ctx_of, capture_of}
-use Rattle.elab_rules.specs.Lambdas.{captured_uses}
-use Rattle.elab_lambdas.specs.Shown.{used_of}
-use Rattle.elab_lambdas.proofs.captures.capture_uses.Given as goal
-
-abbrev pub invariant-loop-found : goal.invariant-loop-found
-invariant-loop-found l = captured_uses (ctx_of l.env) l.by_ref (map capture_of l.captures.items) (map used_of (drop l.found-index l.used)) ≡ captured_uses (ctx_of l.env) l.by_ref (map capture_of l.fn.captures.items) (map used_of l.used)

@@ -1,0 +1,20 @@
+-- What answers say of what is to be answered.
+use Rattle.std.specs.Prelude.{◌≡◌, List, map, take, length, Result, Ok, Err}
+use Rattle.cpp_lex.specs.Tokens.{Lexeme}
+use Rattle.cpp_tree.specs.declared.faults.ElabFault.{ElabFault}
+use Rattle.elab_ctx.specs.Ctx.{Capture, capture_of}
+use Rattle.elab_ctx.specs.declared.env.Capture.{Capture as CaptureRec}
+use Rattle.elab_ctx.specs.Says.{Faults}
+use Rattle.elab_rules.specs.Lambdas.{Scan}
+use Rattle.lambda_captures.specs.declared.scanning.Scan.{Scan as ScanRec}
+use Rattle.lambda_captures.specs.Shown.{scan_of}
+
+-- these are the captures that are to be answered
+abbrev pub Collects : List CaptureRec → Result (Unit {0}) ElabFault → Result (List Capture) ElabFault → Type 0
+Collects new (Ok u) x = x ≡ Ok (map capture_of new)
+Collects new (Err e) x = Faults e x
+
+-- what a body names was read as far as `x`; names that were declared before are kept
+pub record Scanned (s : List Lexeme) (old new : ScanRec) (x : Scan) : Type 0 where
+  pub kept : take (length old.own.items) new.own.items ≡ old.own.items
+  pub is : scan_of s new ≡ x

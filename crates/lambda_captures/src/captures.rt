@@ -1,0 +1,232 @@
+// Captures (C++14 5.1.2 p8 to p15).
+
+ghost use Rattle.std.specs.Prelude.{◌≡◌, ◌++◌, ◌∷◌, [], map, IfOk, OnOk};
+ghost use Rattle.cpp_types.specs.Typ.{typ_of};
+ghost use Rattle.cpp_tree.specs.Typing.{form_in};
+ghost use Rattle.elab_ctx.specs.Ctx.{ctx_of, special_of, capture_of};
+ghost use Rattle.elab_rules.specs.Statements.{is_trivial as is_trivial_of};
+ghost use Rattle.elab_rules.specs.Lambdas.{captured_as as captured_as_of, copies_closure as copies_closure_of, is_captured as is_captured_of, capture_variable as capture_variable_of, capture_this as capture_this_of, capture_used as capture_used_of, captured_uses};
+ghost use Rattle.lambda_captures.specs.Shown.{used_of};
+ghost use Rattle.lambda_captures.specs.Steps.{capture_typed as capture_typed_of, capture_once};
+ghost use Rattle.lambda_captures.specs.Says.{Collects};
+
+use crate::scanning::Used;
+use cpp_tree::{ElabFault, IllRule};
+use cpp_types::{At, Shape, Ty, copy};
+use elab_conv::types::pointer_to;
+use elab_ctx::{Capture, Env, Special};
+use elab_init::{referred_type, traits_at};
+use elab_names::captures::is_same_variable;
+use elab_names::parts::plain_type;
+use elab_types::specifiers::ill;
+use std::alloc::{AllocError, Global};
+
+/// The member of a capture: a copy of the object, or a reference to it.
+fn captured_as(alloc: Global, by_ref: bool, ty: &Ty) -> Result<Ty, AllocError>
+    ensures { IfOk result (λ t. typ_of t ≡ captured_as_of by_ref (typ_of ty.now)) }
+{
+    let object = copy(alloc, referred_type(ty))?;
+    if !by_ref {
+        return Ok(object);
+    }
+    let target = Box::new(alloc, object)?;
+    Ok(plain_type(Shape::Ref(target)))
+}
+
+fn is_trivial(special: Special) -> bool
+    ensures { result ≡ is_trivial_of (special_of special) }
+{
+    match special {
+        Special::Trivial => true,
+        Special::Absent | Special::Function(_) => false,
+    }
+}
+
+// Whether an object of a type may be captured by copy: a lambda's only where it is copied byte by byte (profile).
+fn copies_closure(env: &Env, ty: &Ty) -> bool
+    ensures { result ≡ copies_closure_of (ctx_of env.now) (form_in (typ_of ty.now)) }
+{
+    match &ty.shape {
+        Shape::Closure(class) => is_trivial(traits_at(env, *class).copy),
+        Shape::Void
+        | Shape::Int(_)
+        | Shape::Enum { .. }
+        | Shape::Null
+        | Shape::Ptr(_)
+        | Shape::Ref(_)
+        | Shape::Array(_, _)
+        | Shape::Func(_)
+        | Shape::Class(_)
+        | Shape::TxEx(_) => true,
+    }
+}
+
+/// Whether a variable, or `this`, is captured.
+pub fn is_captured(captures: &[Capture], variable: Option<u32>) -> bool
+    ensures { result ≡ is_captured_of variable (map capture_of captures.now) }
+{
+    for found in captures {
+        if is_same_variable(variable, found.variable) {
+            return true;
+        }
+    }
+    false
+}
+
+fn keep_capture(captures: &mut Vec<Capture>, capture: Capture) -> Result<(), AllocError>
+    ensures { OnOk result (map capture_of captures.new.items ≡ map capture_of captures.old.items ++ capture_of capture ∷ []) }
+{
+    captures.push(capture)?;
+    Ok(())
+}
+
+// One more capture: of a variable of a type.
+fn capture_typed(
+    alloc: Global,
+    env: &Env,
+    captures: &mut Vec<Capture>,
+    at: At,
+    variable: u32,
+    by_ref: bool,
+    ty: &Ty,
+) -> Result<(), ElabFault>
+    ensures { Collects captures.new.items result (capture_typed_of (ctx_of env.now) (map capture_of captures.old.items) at variable by_ref (typ_of ty.now)) }
+{
+    if !by_ref && !copies_closure(env, referred_type(ty)) {
+        return Err(ill(at, IllRule::OutOfProfile));
+    }
+    let ty = captured_as(alloc, by_ref, ty)?;
+    keep_capture(
+        captures,
+        Capture {
+            variable: Some(variable),
+            by_ref,
+            ty,
+            at,
+        },
+    )?;
+    Ok(())
+}
+
+/// One more capture: of a variable.
+pub fn capture_variable(
+    alloc: Global,
+    env: &Env,
+    captures: &mut Vec<Capture>,
+    at: At,
+    variable: u32,
+    by_ref: bool,
+) -> Result<(), ElabFault>
+    ensures { Collects captures.new.items result (capture_variable_of (ctx_of env.now) (map capture_of captures.old.items) at variable by_ref) }
+{
+    let Some(found) = env.variables.get(variable as usize) else {
+        return Err(ill(at, IllRule::UnknownName));
+    };
+    match &found.ty {
+        Some(ty) => capture_typed(alloc, env, captures, at, variable, by_ref, ty),
+        None => Err(ill(at, IllRule::BadInit)),
+    }
+}
+
+/// One more capture: of `this`.
+pub fn capture_this(
+    alloc: Global,
+    env: &Env,
+    captures: &mut Vec<Capture>,
+    at: At,
+) -> Result<(), ElabFault>
+    ensures { Collects captures.new.items result (capture_this_of (ctx_of env.now) (map capture_of captures.old.items) at) }
+{
+    let Some(this) = &env.this else {
+        return Err(ill(at, IllRule::Capture));
+    };
+    let ty = pointer_to(alloc, copy(alloc, &this.ty)?)?;
+    keep_capture(
+        captures,
+        Capture {
+            variable: None,
+            by_ref: false,
+            ty,
+            at,
+        },
+    )?;
+    Ok(())
+}
+
+// What is named is captured: a variable, or `this`, where there is one.
+fn capture_used(
+    alloc: Global,
+    env: &Env,
+    captures: &mut Vec<Capture>,
+    by_ref: bool,
+    used: Used,
+) -> Result<(), ElabFault>
+    ensures { Collects captures.new.items result (capture_used_of (ctx_of env.now) by_ref (map capture_of captures.old.items) used.at used.variable) }
+{
+    match used.variable {
+        Some(variable) => capture_variable(alloc, env, captures, used.at, variable, by_ref),
+        None => {
+            if env.this.is_none() {
+                return Ok(());
+            }
+            capture_this(alloc, env, captures, used.at)
+        }
+    }
+}
+
+// The same, unless it is captured.
+fn capture_once(
+    alloc: Global,
+    env: &Env,
+    captures: &mut Vec<Capture>,
+    by_ref: bool,
+    used: Used,
+) -> Result<(), ElabFault>
+    ensures { Collects captures.new.items result (capture_once (ctx_of env.now) by_ref (map capture_of captures.old.items) used.at used.variable) }
+{
+    if is_captured(captures, used.variable) {
+        return Ok(());
+    }
+    capture_used(alloc, env, captures, by_ref, used)
+}
+
+/// What is named is captured, in the order of its first use.
+pub fn capture_uses(
+    alloc: Global,
+    env: &Env,
+    captures: &mut Vec<Capture>,
+    by_ref: bool,
+    used: &[Used],
+) -> Result<(), ElabFault>
+    ensures { Collects captures.new.items result (captured_uses (ctx_of env.now) by_ref (map capture_of captures.old.items) (map used_of used.now)) }
+{
+    for found in used {
+        capture_once(alloc, env, captures, by_ref, *found)?;
+    }
+    Ok(())
+}
+
+// The same capture once more.
+fn copy_capture(alloc: Global, capture: &Capture) -> Result<Capture, AllocError>
+    ensures { IfOk result (λ x. capture_of x ≡ capture_of capture.now) }
+{
+    let ty = copy(alloc, &capture.ty)?;
+    Ok(Capture {
+        variable: capture.variable,
+        by_ref: capture.by_ref,
+        ty,
+        at: capture.at,
+    })
+}
+
+/// The same captures once more.
+pub fn copy_captures(alloc: Global, captures: &[Capture]) -> Result<Vec<Capture>, AllocError>
+    ensures { IfOk result (λ v. map capture_of v.items ≡ map capture_of captures.now) }
+{
+    let mut list = Vec::new(alloc);
+    for found in captures {
+        let made = copy_capture(alloc, found)?;
+        keep_capture(&mut list, made)?;
+    }
+    Ok(list)
+}
