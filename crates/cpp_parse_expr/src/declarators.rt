@@ -13,6 +13,7 @@ ghost use Rattle.cpp_syntax.specs.Grammar.{suffix};
 ghost use Rattle.cpp_syntax.specs.Parsed.{ParsesLongest, ParsesAlways, ParsesAlwaysBehind};
 ghost use Rattle.cpp_syntax.specs.declared.limits.TheConstants.{MAX_TOKENS};
 
+use crate::expect;
 use crate::expressions::conditional_expression;
 use crate::types::{cv_qualifiers, type_name, type_specifier_seq};
 use cpp_ast::NodeKind;
@@ -218,18 +219,9 @@ fn declarator_id(
     if text.is_name_at(at) {
         return Ok(Some(leaf(text, at, NodeKind::DeclaratorId, out)?));
     }
-    if !text.is_at(at, Terminal::TypeName) {
-        out.expected_at(at);
-        return Ok(None);
-    }
-    if !text.is_at(at + 1, Terminal::ColonColon) {
-        out.expected_at(at + 1);
-        return Ok(None);
-    }
-    if !text.is_name_at(at + 2) {
-        out.expected_at(at + 2);
-        return Ok(None);
-    }
+    expect!(text.is_at(at, Terminal::TypeName), out);
+    expect!(text.is_at(at + 1, Terminal::ColonColon), out);
+    expect!(text.is_name_at(at + 2), out);
     let start = out.checkpoint();
     type_name(text, at, out)?;
     node(
@@ -255,10 +247,7 @@ fn parenthesized_declarator(
     requires here { at ≤ length text.now.terminals }
     ensures { ParsesLongest text.now (parenthesized_declarator whole (naming_of naming)) at None out.old out.new result }
 {
-    if !text.is_at(at, Terminal::OpenParen) {
-        out.expected_at(at);
-        return Ok(None);
-    }
+    expect!(text.is_at(at, Terminal::OpenParen), out);
     let start = out.checkpoint();
     let Some(close) = declarator(text, at + 1, naming, descend(depth_left)?, out)? else {
         return Ok(None);
@@ -267,10 +256,7 @@ fn parenthesized_declarator(
         out.expected_at(close);
         return Ok(None);
     }
-    if !text.is_at(close, Terminal::CloseParen) {
-        out.expected_at(close);
-        return Ok(None);
-    }
+    expect!(text.is_at(close, Terminal::CloseParen), out);
     node(
         text,
         at,
@@ -344,10 +330,7 @@ fn array_bound(
     ensures { ParsesLongest text.now (array_bound whole) at (Some at) out.old out.new result }
 {
     let close = optional_conditional_expression(text, at + 1, descend(depth_left)?, out)?;
-    if !text.is_at(close, Terminal::CloseBracket) {
-        out.expected_at(close);
-        return Ok(None);
-    }
+    expect!(text.is_at(close, Terminal::CloseBracket), out);
     Ok(Some(close + 1))
 }
 
@@ -382,15 +365,9 @@ pub fn function_parameters(
     requires here { at ≤ length text.now.terminals }
     ensures { ParsesLongest text.now (parameters_behind whole (naming_of naming)) at (Some at) out.old out.new result }
 {
-    if !text.is_at(at, Terminal::OpenParen) {
-        out.expected_at(at);
-        return Ok(None);
-    }
+    expect!(text.is_at(at, Terminal::OpenParen), out);
     let close = parameter_clause(text, at + 1, descend(depth_left)?, out)?;
-    if !text.is_at(close, Terminal::CloseParen) {
-        out.expected_at(close);
-        return Ok(None);
-    }
+    expect!(text.is_at(close, Terminal::CloseParen), out);
     if !naming.may_be_unnamed() && !text.lookahead_parameters(at) {
         return Ok(None);
     }

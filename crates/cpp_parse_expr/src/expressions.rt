@@ -14,6 +14,7 @@ ghost use Rattle.cpp_parse_expr.specs.Suffixes.{ParsedSuffix, literal_kind};
 ghost use Rattle.cpp_syntax.specs.declared.limits.TheConstants.{MAX_TOKENS};
 
 use crate::declarators::type_id;
+use crate::expect;
 use crate::lambdas::lambda_expression;
 use crate::types::{tx_exception, type_name};
 use cpp_ast::NodeKind;
@@ -210,10 +211,7 @@ fn choice(
     let Some(middle) = expression(text, at + 1, inner, out)? else {
         return Ok(None);
     };
-    if !text.is_at(middle, Terminal::Colon) {
-        out.expected_at(middle);
-        return Ok(None);
-    }
+    expect!(text.is_at(middle, Terminal::Colon), out);
     assignment_expression(text, middle + 1, inner, out)
 }
 
@@ -278,10 +276,7 @@ fn cast_expression(
     let Some(close) = type_id(text, at + 1, inner, out)? else {
         return Ok(None);
     };
-    if !text.is_at(close, Terminal::CloseParen) {
-        out.expected_at(close);
-        return Ok(None);
-    }
+    expect!(text.is_at(close, Terminal::CloseParen), out);
     let Some(next) = cast_expression(text, close + 1, inner, out)? else {
         return Ok(None);
     };
@@ -360,10 +355,7 @@ fn sizeof_expression(
     let Some(close) = type_id(text, at + 2, inner, out)? else {
         return Ok(None);
     };
-    if !text.is_at(close, Terminal::CloseParen) {
-        out.expected_at(close);
-        return Ok(None);
-    }
+    expect!(text.is_at(close, Terminal::CloseParen), out);
     node(text, at, NodeKind::SizeofType, Some(at as u32), start, out)?;
     Ok(Some(close + 1))
 }
@@ -453,10 +445,7 @@ fn subscript(
     let Some(close) = expression(text, at + 1, descend(depth_left)?, out)? else {
         return Ok(None);
     };
-    if !text.is_at(close, Terminal::CloseBracket) {
-        out.expected_at(close);
-        return Ok(None);
-    }
+    expect!(text.is_at(close, Terminal::CloseBracket), out);
     Ok(Some(Suffix {
         kind: NodeKind::Subscript,
         token: at as u32,
@@ -535,10 +524,7 @@ fn arguments(
     ensures { ParsesLongest text.now arguments at (Some at) out.old out.new result }
 {
     let close = expression_list(text, at + 1, descend(depth_left)?, out)?;
-    if !text.is_at(close, Terminal::CloseParen) {
-        out.expected_at(close);
-        return Ok(None);
-    }
+    expect!(text.is_at(close, Terminal::CloseParen), out);
     Ok(Some(close + 1))
 }
 
@@ -666,10 +652,7 @@ fn parenthesized_expression(
     let Some(close) = expression(text, at + 1, descend(depth_left)?, out)? else {
         return Ok(None);
     };
-    if !text.is_at(close, Terminal::CloseParen) {
-        out.expected_at(close);
-        return Ok(None);
-    }
+    expect!(text.is_at(close, Terminal::CloseParen), out);
     node(
         text,
         at,
@@ -694,30 +677,18 @@ fn static_cast(
     requires few { length text.now.terminals ≤ MAX_TOKENS }
     ensures { ParsesLongest text.now static_cast at None out.old out.new result }
 {
-    if !text.is_at(at + 1, Terminal::Less) {
-        out.expected_at(at + 1);
-        return Ok(None);
-    }
+    expect!(text.is_at(at + 1, Terminal::Less), out);
     let start = out.checkpoint();
     let inner = descend(depth_left)?;
     let Some(greater) = type_id(text, at + 2, inner, out)? else {
         return Ok(None);
     };
-    if !text.is_at(greater, Terminal::Greater) {
-        out.expected_at(greater);
-        return Ok(None);
-    }
-    if !text.is_at(greater + 1, Terminal::OpenParen) {
-        out.expected_at(greater + 1);
-        return Ok(None);
-    }
+    expect!(text.is_at(greater, Terminal::Greater), out);
+    expect!(text.is_at(greater + 1, Terminal::OpenParen), out);
     let Some(close) = expression(text, greater + 2, inner, out)? else {
         return Ok(None);
     };
-    if !text.is_at(close, Terminal::CloseParen) {
-        out.expected_at(close);
-        return Ok(None);
-    }
+    expect!(text.is_at(close, Terminal::CloseParen), out);
     node(text, at, NodeKind::StaticCast, Some(at as u32), start, out)?;
     Ok(Some(close + 1))
 }
@@ -738,10 +709,7 @@ fn of_type_name(
     if !text.is_at(at + 1, Terminal::ColonColon) {
         return functional_cast(text, at, depth_left, out);
     }
-    if !text.is_name_at(at + 2) {
-        out.expected_at(at + 2);
-        return Ok(None);
-    }
+    expect!(text.is_name_at(at + 2), out);
     let start = out.checkpoint();
     type_name(text, at, out)?;
     node(
@@ -768,10 +736,7 @@ fn of_std(
     requires few { length text.now.terminals ≤ MAX_TOKENS }
     ensures { ParsesLongest text.now (std_abort ∣ functional_cast) at None out.old out.new result }
 {
-    if !text.is_at(at + 1, Terminal::ColonColon) {
-        out.expected_at(at + 1);
-        return Ok(None);
-    }
+    expect!(text.is_at(at + 1, Terminal::ColonColon), out);
     if !text.is_at(at + 2, Terminal::Abort) {
         return functional_cast(text, at, depth_left, out);
     }
@@ -794,10 +759,7 @@ fn functional_cast(
     let Some(open) = functional_type(text, at, depth_left, out)? else {
         return Ok(None);
     };
-    if !text.is_at(open, Terminal::OpenParen) {
-        out.expected_at(open);
-        return Ok(None);
-    }
+    expect!(text.is_at(open, Terminal::OpenParen), out);
     let Some(next) = arguments(text, open, depth_left, out)? else {
         return Ok(None);
     };

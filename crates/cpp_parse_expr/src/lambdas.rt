@@ -9,6 +9,7 @@ ghost use Rattle.cpp_syntax.specs.Grammar.{leaf, capture, first_capture, capture
 ghost use Rattle.cpp_syntax.specs.Parsed.{ParsesLongest, ParsesAlways};
 
 use crate::declarators::{optional_noexcept, optional_safety, parameter_clause, type_id};
+use crate::expect;
 use cpp_ast::NodeKind;
 use cpp_syntax::read::{leaf, node};
 use cpp_syntax::shapes::descend;
@@ -31,10 +32,7 @@ pub fn lambda_expression(
         return Ok(None);
     };
     let open = optional_declarator(text, introduced, depth_left, out)?;
-    if !text.is_at(open, Terminal::OpenBrace) {
-        out.expected_at(open);
-        return Ok(None);
-    }
+    expect!(text.is_at(open, Terminal::OpenBrace), out);
     let Some(close) = text.partner(open) else {
         out.expected_at(open);
         return Ok(None);
@@ -58,16 +56,10 @@ fn lambda_introducer(
     requires here { at ≤ length text.now.terminals }
     ensures { ParsesLongest text.now (form lambda_introducer) at None out.old out.new result }
 {
-    if !text.is_at(at, Terminal::OpenBracket) {
-        out.expected_at(at);
-        return Ok(None);
-    }
+    expect!(text.is_at(at, Terminal::OpenBracket), out);
     let start = out.checkpoint();
     let next = captures(text, at + 1, out)?;
-    if !text.is_at(next, Terminal::CloseBracket) {
-        out.expected_at(next);
-        return Ok(None);
-    }
+    expect!(text.is_at(next, Terminal::CloseBracket), out);
     node(
         text,
         at,
@@ -130,14 +122,8 @@ fn capture(text: &TypeNames, at: usize, out: &mut Builder) -> Result<Option<usiz
     if text.is_at(at, Terminal::This) {
         return Ok(Some(leaf(text, at, NodeKind::ThisCapture, out)?));
     }
-    if !text.is_at(at, Terminal::Amp) {
-        out.expected_at(at);
-        return Ok(None);
-    }
-    if !text.is_name_at(at + 1) {
-        out.expected_at(at + 1);
-        return Ok(None);
-    }
+    expect!(text.is_at(at, Terminal::Amp), out);
+    expect!(text.is_name_at(at + 1), out);
     out.leaf(
         NodeKind::ReferenceCapture,
         text.position(at),
@@ -191,16 +177,10 @@ fn lambda_declarator(
     requires here { at ≤ length text.now.terminals }
     ensures { ParsesLongest text.now lambda_parameters at None out.old out.new result }
 {
-    if !text.is_at(at, Terminal::OpenParen) {
-        out.expected_at(at);
-        return Ok(None);
-    }
+    expect!(text.is_at(at, Terminal::OpenParen), out);
     let start = out.checkpoint();
     let close = parameter_clause(text, at + 1, depth_left, out)?;
-    if !text.is_at(close, Terminal::CloseParen) {
-        out.expected_at(close);
-        return Ok(None);
-    }
+    expect!(text.is_at(close, Terminal::CloseParen), out);
     let changing = optional_mutable(text, close + 1, out)?;
     let safe = optional_safety(text, changing, out)?;
     let quiet = optional_noexcept(text, safe, out)?;
@@ -250,10 +230,7 @@ fn trailing_return_type(
     requires here { at ≤ length text.now.terminals }
     ensures { ParsesLongest text.now trailing_return_type at None out.old out.new result }
 {
-    if !text.is_at(at, Terminal::Arrow) {
-        out.expected_at(at);
-        return Ok(None);
-    }
+    expect!(text.is_at(at, Terminal::Arrow), out);
     let start = out.checkpoint();
     let Some(next) = type_id(text, at + 1, descend(depth_left)?, out)? else {
         return Ok(None);

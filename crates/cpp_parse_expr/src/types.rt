@@ -10,6 +10,7 @@ ghost use Rattle.cpp_syntax.specs.Grammar.{leaf, cv_qualifiers, type_name, tx_ex
 ghost use Rattle.cpp_syntax.specs.Parsed.{ParsesLongest, ParsesAlways};
 
 use crate::declarators::type_id;
+use crate::expect;
 use cpp_ast::NodeKind;
 use cpp_syntax::read::{leaf, node};
 use cpp_syntax::shapes::descend;
@@ -111,10 +112,7 @@ pub fn tx_exception(
     let Some(greater) = type_id(text, from, descend(depth_left)?, out)? else {
         return Ok(None);
     };
-    if !text.is_at(greater, Terminal::Greater) {
-        out.expected_at(greater);
-        return Ok(None);
-    }
+    expect!(text.is_at(greater, Terminal::Greater), out);
     node(
         text,
         at,
