@@ -9,11 +9,11 @@ trace_named-requires-clause-picker c = can_pick c.args.options.now.picker c.args
 
 pub races-requires : goal.races-requires
 races-requires c =
-    subst Regular (sym c.as_slice.ensures.value) (c.a_trace_of_an_image_is_regular.ensures c.args.input.items _ _ c.in_ok-trace_named.ensures.trace)
+    subst Regular (sym c.as_slice.ensures.value) (c.a_trace_of_an_image_is_regular.ensures c.args.input.items _ _ c.in_ok-ran.ensures.trace)
 
 pub returns-clause-races : goal.returns-clause-races
 returns-clause-races c = record {
-  items = c.in_ok-trace_named.field-0.1.items.items;
-  trace = c.in_ok-trace_named.ensures.trace;
+  items = c.in_ok-ran.trace.items.items;
+  trace = c.in_ok-ran.ensures.trace;
   races = subst (λ l. Races l c.in_ok-words.words.items) c.as_slice.ensures.value c.in_ok-words.ensures;
 }

@@ -1,10 +1,16 @@
+use Rattle.std.proofs.Common.{subst, ◌∙◌, map}
 use Rattle.std.proofs.lemmas.Result.{IfOk-weaker}
 use Rattle.code_verify.specs.declared.verified.BadCode.TheVariants as code
-use Rattle.object_races.specs.ObjectRaces.{bad_code, runs}
+use Rattle.command_io.specs.Writes.{written_of}
+use Rattle.tx_code.specs.Views.{image_view}
+use Rattle.object_races.specs.ObjectRaces.{RunsWithRaces, bad_code, runs}
 use Rattle.object_races.proofs.steps.with_image.Goals as goal
 
 pub returns-in-Ok : goal.returns-in-Ok
-returns-in-Ok c = IfOk-weaker c.run.result _ _ (λ d h. runs h) c.run.ensures
+returns-in-Ok c =
+    IfOk-weaker c.run.result _ _ (λ d h.
+    runs (subst (λ i. RunsWithRaces c.args.options.now c.args.file.now (image_view i) c.args.input.items c.args.entries.now d.answer (map written_of d.writes.items)) (c.image.ensures.same ∙ c.in-Ok.ensures.same) h))
+    c.run.ensures
 
 pub returns-in-Err-Rule : goal.returns-in-Err-Rule
 returns-in-Err-Rule c =
