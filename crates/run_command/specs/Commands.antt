@@ -1,7 +1,7 @@
 -- What `run`, `selftest` and `build` come to.
 use Rattle.std.specs.Prelude.{◌≡◌, ◌≤◌, ◌<◌, ℕ, Bool, false, List, [], ◌∷◌, ◌++◌, take, length, Option, None, codes, map, string_bytes}
 use Rattle.std.specs.Option.{option_map}
-use Rattle.command_io.specs.Reads.{Wanted, wanted, wanted_each, wanted_given, bytes_of}
+use Rattle.command_io.specs.Reads.{Wanted, wanted_each, wanted_given, bytes_of}
 use Rattle.command_io.specs.Writes.{Written, to_file}
 use Rattle.command_io.specs.declared.files.FileKind.TheVariants.{Source, Input, Schedule}
 use Rattle.cpp_tree.specs.declared.program.Program.{Program}

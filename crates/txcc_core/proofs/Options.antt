@@ -1,5 +1,5 @@
 -- What the words say can be done.
-use Rattle.std.proofs.Common.{ℕ, List, ◌<◌, ◌≤◌}
+use Rattle.std.proofs.Common.{ℕ, List}
 use Rattle.tx_words.specs.Names.{IsInBounds}
 use Rattle.tx_words.specs.Reads.{Says}
 use Rattle.tx_words.specs.declared.command.Command.{Command}

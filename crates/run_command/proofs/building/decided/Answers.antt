@@ -1,4 +1,4 @@
-use Rattle.std.proofs.Common.{◌≡◌, ℕ, List, [], ◌∷◌, ap, ◌∙◌, map, string_bytes, subst}
+use Rattle.std.proofs.Common.{◌≡◌, [], ◌∷◌, ap, ◌∙◌, map, string_bytes, subst}
 use Rattle.std.proofs.lemmas.Result.{IfOk-weaker}
 use Rattle.command_io.specs.Writes.{written_of}
 use Rattle.tx_safety.specs.Answers.{checked_in}

@@ -1,7 +1,6 @@
-use Rattle.std.proofs.Common.{subst, sym, ap, inl, inr, [], ◌∷◌, List, ℕ, string_bytes}
+use Rattle.std.proofs.Common.{subst, sym, [], ◌∷◌, List, ℕ, string_bytes}
 use Rattle.command_io.specs.Reads.{wanted}
 use Rattle.command_io.specs.declared.files.FileKind.TheVariants.{Object, Text}
-use Rattle.tx_words.specs.declared.command.Command.{Command}
 use Rattle.tx_answers.specs.Ends.{Ends, on_one}
 use Rattle.explain_command.specs.Explain.{DecidesExplanation}
 use Rattle.text_commands.specs.TextCommands.{Disassembles, Assembles}

@@ -1,6 +1,5 @@
-use Rattle.std.proofs.Common.{subst, sym, Ok, ◌∙◌, ap}
-use Rattle.std.specs.Prelude.{IfSome}
-use Rattle.txcc_core.specs.TopCall.{Answers, says, usage}
+use Rattle.std.proofs.Common.{Ok, ap}
+use Rattle.txcc_core.specs.TopCall.{says, usage}
 use Rattle.txcc_core.proofs.Options.{can_do}
 use Rattle.txcc_core.proofs.top.txcc.Goals as goal
 
