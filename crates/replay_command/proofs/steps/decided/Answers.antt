@@ -1,5 +1,6 @@
 use Rattle.std.proofs.Common.{subst, map}
 use Rattle.std.proofs.lemmas.Result.{IfOk-weaker}
+use Rattle.command_io.specs.Writes.{written_of}
 use Rattle.tx_answers.specs.Ends.{Refuses}
 use Rattle.tx_answers.specs.declared.answer.Status.TheVariants as status
 use Rattle.exec_command.specs.Exec.{bad_schedule_line}
@@ -13,5 +14,5 @@ pub returns-in-Err-BadSchedule : goal.returns-in-Err-BadSchedule
 returns-in-Err-BadSchedule c =
     IfOk-weaker c.bad_schedule.result _ _ (λ d h.
     bad_schedule c.in-Err-BadSchedule.line (rw c.in-Err-BadSchedule.field-0-is at c.in-Err-BadSchedule.ensures)
-    (subst (λ n. Refuses 10 (bad_schedule_line n c.in-Err-BadSchedule.line) status.BadSchedule d.answer (map _ d.writes.items)) c.as_str-in-Err-BadSchedule.ensures.value h))
+    (subst (λ n. Refuses 10 (bad_schedule_line n c.in-Err-BadSchedule.line) status.BadSchedule d.answer (map written_of d.writes.items)) c.as_str.ensures.value h))
     c.bad_schedule.ensures
