@@ -1,10 +1,10 @@
 -- Calls: inside a block a function that is entered has a safe body.
 use Rattle.std.specs.Prelude.{◌≡◌, ℕ, ◌+◌, Bool, true, false, ◌||◌, cond, nat_lt, List, [], ◌∷◌, Option, Some, None, refl}
 use Rattle.std.proofs.lemmas.Bool.{and_parts, and_from}
-use Rattle.tx_events.specs.declared.End.{End}
-use Rattle.tx_events.specs.declared.End.TheVariants.{Trapped}
-use Rattle.tx_events.specs.declared.Trap.TheVariants.{UnsafeCall}
-use Rattle.tx_events.specs.Thread.{no_atomic}
+use Rattle.cpp_tree.specs.tx_events.declared.End.{End}
+use Rattle.cpp_tree.specs.tx_events.declared.End.TheVariants.{Trapped}
+use Rattle.cpp_tree.specs.tx_events.declared.Trap.TheVariants.{UnsafeCall}
+use Rattle.cpp_tree.specs.tx_events.Thread.{no_atomic}
 use Rattle.cpp_tree.specs.declared.kinds.Builtin.{Builtin}
 use Rattle.cpp_tree.specs.declared.kinds.Builtin.TheVariants.{PutChar, GetChar, Spawn as SpawnThread, Join as JoinThread, Abort as AbortProgram}
 use Rattle.cpp_tree.specs.Trees.{Trees, none, more}

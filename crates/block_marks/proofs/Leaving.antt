@@ -1,7 +1,7 @@
 -- What goes outward comes to what is good.
 use Rattle.std.specs.Prelude.{◌≡◌, ℕ, Bool, true, false, ◌&&◌, ◌||◌, List, [], ◌∷◌, Option, Some, None, refl}
 use Rattle.std.proofs.lemmas.Bool.{false≢true, and_parts, and_from}
-use Rattle.tx_events.specs.Thread.{Atomic as AtomicBlock, Sync}
+use Rattle.cpp_tree.specs.tx_events.Thread.{Atomic as AtomicBlock, Sync}
 use Rattle.cpp_tree.specs.Trees.{Trees, none, more, kind_of}
 use Rattle.cpp_tree.specs.Roles.{is_handler}
 use Rattle.src_mean.specs.Linked.{Program}

@@ -2,7 +2,7 @@
 use Rattle.std.specs.Prelude.{◌≡◌, ℕ, Bool, true, false, ◌||◌, cond, List, [], ◌∷◌, refl}
 use Rattle.std.proofs.Common.{sym, ap, subst, ◌∙◌}
 use Rattle.std.proofs.lemmas.Bool.{false≢true, and_parts, and_from}
-use Rattle.tx_events.specs.Thread.{Atomic as AtomicBlock, Sync, no_atomic}
+use Rattle.cpp_tree.specs.tx_events.Thread.{Atomic as AtomicBlock, Sync, no_atomic}
 use Rattle.src_mean.specs.Linked.{Program}
 use Rattle.src_mean.specs.Frames.{Waiting, Owner, of_block, of_call, of_pieces, Frame, Called, Full, Scope, Within, Closes, Halted, blocks_of, puts, same_owner}
 use Rattle.block_marks.specs.Marks.{Round, round_of, has_scope, is_outside, is_good, are_good, may_wait, all_wait}

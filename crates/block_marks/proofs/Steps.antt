@@ -1,11 +1,11 @@
 -- A thread that is marked stays so.
 use Rattle.std.specs.Prelude.{◌≡◌, ℕ, zero, suc, ℤ, Bool, true, false, cond, ◌&&◌, ◌||◌, ◌==◌, List, [], ◌∷◌, ◌++◌, Option, Some, None, Result, Ok, Err, refl}
 use Rattle.std.proofs.lemmas.Bool.{false≢true, and_parts, and_from, or_right}
-use Rattle.tx_ints.specs.Words.{word_of}
-use Rattle.tx_ints.specs.declared.kinds.ArithTrap.{ArithTrap}
-use Rattle.tx_events.specs.declared.Event.TheVariants.{Silent}
-use Rattle.tx_events.specs.Thread.{Atomic as AtomicBlock, Sync}
-use Rattle.cpp_types.specs.Typ.{Typ}
+use Rattle.cpp_tree.specs.tx_ints.Words.{word_of}
+use Rattle.cpp_tree.specs.tx_ints.declared.kinds.ArithTrap.{ArithTrap}
+use Rattle.cpp_tree.specs.tx_events.declared.Event.TheVariants.{Silent}
+use Rattle.cpp_tree.specs.tx_events.Thread.{Atomic as AtomicBlock, Sync}
+use Rattle.cpp_tree.specs.cpp_types.Typ.{Typ}
 use Rattle.cpp_tree.specs.declared.kinds.TKind.{TKind}
 use Rattle.cpp_tree.specs.declared.kinds.TKind.TheVariants.{Handler, Destroy, Field}
 use Rattle.cpp_tree.specs.Trees.{Tree, node, Trees, none, more, kind_of, typ_in, first}

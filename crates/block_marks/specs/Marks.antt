@@ -1,7 +1,7 @@
 -- A test of what a thread has left to do: inside an atomic block nothing that another thread or the world could see, and no call of an unsafe function.
 use Rattle.std.specs.Prelude.{◌≡◌, ℕ, Bool, true, false, not, ◌&&◌, ◌||◌, List, [], ◌∷◌, Option, Some, None, is_some}
 use Rattle.std.specs.List.{list_all}
-use Rattle.tx_events.specs.Thread.{Open, Atomic as AtomicBlock, Sync, no_atomic}
+use Rattle.cpp_tree.specs.tx_events.Thread.{Open, Atomic as AtomicBlock, Sync, no_atomic}
 use Rattle.cpp_tree.specs.declared.kinds.Builtin.{Builtin}
 use Rattle.cpp_tree.specs.declared.kinds.Builtin.TheVariants.{Abort}
 use Rattle.cpp_tree.specs.declared.kinds.TKind.{TKind}

@@ -4,20 +4,20 @@ use Rattle.std.proofs.lemmas.List.{length-map}
 use Rattle.cpp_types.specs.Typ.{Typ}
 use Rattle.cpp_types.specs.Class.{member_of, held}
 use Rattle.cpp_types.specs.declared.classes.At.{At}
-use Rattle.cpp_tree.specs.declared.faults.ElabFault.{ElabFault}
-use Rattle.cpp_tree.specs.declared.faults.ElabFault.TheVariants.{Ill, Override, JumpIntoBlock, Limit, Memory}
-use Rattle.elab_ctx.specs.Ctx.{Ctx, Work, Func}
-use Rattle.cpp_tree.specs.declared.faults.IllRule.TheVariants.{Incomplete, Redeclared, OutOfProfile, BadDeclaration, AbstractObject}
-use Rattle.cpp_tree.specs.Typing.{form_in}
-use Rattle.elab_ctx.specs.Steps.{and_then, check}
-use Rattle.elab_rules.specs.Objects.{element_of}
-use Rattle.elab_rules.specs.Operators.{is_complete}
-use Rattle.elab_rules.specs.Types.{has_auto, is_abstract_type}
-use Rattle.elab_rules.specs.Sizes.{typ_sized}
-use Rattle.elab_ctx.specs.Says.{Faults}
-use Rattle.elab_rules.specs.Statements.{Body, is_bounded}
-use Rattle.elab_rules.specs.Functions.{Header, function_record, is_same_function, first_from, header_sized}
-use Rattle.elab_rules.specs.Classes.{Home, Members, Marks, Definition, index_if, with_member, with_function, data_member, member_function, member_form, has_member, has_function, overridden, overrides_well, marks_fit, definition_sized, as_defined}
+use Rattle.elab_init.specs.cpp_tree.declared.faults.ElabFault.{ElabFault}
+use Rattle.elab_init.specs.cpp_tree.declared.faults.ElabFault.TheVariants.{Ill, Override, JumpIntoBlock, Limit, Memory}
+use Rattle.elab_init.specs.elab_ctx.Ctx.{Ctx, Work, Func}
+use Rattle.elab_init.specs.cpp_tree.declared.faults.IllRule.TheVariants.{Incomplete, Redeclared, OutOfProfile, BadDeclaration, AbstractObject}
+use Rattle.elab_init.specs.cpp_tree.Typing.{form_in}
+use Rattle.elab_init.specs.elab_ctx.Steps.{and_then, check}
+use Rattle.elab_init.specs.elab_rules.Objects.{element_of}
+use Rattle.elab_init.specs.elab_rules.Operators.{is_complete}
+use Rattle.elab_init.specs.elab_rules.Types.{has_auto, is_abstract_type}
+use Rattle.elab_init.specs.elab_rules.Sizes.{typ_sized}
+use Rattle.elab_init.specs.elab_ctx.Says.{Faults}
+use Rattle.elab_init.specs.elab_rules.Statements.{Body, is_bounded}
+use Rattle.elab_init.specs.elab_rules.Functions.{Header, function_record, is_same_function, first_from, header_sized}
+use Rattle.elab_init.specs.elab_rules.Classes.{Home, Members, Marks, Definition, index_if, with_member, with_function, data_member, member_function, member_form, has_member, has_function, overridden, overrides_well, marks_fit, definition_sized, as_defined}
 use Rattle.class_members.specs.declared.records.Members.{Members as MembersRec}
 use Rattle.class_members.specs.Shown.{reading, Answers}
 use Rattle.class_members.specs.Parts.{fits_member, member_made, method_by, taken_over_of}

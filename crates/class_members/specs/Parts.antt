@@ -5,21 +5,21 @@ use Rattle.cpp_types.specs.Typ.{Typ}
 use Rattle.cpp_types.specs.Class.{Class, Function, Member, held, completion_of}
 use Rattle.cpp_types.specs.Trivial.{is_destructor_name}
 use Rattle.cpp_types.specs.declared.classes.At.{At}
-use Rattle.cpp_tree.specs.Units.{SlotFunc}
-use Rattle.cpp_tree.specs.Typing.{form_in}
-use Rattle.cpp_tree.specs.declared.faults.ElabFault.{ElabFault}
-use Rattle.cpp_tree.specs.declared.faults.IllRule.TheVariants.{Incomplete, Redeclared, OutOfProfile, BadDeclaration, AbstractObject}
-use Rattle.cpp_tree.specs.declared.faults.OverrideRule.TheVariants.{BaseFinal}
-use Rattle.elab_ctx.specs.Ctx.{Ctx, Func}
-use Rattle.elab_ctx.specs.Steps.{and_then, check}
-use Rattle.elab_rules.specs.Objects.{element_of}
-use Rattle.elab_rules.specs.Initialising.{same_number}
-use Rattle.elab_rules.specs.Operators.{is_complete}
-use Rattle.elab_rules.specs.Types.{has_auto, is_abstract_type}
-use Rattle.elab_rules.specs.Sizes.{typ_sized}
-use Rattle.elab_rules.specs.Statements.{is_bounded}
-use Rattle.elab_rules.specs.Functions.{Header, function_record, new_function, is_same_function, first_from, header_sized}
-use Rattle.elab_rules.specs.Classes.{Home, Marks, Definition, keeps, is_final_class, member_form, has_member, has_function, overridden_by, slot_function, chosen_if, overridden, is_considered, overrides_well, marks_fit, definition_sized, as_defined}
+use Rattle.elab_init.specs.cpp_tree.Units.{SlotFunc}
+use Rattle.elab_init.specs.cpp_tree.Typing.{form_in}
+use Rattle.elab_init.specs.cpp_tree.declared.faults.ElabFault.{ElabFault}
+use Rattle.elab_init.specs.cpp_tree.declared.faults.IllRule.TheVariants.{Incomplete, Redeclared, OutOfProfile, BadDeclaration, AbstractObject}
+use Rattle.elab_init.specs.cpp_tree.declared.faults.OverrideRule.TheVariants.{BaseFinal}
+use Rattle.elab_init.specs.elab_ctx.Ctx.{Ctx, Func}
+use Rattle.elab_init.specs.elab_ctx.Steps.{and_then, check}
+use Rattle.elab_init.specs.elab_rules.Objects.{element_of}
+use Rattle.elab_init.specs.elab_rules.Initialising.{same_number}
+use Rattle.elab_init.specs.elab_rules.Operators.{is_complete}
+use Rattle.elab_init.specs.elab_rules.Types.{has_auto, is_abstract_type}
+use Rattle.elab_init.specs.elab_rules.Sizes.{typ_sized}
+use Rattle.elab_init.specs.elab_rules.Statements.{is_bounded}
+use Rattle.elab_init.specs.elab_rules.Functions.{Header, function_record, new_function, is_same_function, first_from, header_sized}
+use Rattle.elab_init.specs.elab_rules.Classes.{Home, Marks, Definition, keeps, is_final_class, member_form, has_member, has_function, overridden_by, slot_function, chosen_if, overridden, is_considered, overrides_well, marks_fit, definition_sized, as_defined}
 use Rattle.class_members.specs.declared.overriding.TakenOver.{TakenOver}
 
 -- a class that others may stand on: complete, and not final

@@ -2,12 +2,12 @@
 use Rattle.std.specs.Prelude.{◌≡◌, ℕ, List, map, Result, Ok, Err}
 use Rattle.cpp_types.specs.Typ.{signature_of}
 use Rattle.cpp_types.specs.Class.{member_of}
-use Rattle.cpp_tree.specs.declared.faults.ElabFault.{ElabFault}
-use Rattle.elab_ctx.specs.Ctx.{Ctx, Work}
-use Rattle.elab_ctx.specs.Says.{Faults}
-use Rattle.elab_rules.specs.Statements.{Body}
-use Rattle.elab_rules.specs.Functions.{Storage, Header}
-use Rattle.elab_rules.specs.Classes.{Begun, Home, Members, Marks, Definition}
+use Rattle.elab_init.specs.cpp_tree.declared.faults.ElabFault.{ElabFault}
+use Rattle.elab_init.specs.elab_ctx.Ctx.{Ctx, Work}
+use Rattle.elab_init.specs.elab_ctx.Says.{Faults}
+use Rattle.elab_init.specs.elab_rules.Statements.{Body}
+use Rattle.elab_init.specs.elab_rules.Functions.{Storage, Header}
+use Rattle.elab_init.specs.elab_rules.Classes.{Begun, Home, Members, Marks, Definition}
 use Rattle.elab_types.specs.Shown.{parameter_of, qualifiers_of}
 use Rattle.class_members.specs.declared.records.Storage.{Storage as StorageRec}
 use Rattle.class_members.specs.declared.records.Header.{Header as HeaderRec}

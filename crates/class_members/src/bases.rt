@@ -2,14 +2,13 @@
 
 ghost use Rattle.std.specs.Prelude.{◌≡◌, slice_get};
 ghost use Rattle.cpp_types.specs.Typ.{typ_of};
-ghost use Rattle.elab_ctx.specs.Ctx.{ctx_of};
-ghost use Rattle.elab_ctx.specs.Says.{Tells};
-ghost use Rattle.elab_rules.specs.Classes.{base_class as base_class_of, based_on as based_on_of, keeps as keeps_of, is_final_class as is_final_class_of};
+ghost use Rattle.elab_init.specs.elab_ctx.Ctx.{ctx_of};
+ghost use Rattle.elab_init.specs.elab_ctx.Says.{Tells};
+ghost use Rattle.elab_init.specs.elab_rules.Classes.{base_class as base_class_of, based_on as based_on_of, keeps as keeps_of, is_final_class as is_final_class_of};
 ghost use Rattle.class_members.specs.Parts.{may_be_base as may_be_base_of};
 
-use cpp_tree::{ElabFault, IllRule, OverrideRule};
 use cpp_types::{At, Shape, Ty};
-use elab_ctx::{Env, class_at, completion};
+use elab_init::below::{ElabFault, Env, IllRule, OverrideRule, class_at, completion};
 use elab_init::ill;
 use elab_types::types::type_named;
 

@@ -2,12 +2,11 @@
 
 ghost use Rattle.std.specs.Prelude.{◌≡◌, ◌++◌, ◌∷◌, [], OnOk, map};
 ghost use Rattle.cpp_types.specs.Class.{member_of};
-ghost use Rattle.cpp_tree.specs.Units.{param_of};
-ghost use Rattle.elab_ctx.specs.Ctx.{ctx_of, func_of};
+ghost use Rattle.elab_init.specs.cpp_tree.Units.{param_of};
+ghost use Rattle.elab_init.specs.elab_ctx.Ctx.{ctx_of, func_of};
 
-use cpp_tree::TParam;
 use cpp_types::MemberRec;
-use elab_ctx::{Env, FuncDecl};
+use elab_init::below::{Env, FuncDecl, TParam};
 use std::alloc::AllocError;
 
 /// One more data member.

@@ -5,20 +5,19 @@ ghost use Rattle.cpp_types.specs.Typ.{typ_of, typs_of, signature_of};
 ghost use Rattle.cpp_types.specs.Class.{classes_of, function_of};
 ghost use Rattle.cpp_types.specs.Equal.{flag_eq, typ_eq, typs_eq};
 ghost use Rattle.cpp_types.specs.Trivial.{is_destructor_name as is_destructor_name_of};
-ghost use Rattle.cpp_tree.specs.Units.{slot_of};
-ghost use Rattle.elab_ctx.specs.Ctx.{ctx_of};
-ghost use Rattle.elab_ctx.specs.Says.{Tells};
-ghost use Rattle.elab_ctx.specs.Steps.{check as check_of};
-ghost use Rattle.elab_rules.specs.Initialising.{signature_parameters, signature_result};
-ghost use Rattle.elab_rules.specs.Classes.{same_virtual as same_virtual_of, slot_function as slot_function_of, overridden_from, base_slots as base_slots_of, overridden as overridden_of, is_safe as is_safe_of, is_dynamic as is_dynamic_of, stops_exceptions as stops_exceptions_of, overrides_well as overrides_well_of, marks_fit as marks_fit_of, is_considered as is_considered_of};
+ghost use Rattle.elab_init.specs.cpp_tree.Units.{slot_of};
+ghost use Rattle.elab_init.specs.elab_ctx.Ctx.{ctx_of};
+ghost use Rattle.elab_init.specs.elab_ctx.Says.{Tells};
+ghost use Rattle.elab_init.specs.elab_ctx.Steps.{check as check_of};
+ghost use Rattle.elab_init.specs.elab_rules.Initialising.{signature_parameters, signature_result};
+ghost use Rattle.elab_init.specs.elab_rules.Classes.{same_virtual as same_virtual_of, slot_function as slot_function_of, overridden_from, base_slots as base_slots_of, overridden as overridden_of, is_safe as is_safe_of, is_dynamic as is_dynamic_of, stops_exceptions as stops_exceptions_of, overrides_well as overrides_well_of, marks_fit as marks_fit_of, is_considered as is_considered_of};
 ghost use Rattle.class_members.specs.Shown.{header_of, marks_of};
 ghost use Rattle.class_members.specs.Parts.{overridden_at, taken_over_of};
 
 use crate::bases::keeps;
 use crate::records::{Header, Marks};
-use cpp_tree::{ElabFault, IllRule, OverrideRule, SlotRec};
 use cpp_types::{At, ClassRec, FnTy, FuncRec, Safety, equal_lists, equal_types};
-use elab_ctx::Env;
+use elab_init::below::{ElabFault, Env, IllRule, OverrideRule, SlotRec};
 use elab_init::ill;
 
 /// Whether a name begins with `~`.

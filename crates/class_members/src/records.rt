@@ -1,7 +1,7 @@
 // What the members of a class say.
 
-use cpp_tree::FuncKind;
 use cpp_types::{At, FnTy, MemberRec};
+use elab_init::below::FuncKind;
 use elab_types::{Parameter, Qualifiers};
 
 /// What stands before the type of a declaration.

@@ -4,16 +4,15 @@
 ghost use Rattle.std.specs.Prelude.{◌≡◌, ◌<◌, ◌+◌, length, MatchOption};
 ghost use Rattle.cpp_types.specs.Typ.{signature_of};
 ghost use Rattle.cpp_types.specs.Class.{classes_of};
-ghost use Rattle.elab_ctx.specs.Ctx.{ctx_of};
-ghost use Rattle.elab_ctx.specs.Says.{Tells};
-ghost use Rattle.elab_rules.specs.Sizes.{symbol_length};
-ghost use Rattle.elab_rules.specs.Functions.{header_sized as header_sized_of, text_sized as text_sized_of};
+ghost use Rattle.elab_init.specs.elab_ctx.Ctx.{ctx_of};
+ghost use Rattle.elab_init.specs.elab_ctx.Says.{Tells};
+ghost use Rattle.elab_init.specs.elab_rules.Sizes.{symbol_length};
+ghost use Rattle.elab_init.specs.elab_rules.Functions.{header_sized as header_sized_of, text_sized as text_sized_of};
 ghost use Rattle.class_members.specs.Shown.{header_of};
 
 use crate::records::Header;
-use cpp_tree::ElabFault;
 use cpp_types::{At, ClassRec};
-use elab_ctx::Env;
+use elab_init::below::{ElabFault, Env};
 use elab_sizes::rooms::{LONGEST, if_set, left, owner_room, parameters_room};
 use elab_sizes::{function_sized, too_long};
 

@@ -1,12 +1,12 @@
 -- A class is completed step by step.
 use Rattle.std.proofs.Common.{◌≡◌, ◌∙◌, ℕ, Bool, List, Option, Some, refl, sym, ap, count_by, slice_set}
 use Rattle.cpp_types.specs.Class.{Class, Member, Function}
-use Rattle.cpp_tree.specs.Units.{SlotFunc}
+use Rattle.elab_init.specs.cpp_tree.Units.{SlotFunc}
 use Rattle.cpp_types.specs.declared.classes.At.{At}
-use Rattle.elab_ctx.specs.Ctx.{Ctx, Special, Traits}
-use Rattle.elab_rules.specs.Initialising.{is_constructor, places_from}
-use Rattle.elab_rules.specs.Functions.{first_from}
-use Rattle.elab_rules.specs.Classes.{Home, is_destructor_of, is_no_place, written_copy, takes_const, with_destructor, with_copy, with_default, with_specials, default_completed, copy_completed, completed, own_functions, slots_of, is_completed, class_named, with_record, with_traits}
+use Rattle.elab_init.specs.elab_ctx.Ctx.{Ctx, Special, Traits}
+use Rattle.elab_init.specs.elab_rules.Initialising.{is_constructor, places_from}
+use Rattle.elab_init.specs.elab_rules.Functions.{first_from}
+use Rattle.elab_init.specs.elab_rules.Classes.{Home, is_destructor_of, is_no_place, written_copy, takes_const, with_destructor, with_copy, with_default, with_specials, default_completed, copy_completed, completed, own_functions, slots_of, is_completed, class_named, with_record, with_traits}
 use Rattle.class_records.specs.declared.closing.PartFacts.{PartFacts}
 use Rattle.class_records.specs.Traits.{about_parts, traits_by}
 

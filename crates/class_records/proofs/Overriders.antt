@@ -1,9 +1,9 @@
 -- A slot in which no function stands is overridden by none.
 use Rattle.std.proofs.Common.{◌≡◌, ◌∙◌, ℕ, suc, Bool, true, false, ◌&&◌, List, [], ◌∷◌, Option, None, Result, Ok, Err, IfOk, refl, sym, ap, if◌then◌else◌}
 use Rattle.cpp_types.specs.Class.{Function}
-use Rattle.cpp_tree.specs.Units.{SlotFunc, slot_of as slot_shown}
-use Rattle.cpp_tree.specs.declared.program.SlotRec.{SlotRec}
-use Rattle.elab_rules.specs.Classes.{overrider_from, slot_of}
+use Rattle.elab_init.specs.cpp_tree.Units.{SlotFunc, slot_of as slot_shown}
+use Rattle.elab_init.specs.cpp_tree.declared.program.SlotRec.{SlotRec}
+use Rattle.elab_init.specs.elab_rules.Classes.{overrider_from, slot_of}
 
 and_false : (b : Bool) → (b && false) ≡ false
 and_false true = refl

@@ -4,7 +4,7 @@ use Rattle.std.proofs.lemmas.List.{map-append}
 use Rattle.cpp_types.specs.Class.{Class, class_of, classes_of}
 use Rattle.cpp_types.specs.declared.classes.ClassRec.{ClassRec}
 use Rattle.cpp_types.specs.Order.{all_consistent}
-use Rattle.elab_rules.specs.Classes.{class_named}
+use Rattle.elab_init.specs.elab_rules.Classes.{class_named}
 use Rattle.class_records.proofs.Renewal.{one_more}
 
 pub pushed_in_order : (old new : List ClassRec) (x : ClassRec) (b : Bool) (name : List ℕ) → new ≡ cond b (old ++ x ∷ []) old → class_of x ≡ class_named name None false [] [] None → all_consistent (classes_of old) ≡ true → all_consistent (classes_of new) ≡ true

@@ -7,7 +7,7 @@ use Rattle.std.proofs.lemmas.List.{length-set}
 use Rattle.cpp_types.specs.Typ.{Typ, typ, Form, void, int, enum, null, ptr, ref, array, func, class, closure, tx_ex, Signature, signature, Typs, none, more}
 use Rattle.cpp_types.specs.Class.{Class, Member, Function, completion_of, held, typ_below, form_below, signature_below, typs_below}
 use Rattle.cpp_types.specs.Order.{each_passes, one_passes, is_below, members_below, functions_below, class_below, is_complete_below, members_earlier, holds_earlier, is_consistent, all_consistent}
-use Rattle.elab_rules.specs.Classes.{class_named}
+use Rattle.elab_init.specs.elab_rules.Classes.{class_named}
 use Rattle.class_records.specs.Within.{may_stand}
 
 both : (a b : Bool) → a ≡ true → b ≡ true → (a && b) ≡ true

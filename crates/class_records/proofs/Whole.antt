@@ -1,10 +1,10 @@
 -- A class that no text has named before, step by step.
 use Rattle.std.proofs.Common.{◌≡◌, ◌∙◌, ℕ, false, List, [], ◌∷◌, ◌++◌, length, None, sym, ap}
 use Rattle.cpp_types.specs.Typ.{Typ, typ, class}
-use Rattle.elab_ctx.specs.Ctx.{Ctx, Traits}
-use Rattle.elab_rules.specs.Objects.{no_traits}
-use Rattle.elab_rules.specs.Globals.{with_type}
-use Rattle.elab_rules.specs.Classes.{class_named, with_class}
+use Rattle.elab_init.specs.elab_ctx.Ctx.{Ctx, Traits}
+use Rattle.elab_init.specs.elab_rules.Objects.{no_traits}
+use Rattle.elab_init.specs.elab_rules.Globals.{with_type}
+use Rattle.elab_init.specs.elab_rules.Classes.{class_named, with_class}
 
 -- what stands behind a class's name
 abbrev pub with_rows : Ctx → List ℕ → Traits → Ctx

@@ -4,10 +4,10 @@ use Rattle.std.specs.List.{list_any}
 use Rattle.cpp_types.specs.Conversion.{volatile_of}
 use Rattle.cpp_types.specs.Class.{Member}
 use Rattle.cpp_types.specs.Trivial.{is_plain}
-use Rattle.cpp_tree.specs.Units.{SlotFunc}
-use Rattle.elab_ctx.specs.Ctx.{Ctx, Special, Traits}
-use Rattle.elab_rules.specs.Objects.{traits_at}
-use Rattle.elab_rules.specs.Classes.{Home, slot_function, may_assign, all_held, is_pure, base_slots}
+use Rattle.elab_init.specs.cpp_tree.Units.{SlotFunc}
+use Rattle.elab_init.specs.elab_ctx.Ctx.{Ctx, Special, Traits}
+use Rattle.elab_init.specs.elab_rules.Objects.{traits_at}
+use Rattle.elab_init.specs.elab_rules.Classes.{Home, slot_function, may_assign, all_held, is_pure, base_slots}
 use Rattle.class_records.specs.declared.closing.PartFacts.{PartFacts}
 
 -- what is known of the parts of a class that is completed

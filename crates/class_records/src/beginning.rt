@@ -2,15 +2,14 @@
 
 ghost use Rattle.std.specs.Prelude.{◌≡◌, false, IfOk, OnOk, length};
 ghost use Rattle.cpp_types.specs.Typ.{typ_of, typ, class as class_form};
-ghost use Rattle.elab_ctx.specs.Ctx.{ctx_of, traits_of};
-ghost use Rattle.elab_rules.specs.Objects.{no_traits as no_traits_of};
-ghost use Rattle.elab_rules.specs.Classes.{begun as begun_of, begun_by, with_class};
+ghost use Rattle.elab_init.specs.elab_ctx.Ctx.{ctx_of, traits_of};
+ghost use Rattle.elab_init.specs.elab_rules.Objects.{no_traits as no_traits_of};
+ghost use Rattle.elab_init.specs.elab_rules.Classes.{begun as begun_of, begun_by, with_class};
 ghost use Rattle.class_members.specs.Shown.{Begins};
 
 use crate::renewing::{add_class, add_name, add_rows};
-use cpp_tree::{ElabFault, IllRule};
 use cpp_types::{At, Shape, Ty};
-use elab_ctx::{Env, Special, Traits, completion};
+use elab_init::below::{ElabFault, Env, IllRule, Special, Traits, completion};
 use elab_init::ill;
 use elab_types::types::type_named;
 use std::alloc::{AllocError, Global};

@@ -4,9 +4,9 @@ ghost use Rattle.std.specs.Prelude.{◌≡◌, ◌≤◌, Some, IfOk, OnOk, map,
 ghost use Rattle.std.specs.List.{list_any};
 ghost use Rattle.cpp_types.specs.Class.{classes_of, class_of, member_of, function_of};
 ghost use Rattle.cpp_types.specs.Trivial.{hinders, is_plain as is_plain_of};
-ghost use Rattle.cpp_tree.specs.Units.{slot_of, SlotFunc};
-ghost use Rattle.elab_ctx.specs.Ctx.{ctx_of, traits_of as traits_shown, special_of};
-ghost use Rattle.elab_rules.specs.Classes.{class_named, is_completed, is_pure as is_pure_of, slot_function as slot_function_of, with_record, with_traits, with_specials, completed as completed_of, closed_class as closed_class_of, base_slots as base_slots_of};
+ghost use Rattle.elab_init.specs.cpp_tree.Units.{slot_of, SlotFunc};
+ghost use Rattle.elab_init.specs.elab_ctx.Ctx.{ctx_of, traits_of as traits_shown, special_of};
+ghost use Rattle.elab_init.specs.elab_rules.Classes.{class_named, is_completed, is_pure as is_pure_of, slot_function as slot_function_of, with_record, with_traits, with_specials, completed as completed_of, closed_class as closed_class_of, base_slots as base_slots_of};
 ghost use Rattle.class_members.specs.Shown.{home_of, Answers};
 ghost use Rattle.class_records.specs.Traits.{about_parts, traits_by};
 
@@ -19,10 +19,10 @@ use class_specials::places::{Wanted, is_copy_constructor, written, written_copy}
 use class_specials::specials::{
     has_no_constructor, takes_const, with_copy, with_default, with_destructor,
 };
-use cpp_layout::size_align;
-use cpp_tree::{ElabFault, LimitKind, SlotRec};
 use cpp_types::{At, ClassRec, FuncRec, MemberRec, Shape, Ty};
-use elab_ctx::{Env, Special, Traits, class_at, completion};
+use elab_init::below::{
+    ElabFault, Env, LimitKind, SlotRec, Special, Traits, class_at, completion, size_align,
+};
 use std::alloc::{AllocError, Global};
 
 /// What is known of the parts of a class that is completed.

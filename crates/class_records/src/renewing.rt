@@ -3,14 +3,14 @@
 ghost use Rattle.std.specs.Prelude.{◌≡◌, ◌++◌, ◌∷◌, [], Some, None, false, OnOk, slice_set, length};
 ghost use Rattle.cpp_types.specs.Typ.{typ_of};
 ghost use Rattle.cpp_types.specs.Class.{classes_of, class_of};
-ghost use Rattle.elab_ctx.specs.Ctx.{ctx_of, traits_of};
-ghost use Rattle.elab_rules.specs.Globals.{with_type};
-ghost use Rattle.elab_rules.specs.Classes.{class_named};
+ghost use Rattle.elab_init.specs.elab_ctx.Ctx.{ctx_of, traits_of};
+ghost use Rattle.elab_init.specs.elab_rules.Globals.{with_type};
+ghost use Rattle.elab_init.specs.elab_rules.Classes.{class_named};
 ghost use Rattle.class_records.specs.Within.{may_stand as may_stand_of};
 
 use crate::within::{is_after_parts, is_class_below};
 use cpp_types::{ClassRec, Ty};
-use elab_ctx::{Env, Traits, TypeName, completion};
+use elab_init::below::{Env, Traits, TypeName, completion};
 use std::alloc::{AllocError, Global};
 
 // Whether a class may stand, complete, in the place of one that is only declared.

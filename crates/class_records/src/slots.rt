@@ -2,9 +2,9 @@
 
 ghost use Rattle.std.specs.Prelude.{◌≡◌, ◌&&◌, ◌++◌, ◌∷◌, [], Some, is_none, IfOk, OnOk, map};
 ghost use Rattle.cpp_types.specs.Class.{classes_of, function_of};
-ghost use Rattle.cpp_tree.specs.Units.{slot_of as slot_shown};
-ghost use Rattle.elab_ctx.specs.Ctx.{ctx_of, func_of};
-ghost use Rattle.elab_rules.specs.Classes.{own_functions as own_functions_of, slot_of as slot_of_of, overrider_from, overriding as overriding_of, new_slots as new_slots_of, slots_of as slots_of_of, slot_function as slot_function_of, same_virtual as same_virtual_of, overridden as overridden_of};
+ghost use Rattle.elab_init.specs.cpp_tree.Units.{slot_of as slot_shown};
+ghost use Rattle.elab_init.specs.elab_ctx.Ctx.{ctx_of, func_of};
+ghost use Rattle.elab_init.specs.elab_rules.Classes.{own_functions as own_functions_of, slot_of as slot_of_of, overrider_from, overriding as overriding_of, new_slots as new_slots_of, slots_of as slots_of_of, slot_function as slot_function_of, same_virtual as same_virtual_of, overridden as overridden_of};
 ghost use Rattle.class_members.specs.Shown.{home_of};
 
 use class_members::overriding::{
@@ -12,9 +12,8 @@ use class_members::overriding::{
 };
 use class_members::records::Home;
 use class_specials::places::is_member;
-use cpp_tree::SlotRec;
 use cpp_types::{ClassRec, FuncRec, copy_function};
-use elab_ctx::{Env, FuncDecl};
+use elab_init::below::{Env, FuncDecl, SlotRec};
 use std::alloc::{AllocError, Global};
 
 fn keep_record(list: &mut Vec<FuncRec>, function: FuncRec) -> Result<(), AllocError>

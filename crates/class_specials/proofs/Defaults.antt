@@ -4,8 +4,8 @@ use Rattle.std.proofs.Math.Seq.{drop-cons}
 use Rattle.cpp_types.specs.Typ.{typ_of}
 use Rattle.cpp_types.specs.Class.{member_of}
 use Rattle.cpp_types.specs.declared.classes.MemberRec.{MemberRec}
-use Rattle.elab_ctx.specs.Ctx.{Ctx}
-use Rattle.elab_rules.specs.Classes.{is_listed, may_default, members_default}
+use Rattle.elab_init.specs.elab_ctx.Ctx.{Ctx}
+use Rattle.elab_init.specs.elab_rules.Classes.{is_listed, may_default, members_default}
 
 pub default_more : (c : Ctx) (places : List ℕ) (ms : List MemberRec) (i : ℕ) (m : MemberRec) (b all : Bool) → i < length ms → m ≡ get_or ms i m → b ≡ (is_listed i places || may_default c (typ_of m.ty)) → b ≡ true →
     all ≡ members_default c places i (map member_of (drop i ms)) → all ≡ members_default c places (i + 1) (map member_of (drop (i + 1) ms))

@@ -1,9 +1,9 @@
 -- The first place at which a test holds, and all places.
 use Rattle.std.proofs.Common.{◌≡◌, ℕ, suc, Bool, true, false, List, [], ◌∷◌, Option, Some, is_none, refl, if◌then◌else◌}
-use Rattle.elab_ctx.specs.Ctx.{Func}
-use Rattle.elab_rules.specs.Initialising.{places_from, kept_if}
-use Rattle.elab_rules.specs.Functions.{first_from}
-use Rattle.elab_rules.specs.Classes.{is_no_place}
+use Rattle.elab_init.specs.elab_ctx.Ctx.{Func}
+use Rattle.elab_init.specs.elab_rules.Initialising.{places_from, kept_if}
+use Rattle.elab_init.specs.elab_rules.Functions.{first_from}
+use Rattle.elab_init.specs.elab_rules.Classes.{is_no_place}
 
 step : (b : Bool) (i : ℕ) (is : List ℕ) (o : Option ℕ) → is_none o ≡ is_no_place is → is_none (if b then Some i else o) ≡ is_no_place (kept_if b i is)
 step true i is o h = refl

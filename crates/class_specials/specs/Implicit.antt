@@ -3,9 +3,9 @@ use Rattle.std.specs.Prelude.{Bool, false, [], ◌∷◌}
 use Rattle.cpp_types.specs.Typ.{none as no_typs, more as and_typ}
 use Rattle.cpp_types.specs.Class.{Function}
 use Rattle.cpp_types.specs.declared.classes.At.{At}
-use Rattle.cpp_tree.specs.declared.program.FuncKind.TheVariants.{Constructor, Destructor}
-use Rattle.elab_ctx.specs.Ctx.{Ctx, Func}
-use Rattle.elab_rules.specs.Classes.{Home, overridden, member_record, no_marks, own_reference, implicit_record, implicit_function}
+use Rattle.elab_init.specs.cpp_tree.declared.program.FuncKind.TheVariants.{Constructor, Destructor}
+use Rattle.elab_init.specs.elab_ctx.Ctx.{Ctx, Func}
+use Rattle.elab_init.specs.elab_rules.Classes.{Home, overridden, member_record, no_marks, own_reference, implicit_record, implicit_function}
 
 abbrev pub implicit_destructor : Home → At → Function
 implicit_destructor h at = implicit_record (126 ∷ h.name) at no_typs

@@ -1,11 +1,11 @@
 -- Tests of functions, of parts and of members, by what is asked for.
 use Rattle.std.specs.Prelude.{ℕ, Bool, true, not}
 use Rattle.cpp_types.specs.Class.{Member, held}
-use Rattle.elab_ctx.specs.Ctx.{Ctx, Func}
-use Rattle.elab_rules.specs.Objects.{traits_at}
-use Rattle.elab_rules.specs.Initialising.{is_constructor}
-use Rattle.elab_rules.specs.Statements.{is_trivial}
-use Rattle.elab_rules.specs.Classes.{Home, is_destructor_of, is_copy_from, is_written_copy, is_default_constructor, copies_member, assigns_member}
+use Rattle.elab_init.specs.elab_ctx.Ctx.{Ctx, Func}
+use Rattle.elab_init.specs.elab_rules.Objects.{traits_at}
+use Rattle.elab_init.specs.elab_rules.Initialising.{is_constructor}
+use Rattle.elab_init.specs.elab_rules.Statements.{is_trivial}
+use Rattle.elab_init.specs.elab_rules.Classes.{Home, is_destructor_of, is_copy_from, is_written_copy, is_default_constructor, copies_member, assigns_member}
 use Rattle.class_specials.specs.declared.places.Wanted.{Wanted}
 use Rattle.class_specials.specs.declared.places.Wanted.TheVariants as wanted
 use Rattle.class_specials.specs.declared.part_tests.PartTest.{PartTest}

@@ -4,19 +4,18 @@ ghost use Rattle.std.specs.Prelude.{◌≡◌, ◌∷◌, [], ◌||◌, false, I
 ghost use Rattle.cpp_types.specs.Typ.{typ_of, typs_of, signature, signature_of, void, more as and_typ, none as no_typs};
 ghost use Rattle.cpp_types.specs.Class.{function_of};
 ghost use Rattle.cpp_types.specs.Trivial.{is_destructor_name as is_destructor_name_of};
-ghost use Rattle.cpp_tree.specs.Notation.{plain};
-ghost use Rattle.cpp_tree.specs.Units.{param_of};
-ghost use Rattle.elab_ctx.specs.Ctx.{ctx_of, func_of, special_of};
-ghost use Rattle.elab_rules.specs.Classes.{implicit_record as implicit_record_of, implicit_function as implicit_function_of, own_reference as own_reference_of, with_implicit};
+ghost use Rattle.elab_init.specs.cpp_tree.Notation.{plain};
+ghost use Rattle.elab_init.specs.cpp_tree.Units.{param_of};
+ghost use Rattle.elab_init.specs.elab_ctx.Ctx.{ctx_of, func_of, special_of};
+ghost use Rattle.elab_init.specs.elab_rules.Classes.{implicit_record as implicit_record_of, implicit_function as implicit_function_of, own_reference as own_reference_of, with_implicit};
 ghost use Rattle.class_members.specs.Shown.{home_of};
 ghost use Rattle.class_specials.specs.Implicit.{destructor_made, copy_made, default_made};
 
 use class_members::lists::{add_function, keep_param};
 use class_members::overriding::{TakenOver, is_destructor_name, taken_over};
 use class_members::records::Home;
-use cpp_tree::{FuncKind, Linkage, TParam};
 use cpp_types::{At, FnTy, FuncRec, Safety, Shape, Ty};
-use elab_ctx::{Env, FuncDecl, Special};
+use elab_init::below::{Env, FuncDecl, FuncKind, Linkage, Special, TParam};
 use std::alloc::{AllocError, Global};
 
 fn void_type() -> Ty

@@ -5,19 +5,18 @@ ghost use Rattle.cpp_types.specs.Typ.{typ_of, typs_of, signature_of, typ, class 
 ghost use Rattle.cpp_types.specs.Equal.{typ_eq, typs_eq};
 ghost use Rattle.cpp_types.specs.Trivial.{is_copy_constructor as is_copy_constructor_of};
 ghost use Rattle.cpp_types.specs.Class.{function_of};
-ghost use Rattle.elab_ctx.specs.Ctx.{ctx_of, func_of};
-ghost use Rattle.elab_rules.specs.Initialising.{signature_parameters, is_constructor as is_constructor_of, same_number as same_number_of};
-ghost use Rattle.elab_rules.specs.Functions.{first_from};
-ghost use Rattle.elab_rules.specs.Classes.{own_reference, is_copy_from as is_copy_from_of, written_copy as written_copy_of};
+ghost use Rattle.elab_init.specs.elab_ctx.Ctx.{ctx_of, func_of};
+ghost use Rattle.elab_init.specs.elab_rules.Initialising.{signature_parameters, is_constructor as is_constructor_of, same_number as same_number_of};
+ghost use Rattle.elab_init.specs.elab_rules.Functions.{first_from};
+ghost use Rattle.elab_init.specs.elab_rules.Classes.{own_reference, is_copy_from as is_copy_from_of, written_copy as written_copy_of};
 ghost use Rattle.class_members.specs.Shown.{home_of};
 ghost use Rattle.class_specials.specs.Tests.{is_wanted as is_wanted_of};
 
 use class_members::overriding::{is_destructor_name, same_flag};
 use class_members::records::Home;
-use cpp_tree::FuncKind;
 use cpp_types::copyability::{is_name, takes_only};
 use cpp_types::{FnTy, FuncRec, Shape, Ty, equal_lists};
-use elab_ctx::{Env, FuncDecl};
+use elab_init::below::{Env, FuncDecl, FuncKind};
 use std::alloc::AllocError;
 
 /// What function is looked for.

@@ -2,11 +2,11 @@
 
 ghost use Rattle.std.specs.Prelude.{◌≡◌, ◌&&◌, true, IfOk, map};
 ghost use Rattle.cpp_types.specs.Class.{member_of};
-ghost use Rattle.elab_ctx.specs.Ctx.{ctx_of, special_of};
-ghost use Rattle.elab_rules.specs.Initialising.{is_constructor, places_from};
-ghost use Rattle.elab_rules.specs.Classes.{with_destructor as with_destructor_of, with_copy as with_copy_of, with_default as with_default_of, copies_const_parts as copies_const_parts_of, takes_const as takes_const_of, is_trivial_default as is_trivial_default_of, is_no_place, written_default as written_default_of, has_no_pointer as has_no_pointer_of, all_held as all_held_of};
-ghost use Rattle.elab_rules.specs.Objects.{traits_at};
-ghost use Rattle.elab_rules.specs.Statements.{is_trivial};
+ghost use Rattle.elab_init.specs.elab_ctx.Ctx.{ctx_of, special_of};
+ghost use Rattle.elab_init.specs.elab_rules.Initialising.{is_constructor, places_from};
+ghost use Rattle.elab_init.specs.elab_rules.Classes.{with_destructor as with_destructor_of, with_copy as with_copy_of, with_default as with_default_of, copies_const_parts as copies_const_parts_of, takes_const as takes_const_of, is_trivial_default as is_trivial_default_of, is_no_place, written_default as written_default_of, has_no_pointer as has_no_pointer_of, all_held as all_held_of};
+ghost use Rattle.elab_init.specs.elab_rules.Objects.{traits_at};
+ghost use Rattle.elab_init.specs.elab_rules.Statements.{is_trivial};
 ghost use Rattle.class_members.specs.Shown.{home_of};
 
 use crate::implicit::{add_implicit, implicit_copy, implicit_default, implicit_destructor};
@@ -14,7 +14,7 @@ use crate::part_tests::{PartTest, all_default, all_held, has_no_pointer, may_cop
 use crate::places::{Wanted, is_copy_from, written};
 use class_members::records::Home;
 use cpp_types::{At, MemberRec};
-use elab_ctx::{Env, Special, function_at};
+use elab_init::below::{Env, Special, function_at};
 use std::alloc::{AllocError, Global};
 
 /// The destructor (C++14 12.4).

@@ -1,23 +1,23 @@
 -- A class is read step by step, up to its closing brace.
 use Rattle.std.proofs.Common.{◌≡◌, ◌∙◌, ℕ, ◌+◌, Bool, true, List, [], ◌∷◌, drop, map, Option, Result, Ok, Err, refl, sym, ap, subst}
-use Rattle.cpp_lex.specs.Tokens.{Lexeme}
-use Rattle.cpp_ast.specs.Trees.{Tree, Trees, more, none}
-use Rattle.cpp_ast.specs.declared.arena.NodeId.{NodeId}
-use Rattle.elab_types.specs.Syntax.{tree_at, trees_at}
-use Rattle.cpp_types.specs.Typ.{Typ}
-use Rattle.cpp_types.specs.Class.{Member, member_of}
-use Rattle.cpp_types.specs.declared.classes.At.{At}
-use Rattle.cpp_tree.specs.declared.faults.ElabFault.{ElabFault}
-use Rattle.cpp_tree.specs.declared.faults.ElabFault.TheVariants.{Ill}
-use Rattle.cpp_tree.specs.declared.faults.IllRule.TheVariants.{OutOfProfile}
-use Rattle.elab_ctx.specs.Ctx.{Ctx, Work}
-use Rattle.elab_ctx.specs.Says.{Faults}
-use Rattle.elab_ctx.specs.Steps.{and_then, each_of}
-use Rattle.elab_rules.specs.Expressions.{type_of_specifiers}
-use Rattle.elab_rules.specs.Statements.{Body, State}
-use Rattle.elab_rules.specs.Functions.{Storage, text_sized}
-use Rattle.elab_rules.specs.Classes.{Home, Members, Started, Begun, begun, completed, closed_class, members_of, class_text, member_declaration, member_declarator}
-use Rattle.elab_rules.specs.Members.{base_named, has_final, members_among}
+use Rattle.elab_expr.specs.cpp_lex.Tokens.{Lexeme}
+use Rattle.elab_expr.specs.cpp_ast.Trees.{Tree, Trees, more, none}
+use Rattle.elab_expr.specs.cpp_ast.declared.arena.NodeId.{NodeId}
+use Rattle.elab_expr.specs.elab_types.Syntax.{tree_at, trees_at}
+use Rattle.elab_expr.specs.cpp_types.Typ.{Typ}
+use Rattle.elab_expr.specs.cpp_types.Class.{Member, member_of}
+use Rattle.elab_expr.specs.cpp_types.declared.classes.At.{At}
+use Rattle.elab_expr.specs.cpp_tree.declared.faults.ElabFault.{ElabFault}
+use Rattle.elab_expr.specs.cpp_tree.declared.faults.ElabFault.TheVariants.{Ill}
+use Rattle.elab_expr.specs.cpp_tree.declared.faults.IllRule.TheVariants.{OutOfProfile}
+use Rattle.elab_expr.specs.elab_ctx.Ctx.{Ctx, Work}
+use Rattle.elab_expr.specs.elab_ctx.Says.{Faults}
+use Rattle.elab_expr.specs.elab_ctx.Steps.{and_then, each_of}
+use Rattle.elab_expr.specs.elab_rules.Expressions.{type_of_specifiers}
+use Rattle.elab_expr.specs.elab_rules.Statements.{Body, State}
+use Rattle.elab_expr.specs.elab_rules.Functions.{Storage, text_sized}
+use Rattle.elab_expr.specs.elab_rules.Classes.{Home, Members, Started, Begun, begun, completed, closed_class, members_of, class_text, member_declaration, member_declarator}
+use Rattle.elab_expr.specs.elab_rules.Members.{base_named, has_final, members_among}
 use Rattle.class_members.specs.Shown.{reading, Answers, home_of}
 use Rattle.class_members.specs.declared.records.Members.{Members as MembersRec}
 use Rattle.class_members.specs.declared.records.Home.{Home as HomeRec}

@@ -1,27 +1,27 @@
 -- Functions of a class from the kids of their nodes.
 use Rattle.std.proofs.Common.{◌≡◌, ◌∙◌, ℕ, ◌+◌, true, false, List, [], ◌∷◌, drop, Result, Ok, Err, refl, sym, ap, subst, arith}
-use Rattle.cpp_lex.specs.Tokens.{Lexeme}
-use Rattle.cpp_ast.specs.declared.arena.NodeId.{NodeId}
-use Rattle.cpp_ast.specs.Trees.{Tree, Trees, more, none}
-use Rattle.cpp_types.specs.Typ.{Typ, void}
-use Rattle.cpp_types.specs.declared.classes.At.{At}
-use Rattle.cpp_tree.specs.Notation.{plain}
-use Rattle.cpp_tree.specs.Typing.{form_in}
-use Rattle.cpp_tree.specs.declared.program.FuncKind.{FuncKind}
-use Rattle.cpp_tree.specs.declared.program.FuncKind.TheVariants.{Plain, Constructor, Destructor, ClosureCall}
-use Rattle.cpp_tree.specs.declared.faults.ElabFault.{ElabFault}
-use Rattle.cpp_tree.specs.declared.faults.ElabFault.TheVariants.{Ill}
-use Rattle.cpp_tree.specs.declared.faults.IllRule.TheVariants.{OutOfProfile}
-use Rattle.elab_ctx.specs.Ctx.{Ctx, Work}
-use Rattle.elab_ctx.specs.Says.{Faults}
-use Rattle.elab_ctx.specs.Steps.{and_then}
-use Rattle.elab_types.specs.Shown.{Says}
-use Rattle.elab_types.specs.Syntax.{tree_at, trees_at}
-use Rattle.elab_rules.specs.Types.{Declared}
-use Rattle.elab_rules.specs.Expressions.{type_of_specifiers, declared_by}
-use Rattle.elab_rules.specs.Statements.{Body, State, name_of}
-use Rattle.elab_rules.specs.Functions.{Storage, no_storage, Header}
-use Rattle.elab_rules.specs.Classes.{Method, method_of, method_started, started_from, plain_method, special_method, header_in, special_header}
+use Rattle.elab_expr.specs.cpp_lex.Tokens.{Lexeme}
+use Rattle.elab_expr.specs.cpp_ast.declared.arena.NodeId.{NodeId}
+use Rattle.elab_expr.specs.cpp_ast.Trees.{Tree, Trees, more, none}
+use Rattle.elab_expr.specs.cpp_types.Typ.{Typ, void}
+use Rattle.elab_expr.specs.cpp_types.declared.classes.At.{At}
+use Rattle.elab_expr.specs.cpp_tree.Notation.{plain}
+use Rattle.elab_expr.specs.cpp_tree.Typing.{form_in}
+use Rattle.elab_expr.specs.cpp_tree.declared.program.FuncKind.{FuncKind}
+use Rattle.elab_expr.specs.cpp_tree.declared.program.FuncKind.TheVariants.{Plain, Constructor, Destructor, ClosureCall}
+use Rattle.elab_expr.specs.cpp_tree.declared.faults.ElabFault.{ElabFault}
+use Rattle.elab_expr.specs.cpp_tree.declared.faults.ElabFault.TheVariants.{Ill}
+use Rattle.elab_expr.specs.cpp_tree.declared.faults.IllRule.TheVariants.{OutOfProfile}
+use Rattle.elab_expr.specs.elab_ctx.Ctx.{Ctx, Work}
+use Rattle.elab_expr.specs.elab_ctx.Says.{Faults}
+use Rattle.elab_expr.specs.elab_ctx.Steps.{and_then}
+use Rattle.elab_expr.specs.elab_types.Shown.{Says}
+use Rattle.elab_expr.specs.elab_types.Syntax.{tree_at, trees_at}
+use Rattle.elab_expr.specs.elab_rules.Types.{Declared}
+use Rattle.elab_expr.specs.elab_rules.Expressions.{type_of_specifiers, declared_by}
+use Rattle.elab_expr.specs.elab_rules.Statements.{Body, State, name_of}
+use Rattle.elab_expr.specs.elab_rules.Functions.{Storage, no_storage, Header}
+use Rattle.elab_expr.specs.elab_rules.Classes.{Method, method_of, method_started, started_from, plain_method, special_method, header_in, special_header}
 use Rattle.class_members.specs.Shown.{header_of}
 use Rattle.class_members.specs.declared.records.Header.{Header as HeaderRec}
 use Rattle.class_table.specs.Written.{plain_header, special_declared, method_shown, method_with, at_hand, is_plain_kind}

@@ -1,23 +1,23 @@
 -- Members as steps of which the last changes the class.
 use Rattle.std.proofs.Common.{◌≡◌, ◌∙◌, ℕ, Bool, not, List, [], ◌∷◌, drop, Option, None, Result, Ok, Err, refl, sym, ap, subst}
-use Rattle.cpp_lex.specs.Tokens.{Lexeme}
-use Rattle.cpp_ast.specs.Trees.{Tree, node, Trees, more, none}
-use Rattle.cpp_ast.specs.declared.arena.At.{At as SyntaxAt}
-use Rattle.cpp_ast.specs.declared.kinds.NodeKind.{NodeKind}
-use Rattle.cpp_types.specs.Typ.{Typ, Form}
-use Rattle.cpp_types.specs.declared.classes.At.{At}
-use Rattle.cpp_tree.specs.declared.program.FuncKind.{FuncKind}
-use Rattle.cpp_tree.specs.declared.program.FuncKind.TheVariants.{Plain}
-use Rattle.cpp_tree.specs.declared.faults.ElabFault.{ElabFault}
-use Rattle.cpp_tree.specs.declared.faults.IllRule.TheVariants.{BadDeclaration}
-use Rattle.cpp_tree.specs.Typing.{form_in}
-use Rattle.elab_ctx.specs.Says.{Faults}
-use Rattle.elab_ctx.specs.Steps.{and_then, check, each_of, at_of}
-use Rattle.elab_rules.specs.Types.{Declared}
-use Rattle.elab_rules.specs.Expressions.{type_of_specifiers, declared_by}
-use Rattle.elab_rules.specs.Statements.{name_of, is_own_name}
-use Rattle.elab_rules.specs.Functions.{Storage, Header}
-use Rattle.elab_rules.specs.Classes.{Home, Members, Method, Definition, Started, within_bounds, declarator_among, member_named, method_of, member_function, marks_from, no_marks, declared_method, header_in, has_equal, member_declarator, member_declarators}
+use Rattle.elab_expr.specs.cpp_lex.Tokens.{Lexeme}
+use Rattle.elab_expr.specs.cpp_ast.Trees.{Tree, node, Trees, more, none}
+use Rattle.elab_expr.specs.cpp_ast.declared.arena.At.{At as SyntaxAt}
+use Rattle.elab_expr.specs.cpp_ast.declared.kinds.NodeKind.{NodeKind}
+use Rattle.elab_expr.specs.cpp_types.Typ.{Typ, Form}
+use Rattle.elab_expr.specs.cpp_types.declared.classes.At.{At}
+use Rattle.elab_expr.specs.cpp_tree.declared.program.FuncKind.{FuncKind}
+use Rattle.elab_expr.specs.cpp_tree.declared.program.FuncKind.TheVariants.{Plain}
+use Rattle.elab_expr.specs.cpp_tree.declared.faults.ElabFault.{ElabFault}
+use Rattle.elab_expr.specs.cpp_tree.declared.faults.IllRule.TheVariants.{BadDeclaration}
+use Rattle.elab_expr.specs.cpp_tree.Typing.{form_in}
+use Rattle.elab_expr.specs.elab_ctx.Says.{Faults}
+use Rattle.elab_expr.specs.elab_ctx.Steps.{and_then, check, each_of, at_of}
+use Rattle.elab_expr.specs.elab_rules.Types.{Declared}
+use Rattle.elab_expr.specs.elab_rules.Expressions.{type_of_specifiers, declared_by}
+use Rattle.elab_expr.specs.elab_rules.Statements.{name_of, is_own_name}
+use Rattle.elab_expr.specs.elab_rules.Functions.{Storage, Header}
+use Rattle.elab_expr.specs.elab_rules.Classes.{Home, Members, Method, Definition, Started, within_bounds, declarator_among, member_named, method_of, member_function, marks_from, no_marks, declared_method, header_in, has_equal, member_declarator, member_declarators}
 use Rattle.class_table.specs.Written.{function_declared, member_declared}
 use Rattle.class_table.proofs.Walking.{faults_then}
 

@@ -1,15 +1,15 @@
 -- A class is read, and then what stands in its members: the two make up its definition.
 use Rattle.std.proofs.Common.{◌≡◌, ◌∙◌, ℕ, Bool, true, List, [], Option, Result, Ok, Err, refl, sym, ap}
-use Rattle.cpp_lex.specs.Tokens.{Lexeme}
-use Rattle.cpp_ast.specs.Trees.{Trees}
-use Rattle.cpp_types.specs.declared.classes.At.{At}
-use Rattle.cpp_tree.specs.declared.faults.ElabFault.{ElabFault}
-use Rattle.elab_ctx.specs.Ctx.{Ctx}
-use Rattle.elab_ctx.specs.Steps.{and_then}
-use Rattle.elab_rules.specs.Statements.{State, Lambdas}
-use Rattle.elab_rules.specs.Functions.{text_sized}
-use Rattle.elab_rules.specs.Classes.{Home, Members, Begun, begun, members_of, completed, closed_class, class_text}
-use Rattle.elab_rules.specs.Members.{base_named, has_final, members_among, all_early, all_late, class_defined, class_with, class_closed}
+use Rattle.elab_expr.specs.cpp_lex.Tokens.{Lexeme}
+use Rattle.elab_expr.specs.cpp_ast.Trees.{Trees}
+use Rattle.elab_expr.specs.cpp_types.declared.classes.At.{At}
+use Rattle.elab_expr.specs.cpp_tree.declared.faults.ElabFault.{ElabFault}
+use Rattle.elab_expr.specs.elab_ctx.Ctx.{Ctx}
+use Rattle.elab_expr.specs.elab_ctx.Steps.{and_then}
+use Rattle.elab_expr.specs.elab_rules.Statements.{State, Lambdas}
+use Rattle.elab_expr.specs.elab_rules.Functions.{text_sized}
+use Rattle.elab_expr.specs.elab_rules.Classes.{Home, Members, Begun, begun, members_of, completed, closed_class, class_text}
+use Rattle.elab_expr.specs.elab_rules.Members.{base_named, has_final, members_among, all_early, all_late, class_defined, class_with, class_closed}
 use Rattle.class_table.specs.Written.{ClassRead, class_read, read_members, read_closed, class_stood}
 
 pub both_steps : {A B C : Type 0} (x : Result A ElabFault) (f : A → Result B ElabFault) (g : B → Result C ElabFault) → and_then (and_then x f) g ≡ and_then x (λ a. and_then (f a) g)

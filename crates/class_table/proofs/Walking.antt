@@ -1,24 +1,24 @@
 -- Members, one behind the other, and the faults of steps.
 use Rattle.std.proofs.Common.{◌≡◌, ◌∙◌, ℕ, Bool, true, false, List, [], ◌∷◌, Option, Some, None, Result, Ok, Err, refl, sym, ap, subst}
-use Rattle.cpp_lex.specs.Tokens.{Lexeme}
-use Rattle.cpp_ast.specs.Trees.{Tree, node, Trees, more, none}
-use Rattle.cpp_ast.specs.declared.arena.At.{At as SyntaxAt}
-use Rattle.cpp_ast.specs.declared.arena.NodeId.{NodeId}
-use Rattle.cpp_ast.specs.declared.kinds.NodeKind.{NodeKind}
-use Rattle.cpp_ast.specs.declared.kinds.NodeKind.TheVariants as k
-use Rattle.cpp_types.specs.Typ.{Form, void, int, enum, null, ptr, ref, array, func, class, closure, tx_ex, Signature}
-use Rattle.cpp_types.specs.declared.classes.At.{At}
-use Rattle.cpp_tree.specs.declared.program.FuncKind.TheVariants.{Plain, Constructor, Destructor}
-use Rattle.cpp_tree.specs.declared.faults.ElabFault.{ElabFault}
-use Rattle.cpp_tree.specs.declared.faults.ElabFault.TheVariants.{Ill, Override, JumpIntoBlock, Limit, Memory}
-use Rattle.cpp_tree.specs.Typing.{form_in}
-use Rattle.elab_ctx.specs.Says.{Faults}
-use Rattle.elab_ctx.specs.Steps.{and_then, each_of, at_of}
-use Rattle.elab_rules.specs.Types.{Declared}
-use Rattle.elab_rules.specs.Statements.{name_of}
-use Rattle.elab_rules.specs.Functions.{Storage, no_storage}
-use Rattle.elab_rules.specs.Classes.{Home, Members, declared_member, marks_from, no_marks, member_of, member_declaration, started_from, declared_method}
-use Rattle.elab_types.specs.Syntax.{trees_at}
+use Rattle.elab_expr.specs.cpp_lex.Tokens.{Lexeme}
+use Rattle.elab_expr.specs.cpp_ast.Trees.{Tree, node, Trees, more, none}
+use Rattle.elab_expr.specs.cpp_ast.declared.arena.At.{At as SyntaxAt}
+use Rattle.elab_expr.specs.cpp_ast.declared.arena.NodeId.{NodeId}
+use Rattle.elab_expr.specs.cpp_ast.declared.kinds.NodeKind.{NodeKind}
+use Rattle.elab_expr.specs.cpp_ast.declared.kinds.NodeKind.TheVariants as k
+use Rattle.elab_expr.specs.cpp_types.Typ.{Form, void, int, enum, null, ptr, ref, array, func, class, closure, tx_ex, Signature}
+use Rattle.elab_expr.specs.cpp_types.declared.classes.At.{At}
+use Rattle.elab_expr.specs.cpp_tree.declared.program.FuncKind.TheVariants.{Plain, Constructor, Destructor}
+use Rattle.elab_expr.specs.cpp_tree.declared.faults.ElabFault.{ElabFault}
+use Rattle.elab_expr.specs.cpp_tree.declared.faults.ElabFault.TheVariants.{Ill, Override, JumpIntoBlock, Limit, Memory}
+use Rattle.elab_expr.specs.cpp_tree.Typing.{form_in}
+use Rattle.elab_expr.specs.elab_ctx.Says.{Faults}
+use Rattle.elab_expr.specs.elab_ctx.Steps.{and_then, each_of, at_of}
+use Rattle.elab_expr.specs.elab_rules.Types.{Declared}
+use Rattle.elab_expr.specs.elab_rules.Statements.{name_of}
+use Rattle.elab_expr.specs.elab_rules.Functions.{Storage, no_storage}
+use Rattle.elab_expr.specs.elab_rules.Classes.{Home, Members, declared_member, marks_from, no_marks, member_of, member_declaration, started_from, declared_method}
+use Rattle.elab_expr.specs.elab_types.Syntax.{trees_at}
 use Rattle.class_members.specs.Shown.{Answers}
 use Rattle.class_table.specs.Written.{is_function_form, function_declared, data_declared, member_declared, defined_method}
 

@@ -1,29 +1,29 @@
 -- Parts of the rules for the text of a class, as the steps of which they are made.
 use Rattle.std.specs.Prelude.{◌≡◌, ℕ, true, false, Bool, not, List, [], drop, Option, Some, None, Result, Ok, Err}
-use Rattle.cpp_lex.specs.Tokens.{Lexeme}
-use Rattle.cpp_types.specs.Typ.{Typ, Form, func, void}
-use Rattle.cpp_types.specs.declared.classes.At.{At}
-use Rattle.cpp_ast.specs.Trees as syntax
-use Rattle.cpp_ast.specs.declared.kinds.NodeKind.TheVariants as k
-use Rattle.cpp_ast.specs.declared.arena.NodeId.{NodeId}
-use Rattle.cpp_ast.specs.declared.arena.At.{At as SyntaxAt}
-use Rattle.cpp_tree.specs.declared.program.FuncKind.{FuncKind}
-use Rattle.cpp_tree.specs.declared.program.FuncKind.TheVariants.{Plain}
-use Rattle.cpp_tree.specs.declared.faults.ElabFault.{ElabFault}
-use Rattle.cpp_tree.specs.declared.faults.ElabFault.TheVariants.{Ill}
-use Rattle.cpp_tree.specs.declared.faults.IllRule.TheVariants.{BadDeclaration, OutOfProfile}
-use Rattle.cpp_tree.specs.Typing.{form_in}
-use Rattle.cpp_tree.specs.Notation.{plain}
-use Rattle.elab_ctx.specs.Ctx.{Ctx, Work}
-use Rattle.elab_ctx.specs.Says.{Faults}
-use Rattle.elab_ctx.specs.Steps.{and_then, check, token_place, spelling}
-use Rattle.elab_types.specs.Syntax.{trees_at}
-use Rattle.elab_rules.specs.Types.{Declared}
-use Rattle.elab_rules.specs.Expressions.{type_of_specifiers, declared_by}
-use Rattle.elab_rules.specs.Statements.{State, Body, name_of}
-use Rattle.elab_rules.specs.Functions.{Storage, Header, text_sized}
-use Rattle.elab_rules.specs.Classes.{Home, Members, Begun, based_on, Method, Definition, header_in, special_header, has_equal, has_initialiser, no_function_words, no_marks, marks_from, declared_member, data_member, member_function, declared_method, definition_between, last_token, body_in, begun, members_of, completed, closed_class, class_text}
-use Rattle.elab_rules.specs.Members.{base_named, has_final, members_among}
+use Rattle.elab_expr.specs.cpp_lex.Tokens.{Lexeme}
+use Rattle.elab_expr.specs.cpp_types.Typ.{Typ, Form, func, void}
+use Rattle.elab_expr.specs.cpp_types.declared.classes.At.{At}
+use Rattle.elab_expr.specs.cpp_ast.Trees as syntax
+use Rattle.elab_expr.specs.cpp_ast.declared.kinds.NodeKind.TheVariants as k
+use Rattle.elab_expr.specs.cpp_ast.declared.arena.NodeId.{NodeId}
+use Rattle.elab_expr.specs.cpp_ast.declared.arena.At.{At as SyntaxAt}
+use Rattle.elab_expr.specs.cpp_tree.declared.program.FuncKind.{FuncKind}
+use Rattle.elab_expr.specs.cpp_tree.declared.program.FuncKind.TheVariants.{Plain}
+use Rattle.elab_expr.specs.cpp_tree.declared.faults.ElabFault.{ElabFault}
+use Rattle.elab_expr.specs.cpp_tree.declared.faults.ElabFault.TheVariants.{Ill}
+use Rattle.elab_expr.specs.cpp_tree.declared.faults.IllRule.TheVariants.{BadDeclaration, OutOfProfile}
+use Rattle.elab_expr.specs.cpp_tree.Typing.{form_in}
+use Rattle.elab_expr.specs.cpp_tree.Notation.{plain}
+use Rattle.elab_expr.specs.elab_ctx.Ctx.{Ctx, Work}
+use Rattle.elab_expr.specs.elab_ctx.Says.{Faults}
+use Rattle.elab_expr.specs.elab_ctx.Steps.{and_then, check, token_place, spelling}
+use Rattle.elab_expr.specs.elab_types.Syntax.{trees_at}
+use Rattle.elab_expr.specs.elab_rules.Types.{Declared}
+use Rattle.elab_expr.specs.elab_rules.Expressions.{type_of_specifiers, declared_by}
+use Rattle.elab_expr.specs.elab_rules.Statements.{State, Body, name_of}
+use Rattle.elab_expr.specs.elab_rules.Functions.{Storage, Header, text_sized}
+use Rattle.elab_expr.specs.elab_rules.Classes.{Home, Members, Begun, based_on, Method, Definition, header_in, special_header, has_equal, has_initialiser, no_function_words, no_marks, marks_from, declared_member, data_member, member_function, declared_method, definition_between, last_token, body_in, begun, members_of, completed, closed_class, class_text}
+use Rattle.elab_expr.specs.elab_rules.Members.{base_named, has_final, members_among}
 use Rattle.class_members.specs.Shown.{header_of, home_of}
 use Rattle.class_members.specs.declared.records.Home.{Home as HomeRec}
 use Rattle.class_table.specs.declared.methods.Method.{Method as MethodRec}

@@ -1,17 +1,17 @@
 // A class: its head, its members, and the closing brace (C++14 clause 9, 9.2).
 
 ghost use Rattle.std.specs.Prelude.{◌≡◌, ℕ, length, true, false, List, Option, MatchOption, IfOk, [], map, if◌then◌else◌};
-ghost use Rattle.cpp_types.specs.Class.{member_of};
-ghost use Rattle.cpp_lex.specs.Tokens.{lexemes_of, Lexeme};
-ghost use Rattle.cpp_ast.specs.Orders.{are_below};
-ghost use Rattle.cpp_ast.specs.Trees.{node, Trees, more};
-ghost use Rattle.cpp_ast.specs.declared.arena.At.{At as SyntaxAt};
-ghost use Rattle.elab_ctx.specs.Ctx.{ctx_of, work_of, Ctx};
-ghost use Rattle.elab_ctx.specs.Says.{Tells};
-ghost use Rattle.elab_rules.specs.Classes.{begun as begun_of};
-ghost use Rattle.elab_rules.specs.Statements.{Body};
-ghost use Rattle.elab_rules.specs.Members.{is_final_word as is_final_word_of, has_final as has_final_of, base_named as base_named_of, members_among as members_among_of};
-ghost use Rattle.elab_types.specs.Syntax.{syntax_of, trees_at};
+ghost use Rattle.elab_expr.specs.cpp_types.Class.{member_of};
+ghost use Rattle.elab_expr.specs.cpp_lex.Tokens.{lexemes_of, Lexeme};
+ghost use Rattle.elab_expr.specs.cpp_ast.Orders.{are_below};
+ghost use Rattle.elab_expr.specs.cpp_ast.Trees.{node, Trees, more};
+ghost use Rattle.elab_expr.specs.cpp_ast.declared.arena.At.{At as SyntaxAt};
+ghost use Rattle.elab_expr.specs.elab_ctx.Ctx.{ctx_of, work_of, Ctx};
+ghost use Rattle.elab_expr.specs.elab_ctx.Says.{Tells};
+ghost use Rattle.elab_expr.specs.elab_rules.Classes.{begun as begun_of};
+ghost use Rattle.elab_expr.specs.elab_rules.Statements.{Body};
+ghost use Rattle.elab_expr.specs.elab_rules.Members.{is_final_word as is_final_word_of, has_final as has_final_of, base_named as base_named_of, members_among as members_among_of};
+ghost use Rattle.elab_expr.specs.elab_types.Syntax.{syntax_of, trees_at};
 ghost use Rattle.class_members.specs.Shown.{home_of, Begins};
 ghost use Rattle.class_table.specs.Written.{class_read as class_read_of, read_members as read_members_of, named_base, at_hand, Reads, StandsRead};
 
@@ -19,12 +19,10 @@ use crate::member_walk::members_of;
 use class_members::{Home, Members, based_on, text_sized};
 use class_records::{begun, closed_class, completed};
 use class_texts::texts::class_text;
-use cpp_ast::{NodeId, NodeKind, Nodes};
-use cpp_lex::Tokens;
-use cpp_tree::ElabFault;
-use cpp_types::At;
-use elab_ctx::{Env, Work};
-use elab_types::syntax::{node_at, place, spelling, token_place};
+use elab_expr::below::{
+    At, ElabFault, Env, NodeId, NodeKind, Nodes, Tokens, Work, elab_types_node_at as node_at,
+    place, spelling, token_place,
+};
 use std::alloc::{AllocError, Global};
 
 /// A class that is only declared, by its name (C++14 9.1).

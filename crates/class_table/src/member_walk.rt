@@ -1,17 +1,17 @@
 // The members of a class, in the order of the text (C++14 9.2).
 
 ghost use Rattle.std.specs.Prelude.{◌≡◌, ◌<◌, length, true, List, option_map};
-ghost use Rattle.cpp_lex.specs.Tokens.{lexemes_of};
-ghost use Rattle.cpp_types.specs.Typ.{typ_of};
-ghost use Rattle.cpp_ast.specs.Orders.{are_below};
-ghost use Rattle.cpp_tree.specs.Typing.{form_in};
-ghost use Rattle.elab_ctx.specs.Ctx.{ctx_of, work_of, Work as WorkShown};
-ghost use Rattle.elab_ctx.specs.Steps.{each_of};
-ghost use Rattle.elab_rules.specs.Statements.{Body, is_own_name as is_own_name_of};
-ghost use Rattle.elab_rules.specs.Classes.{declared_method as declared_method_of, no_function_words as no_function_words_of, member_declarator as member_declarator_of, member_declaration as member_declaration_of, member_of as member_of_of, members_of as members_of_of, started_from as started_from_of};
-ghost use Rattle.elab_rules.specs.Functions.{no_storage as no_storage_of};
-ghost use Rattle.elab_types.specs.Syntax.{syntax_of, tree_at, trees_at};
-ghost use Rattle.elab_types.specs.Shown.{declared_of};
+ghost use Rattle.elab_expr.specs.cpp_lex.Tokens.{lexemes_of};
+ghost use Rattle.elab_expr.specs.cpp_types.Typ.{typ_of};
+ghost use Rattle.elab_expr.specs.cpp_ast.Orders.{are_below};
+ghost use Rattle.elab_expr.specs.cpp_tree.Typing.{form_in};
+ghost use Rattle.elab_expr.specs.elab_ctx.Ctx.{ctx_of, work_of, Work as WorkShown};
+ghost use Rattle.elab_expr.specs.elab_ctx.Steps.{each_of};
+ghost use Rattle.elab_expr.specs.elab_rules.Statements.{Body, is_own_name as is_own_name_of};
+ghost use Rattle.elab_expr.specs.elab_rules.Classes.{declared_method as declared_method_of, no_function_words as no_function_words_of, member_declarator as member_declarator_of, member_declaration as member_declaration_of, member_of as member_of_of, members_of as members_of_of, started_from as started_from_of};
+ghost use Rattle.elab_expr.specs.elab_rules.Functions.{no_storage as no_storage_of};
+ghost use Rattle.elab_expr.specs.elab_types.Syntax.{syntax_of, tree_at, trees_at};
+ghost use Rattle.elab_expr.specs.elab_types.Shown.{declared_of};
 ghost use Rattle.class_members.specs.Shown.{home_of, reading, Answers, definition_of, storage_of, marks_of};
 ghost use Rattle.class_table.specs.Written.{defined_method as defined_method_of, is_function_form, function_declared as function_declared_of, data_declared as data_declared_of, member_declared};
 
@@ -23,14 +23,10 @@ use class_texts::kids::{kid_at, rest_from};
 use class_texts::started::{no_storage, started_from};
 use class_texts::texts::{body_end, definition_between};
 use class_texts::words::{has_equal, has_initialiser, marks_from};
-use cpp_ast::{NodeId, NodeKind, Nodes};
-use cpp_lex::Tokens;
-use cpp_tree::{ElabFault, FuncKind, IllRule};
-use cpp_types::{At, Shape, Ty};
-use elab_ctx::{Env, Work};
-use elab_init::ill;
-use elab_types::Declared;
-use elab_types::syntax::{node_at, place};
+use elab_expr::below::{
+    At, Declared, ElabFault, Env, FuncKind, IllRule, NodeId, NodeKind, Nodes, Shape, Tokens, Ty,
+    Work, elab_init_ill as ill, elab_types_node_at as node_at, place,
+};
 use std::alloc::Global;
 
 // A function with a body, or a constructor or a destructor.

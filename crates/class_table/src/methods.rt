@@ -1,15 +1,15 @@
 // Member functions, constructors and destructors as they are written (C++14 9.3, 12.1, 12.4).
 
 ghost use Rattle.std.specs.Prelude.{◌≡◌, ◌<◌, ◌≤◌, length, true, drop, IfOk, List};
-ghost use Rattle.cpp_lex.specs.Tokens.{lexemes_of};
-ghost use Rattle.cpp_types.specs.Typ.{typ_of};
-ghost use Rattle.cpp_ast.specs.Orders.{are_below};
-ghost use Rattle.elab_ctx.specs.Ctx.{ctx_of, work_of};
-ghost use Rattle.elab_rules.specs.Expressions.{type_of_specifiers as type_of_specifiers_of, declared_by};
-ghost use Rattle.elab_rules.specs.Statements.{Body};
-ghost use Rattle.elab_rules.specs.Classes.{plain_method as plain_method_of, special_method as special_method_of, method_of as method_of_of};
-ghost use Rattle.elab_types.specs.Syntax.{syntax_of, tree_at, trees_at};
-ghost use Rattle.elab_types.specs.Shown.{Says, declared_of};
+ghost use Rattle.elab_expr.specs.cpp_lex.Tokens.{lexemes_of};
+ghost use Rattle.elab_expr.specs.cpp_types.Typ.{typ_of};
+ghost use Rattle.elab_expr.specs.cpp_ast.Orders.{are_below};
+ghost use Rattle.elab_expr.specs.elab_ctx.Ctx.{ctx_of, work_of};
+ghost use Rattle.elab_expr.specs.elab_rules.Expressions.{type_of_specifiers as type_of_specifiers_of, declared_by};
+ghost use Rattle.elab_expr.specs.elab_rules.Statements.{Body};
+ghost use Rattle.elab_expr.specs.elab_rules.Classes.{plain_method as plain_method_of, special_method as special_method_of, method_of as method_of_of};
+ghost use Rattle.elab_expr.specs.elab_types.Syntax.{syntax_of, tree_at, trees_at};
+ghost use Rattle.elab_expr.specs.elab_types.Shown.{Says, declared_of};
 ghost use Rattle.class_members.specs.Shown.{header_of, storage_of};
 ghost use Rattle.class_table.specs.Written.{plain_header as plain_header_of, special_declared as special_declared_of, method_shown, at_hand, is_plain_kind};
 
@@ -17,14 +17,11 @@ use class_members::{Header, Storage};
 use class_texts::headers::{header_in, name_of, special_header};
 use class_texts::kids::kid_at;
 use class_texts::started::{no_storage, started_from};
-use cpp_ast::{NodeId, Nodes};
-use cpp_lex::Tokens;
-use cpp_tree::{ElabFault, FuncKind, IllRule};
-use cpp_types::{At, Shape, Ty};
-use elab_ctx::{Env, Work};
+use elab_expr::below::{
+    At, Declared, ElabFault, Env, FuncKind, IllRule, NodeId, Nodes, Shape, Tokens, Ty, Work,
+    elab_init_ill as ill,
+};
 use elab_expr::declarators::{declared, type_of_specifiers};
-use elab_init::ill;
-use elab_types::Declared;
 use std::alloc::Global;
 
 /// A function of a class, and how many kids of its node stand before what is behind its declarator.

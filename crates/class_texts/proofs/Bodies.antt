@@ -1,9 +1,9 @@
 -- The body of a function is its last part.
 use Rattle.std.proofs.Common.{◌≡◌, List, [], ◌∷◌, ◌++◌, Some, refl}
-use Rattle.cpp_ast.specs.declared.arena.NodeId.{NodeId}
-use Rattle.cpp_ast.specs.Trees.{Tree}
+use Rattle.elab_init.specs.cpp_ast.declared.arena.NodeId.{NodeId}
+use Rattle.elab_init.specs.cpp_ast.Trees.{Tree}
 use Rattle.elab_types.specs.Syntax.{tree_at, trees_at}
-use Rattle.elab_rules.specs.Classes.{body_in}
+use Rattle.elab_init.specs.elab_rules.Classes.{body_in}
 
 pub body_last : (trees : List Tree) (ids : List NodeId) (id : NodeId) → body_in (trees_at trees (ids ++ id ∷ [])) ≡ Some (tree_at trees id)
 body_last trees [] id = refl

@@ -1,14 +1,14 @@
 -- Names of members in an expression, and types of classes.
 use Rattle.std.proofs.Common.{◌≡◌, ◌∙◌, ℕ, true, false, List, [], ◌∷◌, length, Option, Some, None, refl, sym, ap}
-use Rattle.cpp_lex.specs.Tokens.{Lexeme}
-use Rattle.cpp_ast.specs.declared.kinds.NodeKind.{NodeKind}
-use Rattle.cpp_ast.specs.declared.arena.At.{At as SyntaxAt}
-use Rattle.cpp_ast.specs.Trees.{Tree, node, Trees, more}
+use Rattle.elab_init.specs.cpp_lex.Tokens.{Lexeme}
+use Rattle.elab_init.specs.cpp_ast.declared.kinds.NodeKind.{NodeKind}
+use Rattle.elab_init.specs.cpp_ast.declared.arena.At.{At as SyntaxAt}
+use Rattle.elab_init.specs.cpp_ast.Trees.{Tree, node, Trees, more}
 use Rattle.cpp_types.specs.declared.classes.At.{At}
 use Rattle.cpp_types.specs.declared.types.Ty.{Ty}
 use Rattle.cpp_types.specs.Typ.{Typ, typ, typ_of, Typs, typs_of, more as and_typ, void, int, enum, null, ptr, ref, array, func, class, closure, tx_ex}
-use Rattle.elab_ctx.specs.Steps.{at_of, spelling}
-use Rattle.elab_rules.specs.Classes.{Members, member_named, member_among, is_own_member, place_if, or_place, takes_own_value}
+use Rattle.elab_init.specs.elab_ctx.Steps.{at_of, spelling}
+use Rattle.elab_init.specs.elab_rules.Classes.{Members, member_named, member_among, is_own_member, place_if, or_place, takes_own_value}
 
 module _ (s : List Lexeme) (n : ℕ) (r : Members) where
   pub own_named : (t : Tree) (kind : NodeKind) (at : SyntaxAt) (token : Option ℕ) (kids : Trees) (found : ℕ) (name : List ℕ) (p : At) → t ≡ node kind at token kids →

@@ -1,12 +1,12 @@
 -- Kids at their places.
 use Rattle.std.proofs.Common.{◌≡◌, ℕ, zero, suc, ◌-◌, ◌+◌, ◌<◌, true, nat_lt, List, [], ◌∷◌, length, take, drop, get_or, refl, ap, add-one}
 use Rattle.std.proofs.Math.Seq.{drop-cons}
-use Rattle.cpp_ast.specs.Trees.{Tree, more}
+use Rattle.elab_init.specs.cpp_ast.Trees.{Tree, more}
 use Rattle.elab_types.specs.Syntax.{tree_at, trees_at}
 use Rattle.std.proofs.lemmas.Bool.{and_parts}
 use Rattle.std.proofs.lemmas.List.{take_rest}
-use Rattle.cpp_ast.specs.Orders.{are_below}
-use Rattle.cpp_ast.specs.declared.arena.NodeId.{NodeId}
+use Rattle.elab_init.specs.cpp_ast.Orders.{are_below}
+use Rattle.elab_init.specs.cpp_ast.declared.arena.NodeId.{NodeId}
 
 pub below_drop : (limit : ℕ) (ids : List NodeId) (n : ℕ) → are_below limit ids ≡ true → are_below limit (drop n ids) ≡ true
 below_drop limit ids zero b = b

@@ -4,9 +4,9 @@ use Rattle.std.proofs.lemmas.Slice.{between_is}
 use Rattle.std.proofs.lemmas.List.{take_min, drop_min, take-map, drop-map, length-take, length-drop}
 use Rattle.std.proofs.lemmas.Bool.{ltb-true, ltb-false}
 use Rattle.std.proofs.Math.Seq.{drop-cons}
-use Rattle.cpp_lex.specs.Tokens.{Lexeme, lexeme_of}
-use Rattle.cpp_lex.specs.declared.Token.{Token}
-use Rattle.elab_rules.specs.Functions.{joined}
+use Rattle.elab_init.specs.cpp_lex.Tokens.{Lexeme, lexeme_of}
+use Rattle.elab_init.specs.cpp_lex.declared.Token.{Token}
+use Rattle.elab_init.specs.elab_rules.Functions.{joined}
 use Rattle.class_texts.specs.Signatures.{gap}
 
 same_part : {X : Type 0} (xs : List X) (i j s e : ℕ) → e ≡ min j (length xs) → s ≡ min i e → drop s (take e xs) ≡ drop i (take j xs)

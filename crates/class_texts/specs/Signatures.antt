@@ -2,12 +2,12 @@
 use Rattle.std.specs.Prelude.{ℕ, Bool, true, false, List, [], ◌∷◌, Some, Result, Ok, Err}
 use Rattle.cpp_types.specs.Typ.{Form, func, Signature}
 use Rattle.cpp_types.specs.declared.classes.At.{At}
-use Rattle.cpp_tree.specs.declared.program.FuncKind.{FuncKind}
-use Rattle.cpp_tree.specs.declared.faults.ElabFault.{ElabFault}
-use Rattle.cpp_tree.specs.declared.faults.ElabFault.TheVariants.{Ill}
-use Rattle.cpp_tree.specs.declared.faults.IllRule.TheVariants.{BadDeclaration}
-use Rattle.elab_rules.specs.Types.{Declared}
-use Rattle.elab_rules.specs.Functions.{Storage, Header}
+use Rattle.elab_init.specs.cpp_tree.declared.program.FuncKind.{FuncKind}
+use Rattle.elab_init.specs.cpp_tree.declared.faults.ElabFault.{ElabFault}
+use Rattle.elab_init.specs.cpp_tree.declared.faults.ElabFault.TheVariants.{Ill}
+use Rattle.elab_init.specs.cpp_tree.declared.faults.IllRule.TheVariants.{BadDeclaration}
+use Rattle.elab_init.specs.elab_rules.Types.{Declared}
+use Rattle.elab_init.specs.elab_rules.Functions.{Storage, Header}
 
 -- the signature, where it is a function's type
 abbrev pub signature_in : At → Form → Result Signature ElabFault

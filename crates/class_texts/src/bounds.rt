@@ -1,24 +1,21 @@
 // Bounds of arrays in a class name none of its members (profile).
 
 ghost use Rattle.std.specs.Prelude.{◌≡◌, ◌<◌, ℕ, Option, MatchOption, length, true, List, if◌then◌else◌};
-ghost use Rattle.cpp_lex.specs.Tokens.{lexemes_of, Lexeme};
-ghost use Rattle.cpp_ast.specs.Orders.{are_below};
-ghost use Rattle.cpp_ast.specs.Trees.{node, Trees, more};
-ghost use Rattle.cpp_ast.specs.declared.arena.At.{At as SyntaxAt};
-ghost use Rattle.elab_ctx.specs.Ctx.{ctx_of, Work};
-ghost use Rattle.elab_ctx.specs.Says.{Tells};
-ghost use Rattle.elab_ctx.specs.Steps.{at_of, spelling as spelling_of};
-ghost use Rattle.elab_rules.specs.Statements.{Body};
-ghost use Rattle.elab_rules.specs.Classes.{Members as MembersRead, place_if, is_own_member as is_own_member_of, member_named as member_named_of, member_among as member_among_of, declarator_among as declarator_among_of, within_bounds as within_bounds_of};
+ghost use Rattle.elab_init.specs.cpp_lex.Tokens.{lexemes_of, Lexeme};
+ghost use Rattle.elab_init.specs.cpp_ast.Orders.{are_below};
+ghost use Rattle.elab_init.specs.cpp_ast.Trees.{node, Trees, more};
+ghost use Rattle.elab_init.specs.cpp_ast.declared.arena.At.{At as SyntaxAt};
+ghost use Rattle.elab_init.specs.elab_ctx.Ctx.{ctx_of, Work};
+ghost use Rattle.elab_init.specs.elab_ctx.Says.{Tells};
+ghost use Rattle.elab_init.specs.elab_ctx.Steps.{at_of, spelling as spelling_of};
+ghost use Rattle.elab_init.specs.elab_rules.Statements.{Body};
+ghost use Rattle.elab_init.specs.elab_rules.Classes.{Members as MembersRead, place_if, is_own_member as is_own_member_of, member_named as member_named_of, member_among as member_among_of, declarator_among as declarator_among_of, within_bounds as within_bounds_of};
 ghost use Rattle.elab_types.specs.Syntax.{syntax_of, tree_at, trees_at};
 ghost use Rattle.class_members.specs.Shown.{reading};
 
 use class_members::{Members, has_function, has_member};
-use cpp_ast::{NodeId, NodeKind, Nodes};
-use cpp_lex::Tokens;
-use cpp_tree::{ElabFault, IllRule};
 use cpp_types::At;
-use elab_ctx::Env;
+use elab_init::below::{ElabFault, Env, IllRule, NodeId, NodeKind, Nodes, Tokens};
 use elab_init::ill;
 use elab_types::syntax::{node_at, place, spelling};
 

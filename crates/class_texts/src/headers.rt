@@ -1,20 +1,19 @@
 // What member functions, constructors and destructors declare (C++14 9.3, 12.1, 12.4).
 
 ghost use Rattle.std.specs.Prelude.{◌≡◌, IfOk};
-ghost use Rattle.cpp_lex.specs.Tokens.{lexemes_of};
+ghost use Rattle.elab_init.specs.cpp_lex.Tokens.{lexemes_of};
 ghost use Rattle.cpp_types.specs.Typ.{typ_of, signature_of, typs_of, more as and_typ, none as no_typs};
-ghost use Rattle.cpp_tree.specs.Typing.{form_in};
-ghost use Rattle.elab_rules.specs.Initialising.{makes, signature_parameters};
-ghost use Rattle.elab_rules.specs.Statements.{name_of as name_of_of};
-ghost use Rattle.elab_rules.specs.Classes.{header_in as header_in_of, special_name as special_name_of, special_header as special_header_of, takes_own_value as takes_own_value_of};
+ghost use Rattle.elab_init.specs.cpp_tree.Typing.{form_in};
+ghost use Rattle.elab_init.specs.elab_rules.Initialising.{makes, signature_parameters};
+ghost use Rattle.elab_init.specs.elab_rules.Statements.{name_of as name_of_of};
+ghost use Rattle.elab_init.specs.elab_rules.Classes.{header_in as header_in_of, special_name as special_name_of, special_header as special_header_of, takes_own_value as takes_own_value_of};
 ghost use Rattle.elab_types.specs.Shown.{Says, declared_of};
 ghost use Rattle.class_members.specs.Shown.{header_of, storage_of};
 ghost use Rattle.class_texts.specs.Signatures.{signature_in, header_by};
 
 use class_members::{Header, Storage};
-use cpp_lex::Tokens;
-use cpp_tree::{ElabFault, FuncKind, IllRule};
 use cpp_types::{At, FnTy, Shape, Ty, copy_function};
+use elab_init::below::{ElabFault, FuncKind, IllRule, Tokens};
 use elab_init::ill;
 use elab_types::Declared;
 use elab_types::syntax::spelling;

@@ -1,9 +1,9 @@
 // Kids of a node by their places.
 
 ghost use Rattle.std.specs.Prelude.{◌≡◌, ◌<◌, ◌≤◌, ◌∷◌, ◌+◌, [], ℕ, MatchOption, true, drop, length};
-ghost use Rattle.cpp_ast.specs.Orders.{are_below};
+ghost use Rattle.elab_init.specs.cpp_ast.Orders.{are_below};
 
-use cpp_ast::NodeId;
+use elab_init::below::NodeId;
 
 /// The kid at a place.
 pub fn kid_at(ids: &[NodeId], place: usize) -> Option<NodeId>

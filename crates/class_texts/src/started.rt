@@ -1,19 +1,18 @@
 // What stands before the type of a member (C++14 7.1, 9.2).
 
 ghost use Rattle.std.specs.Prelude.{◌≡◌, ◌≤◌, length, true, drop, MatchOption};
-ghost use Rattle.cpp_lex.specs.Tokens.{lexemes_of};
-ghost use Rattle.cpp_ast.specs.Orders.{are_below};
-ghost use Rattle.cpp_ast.specs.Trees.{node, Trees, more};
-ghost use Rattle.cpp_ast.specs.declared.arena.At.{At as SyntaxAt};
-ghost use Rattle.elab_ctx.specs.Steps.{spelling as spelling_of};
-ghost use Rattle.elab_rules.specs.Functions.{no_storage as no_storage_of, with_specifier as with_specifier_of};
-ghost use Rattle.elab_rules.specs.Classes.{started_from as started_from_of};
+ghost use Rattle.elab_init.specs.cpp_lex.Tokens.{lexemes_of};
+ghost use Rattle.elab_init.specs.cpp_ast.Orders.{are_below};
+ghost use Rattle.elab_init.specs.cpp_ast.Trees.{node, Trees, more};
+ghost use Rattle.elab_init.specs.cpp_ast.declared.arena.At.{At as SyntaxAt};
+ghost use Rattle.elab_init.specs.elab_ctx.Steps.{spelling as spelling_of};
+ghost use Rattle.elab_init.specs.elab_rules.Functions.{no_storage as no_storage_of, with_specifier as with_specifier_of};
+ghost use Rattle.elab_init.specs.elab_rules.Classes.{started_from as started_from_of};
 ghost use Rattle.elab_types.specs.Syntax.{syntax_of, trees_at};
 ghost use Rattle.class_members.specs.Shown.{storage_of};
 
 use class_members::Storage;
-use cpp_ast::{NodeId, NodeKind, Nodes};
-use cpp_lex::Tokens;
+use elab_init::below::{NodeId, NodeKind, Nodes, Tokens};
 use elab_types::specifiers::is_spelled;
 use elab_types::syntax::node_at;
 

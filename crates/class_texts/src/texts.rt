@@ -1,20 +1,19 @@
 // The texts of definitions: the spellings of tokens, joined by blanks.
 
 ghost use Rattle.std.specs.Prelude.{◌≡◌, ℕ, ◌++◌, ◌<◌, suc, true, length, map, slice_range, IfOk, OnOk, option_map, slice_get, MatchOption, Some, None};
-ghost use Rattle.cpp_lex.specs.Tokens.{lexemes_of, lexeme_of};
-ghost use Rattle.cpp_ast.specs.Orders.{are_below};
-ghost use Rattle.cpp_ast.specs.Trees.{node, Trees, more};
-ghost use Rattle.cpp_ast.specs.declared.kinds.NodeKind.{NodeKind};
-ghost use Rattle.cpp_ast.specs.declared.arena.At.{At as SyntaxAt};
-ghost use Rattle.elab_rules.specs.Functions.{text_between as text_between_of, joined};
-ghost use Rattle.elab_rules.specs.Classes.{definition_between as definition_between_of, token_end as token_end_of, body_in as body_in_of, last_token as last_token_of, class_key as class_key_of, class_brace as class_brace_of, class_text as class_text_of};
+ghost use Rattle.elab_init.specs.cpp_lex.Tokens.{lexemes_of, lexeme_of};
+ghost use Rattle.elab_init.specs.cpp_ast.Orders.{are_below};
+ghost use Rattle.elab_init.specs.cpp_ast.Trees.{node, Trees, more};
+ghost use Rattle.elab_init.specs.cpp_ast.declared.kinds.NodeKind.{NodeKind};
+ghost use Rattle.elab_init.specs.cpp_ast.declared.arena.At.{At as SyntaxAt};
+ghost use Rattle.elab_init.specs.elab_rules.Functions.{text_between as text_between_of, joined};
+ghost use Rattle.elab_init.specs.elab_rules.Classes.{definition_between as definition_between_of, token_end as token_end_of, body_in as body_in_of, last_token as last_token_of, class_key as class_key_of, class_brace as class_brace_of, class_text as class_text_of};
 ghost use Rattle.elab_types.specs.Syntax.{syntax_of, tree_at, trees_at};
 ghost use Rattle.class_members.specs.Shown.{definition_of};
 ghost use Rattle.class_texts.specs.Signatures.{gap};
 
 use class_members::Definition;
-use cpp_ast::{NodeId, NodeKind, Nodes};
-use cpp_lex::{Token, Tokens};
+use elab_init::below::{NodeId, NodeKind, Nodes, Token, Tokens};
 use elab_types::kids::last_kid;
 use elab_types::syntax::node_at;
 use std::alloc::{AllocError, Global};

@@ -1,18 +1,17 @@
 // The words behind the declarator of a member (C++14 9.2).
 
 ghost use Rattle.std.specs.Prelude.{◌≡◌, ◌<◌, ◌||◌, ℕ, Option, length, true};
-ghost use Rattle.cpp_lex.specs.Tokens.{lexemes_of};
-ghost use Rattle.cpp_ast.specs.Orders.{are_below};
-ghost use Rattle.cpp_ast.specs.Trees.{node, Trees, more};
-ghost use Rattle.cpp_ast.specs.declared.kinds.NodeKind.TheVariants.{VirtSpecifier};
-ghost use Rattle.cpp_ast.specs.declared.arena.At.{At as SyntaxAt};
-ghost use Rattle.elab_rules.specs.Classes.{with_mark as with_mark_of, marks_from as marks_from_of, no_marks, is_initialiser as is_initialiser_of, has_initialiser as has_initialiser_of, has_equal as has_equal_of};
+ghost use Rattle.elab_init.specs.cpp_lex.Tokens.{lexemes_of};
+ghost use Rattle.elab_init.specs.cpp_ast.Orders.{are_below};
+ghost use Rattle.elab_init.specs.cpp_ast.Trees.{node, Trees, more};
+ghost use Rattle.elab_init.specs.cpp_ast.declared.kinds.NodeKind.TheVariants.{VirtSpecifier};
+ghost use Rattle.elab_init.specs.cpp_ast.declared.arena.At.{At as SyntaxAt};
+ghost use Rattle.elab_init.specs.elab_rules.Classes.{with_mark as with_mark_of, marks_from as marks_from_of, no_marks, is_initialiser as is_initialiser_of, has_initialiser as has_initialiser_of, has_equal as has_equal_of};
 ghost use Rattle.elab_types.specs.Syntax.{syntax_of, trees_at};
 ghost use Rattle.class_members.specs.Shown.{marks_of};
 
 use class_members::Marks;
-use cpp_ast::{NodeId, NodeKind, Nodes};
-use cpp_lex::Tokens;
+use elab_init::below::{NodeId, NodeKind, Nodes, Tokens};
 use elab_types::specifiers::is_spelled;
 use elab_types::syntax::node_at;
 

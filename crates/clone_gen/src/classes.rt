@@ -2,9 +2,9 @@
 
 use crate::sizes::{class_type, extent, member_offset};
 use crate::uses::{slot_function, slot_index, slots_of};
+use cpp_layout::below::{ClassRec, spell};
 use cpp_layout::has_pointer;
 use cpp_tree::{ClassDef, Program, SlotRec, UnitTree};
-use cpp_types::{ClassRec, spell};
 use low_code::NameTable;
 use std::alloc::{AllocError, Global};
 use tx_code::{ObjClass, ObjMember};

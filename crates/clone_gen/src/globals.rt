@@ -3,8 +3,8 @@
 use crate::classes::and_one;
 use crate::sizes::extent;
 use crate::uses::{Uses, is_set};
+use cpp_layout::below::spell;
 use cpp_tree::{CellKind, InitCell, Linkage, Program, TGlobal, UnitTree};
-use cpp_types::spell;
 use low_code::NameTable;
 use std::alloc::{AllocError, Global};
 use tx_code::{ObjCell, ObjGlobal};

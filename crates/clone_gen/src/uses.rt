@@ -1,9 +1,9 @@
 //! What a unit refers to.
 
+use cpp_layout::below::{ClassRec, FuncRec, same_function};
+use cpp_tree::below::BlockKind;
 use cpp_tree::{CellKind, Program, SlotRec, TFunc, TKind, TNode, UnitTree};
-use cpp_types::{ClassRec, FuncRec, same_function};
 use std::alloc::{AllocError, Global};
-use tx_events::BlockKind;
 
 /// What a unit refers to, by the indexes of its lists.
 #[derive(Drop)]

@@ -1,3 +1,4 @@
+pub use Rattle.cpp_types.proofs as cpp_types
 pub mod Chains
 pub mod Ends
 pub mod Forms

@@ -3,6 +3,7 @@
 
 pub mod addresses;
 mod alignments;
+pub mod below;
 mod cursor;
 pub mod extents;
 pub mod frames;

@@ -1,9 +1,9 @@
 -- The trees that a list of nodes shows.
 use Rattle.std.specs.Prelude.{◌≡◌, ℕ, ◌<◌, ◌≤◌, nat_lt, nat_eq, Bool, true, List, [], ◌∷◌, ◌++◌, length, slice_get, get_or, fold, sum_by, count_by, Some}
 use Rattle.std.specs.List.{list_all}
-use Rattle.cpp_types.specs.Typ.{Typ, typ_of}
-use Rattle.cpp_types.specs.declared.classes.At.{At}
-use Rattle.cpp_types.specs.declared.ranks.Cat.{Cat}
+use Rattle.cpp_layout.specs.cpp_types.Typ.{Typ, typ_of}
+use Rattle.cpp_layout.specs.cpp_types.declared.classes.At.{At}
+use Rattle.cpp_layout.specs.cpp_types.declared.ranks.Cat.{Cat}
 use Rattle.cpp_tree.specs.declared.kinds.TKind.{TKind}
 use Rattle.cpp_tree.specs.declared.arena.TNodeId.{TNodeId}
 use Rattle.cpp_tree.specs.declared.arena.TNode.{TNode}

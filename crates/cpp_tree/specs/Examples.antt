@@ -5,9 +5,9 @@
 use Rattle.std.specs.Prelude.{ℕ, Bool, true, false, List, [], ◌∷◌, Option, Some, None, map}
 use Rattle.tx_ints.specs.declared.kinds.IntKind.TheVariants.{Bool as BoolKind, Int, ULong}
 use Rattle.tx_ints.specs.declared.kinds.BinOp.TheVariants.{Add}
-use Rattle.cpp_types.specs.Typ.{Typ, typ, int, ptr, ref, class, closure, void, Typs, signature, none as none_typs, more as more_typs}
-use Rattle.cpp_types.specs.Class.{Class, Member, Function}
-use Rattle.cpp_types.specs.declared.classes.Safety.TheVariants.{None as Unsaid}
+use Rattle.cpp_layout.specs.cpp_types.Typ.{Typ, typ, int, ptr, ref, class, closure, void, Typs, signature, none as none_typs, more as more_typs}
+use Rattle.cpp_layout.specs.cpp_types.Class.{Class, Member, Function}
+use Rattle.cpp_layout.specs.cpp_types.declared.classes.Safety.TheVariants.{None as Unsaid}
 use Rattle.cpp_tree.specs.declared.kinds.TKind.TheVariants.{Literal, Local, Load, Binary, Conditional, Materialize, Throw, Call, VirtualCall, Store, Construct, Pieces, Piece, Block, Init, Loop, Switch, Return, Destroy, Field}
 use Rattle.cpp_tree.specs.declared.program.FuncKind.{FuncKind}
 use Rattle.cpp_tree.specs.declared.program.FuncKind.TheVariants.{Plain, Constructor, Destructor}

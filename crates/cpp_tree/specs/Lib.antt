@@ -1,3 +1,7 @@
+pub use Rattle.cpp_layout.specs as cpp_layout
+pub use Rattle.cpp_layout.specs.cpp_types as cpp_types
+pub use Rattle.tx_events.specs as tx_events
+pub use Rattle.tx_ints.specs as tx_ints
 pub mod Trees
 pub mod Arena
 pub mod Units

@@ -1,7 +1,7 @@
 -- Short forms for trees that are written by hand.
 use Rattle.std.specs.Prelude.{true, false, List, [], ◌∷◌}
-use Rattle.cpp_types.specs.Typ.{Typ, typ, Form, void}
-use Rattle.cpp_types.specs.declared.ranks.Cat.TheVariants.{Lvalue, Prvalue}
+use Rattle.cpp_layout.specs.cpp_types.Typ.{Typ, typ, Form, void}
+use Rattle.cpp_layout.specs.cpp_types.declared.ranks.Cat.TheVariants.{Lvalue, Prvalue}
 use Rattle.cpp_tree.specs.declared.kinds.TKind.{TKind}
 use Rattle.cpp_tree.specs.Trees.{Tree, node, Trees, none, more, nowhere}
 

@@ -2,11 +2,11 @@
 use Rattle.std.specs.Prelude.{ℕ, zero, suc, ◌+◌, ◌*◌, ◌-◌, ◌/◌, ◌==◌, nat_le, nat_lt, Bool, true, false, ◌&&◌, ◌||◌, List, [], ◌∷◌, ◌++◌, length, slice_get, Option, Some, None, is_some, option_map, option_and_then, unwrap_or, cond}
 use Rattle.std.specs.List.{list_any}
 use Rattle.tx_ints.specs.declared.kinds.IntKind.{IntKind}
-use Rattle.cpp_types.specs.Typ.{Typ, typ, Form, array, class, closure, tx_ex}
-use Rattle.cpp_types.specs.Class.{Class, Member, completion_of, held_form}
-use Rattle.cpp_types.specs.Order.{each_passes}
-use Rattle.cpp_types.specs.Conversion.{is_object_form, bases}
-use Rattle.cpp_types.specs.Equal.{kind_eq, typ_eq}
+use Rattle.cpp_layout.specs.cpp_types.Typ.{Typ, typ, Form, array, class, closure, tx_ex}
+use Rattle.cpp_layout.specs.cpp_types.Class.{Class, Member, completion_of, held_form}
+use Rattle.cpp_layout.specs.cpp_types.Order.{each_passes}
+use Rattle.cpp_layout.specs.cpp_types.Conversion.{is_object_form, bases}
+use Rattle.cpp_layout.specs.cpp_types.Equal.{kind_eq, typ_eq}
 use Rattle.cpp_layout.specs.Layout.{extent_of, next_multiple, has_class_pointer}
 use Rattle.cpp_layout.specs.Measured.{member_offset}
 use Rattle.cpp_tree.specs.declared.kinds.TKind.{TKind}

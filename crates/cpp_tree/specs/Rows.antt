@@ -6,13 +6,13 @@ use Rattle.tx_ints.specs.declared.kinds.IntKind.TheVariants.{Int, Long, ULong}
 use Rattle.tx_ints.specs.declared.kinds.BinOp.{BinOp}
 use Rattle.tx_ints.specs.declared.kinds.BinOp.TheVariants.{Add, Lt, Gt, Le, Ge, Eq, Ne}
 use Rattle.tx_ints.specs.Integers.{is_shift}
-use Rattle.cpp_types.specs.Typ.{Typ, typ, Form, void, int, ptr, ref, func, Signature, signature, Typs, none, more}
-use Rattle.cpp_types.specs.Class.{Class, Function}
-use Rattle.cpp_types.specs.Conversion.{is_lvalue}
-use Rattle.cpp_types.specs.Trivial.{takes_itself}
-use Rattle.cpp_types.specs.Equal.{name_eq, flag_eq, kind_eq, typ_eq, form_eq}
-use Rattle.cpp_types.specs.declared.ranks.Cat.{Cat}
-use Rattle.cpp_types.specs.declared.ranks.Cat.TheVariants.{Lvalue, Prvalue}
+use Rattle.cpp_layout.specs.cpp_types.Typ.{Typ, typ, Form, void, int, ptr, ref, func, Signature, signature, Typs, none, more}
+use Rattle.cpp_layout.specs.cpp_types.Class.{Class, Function}
+use Rattle.cpp_layout.specs.cpp_types.Conversion.{is_lvalue}
+use Rattle.cpp_layout.specs.cpp_types.Trivial.{takes_itself}
+use Rattle.cpp_layout.specs.cpp_types.Equal.{name_eq, flag_eq, kind_eq, typ_eq, form_eq}
+use Rattle.cpp_layout.specs.cpp_types.declared.ranks.Cat.{Cat}
+use Rattle.cpp_layout.specs.cpp_types.declared.ranks.Cat.TheVariants.{Lvalue, Prvalue}
 use Rattle.cpp_tree.specs.declared.kinds.Builtin.{Builtin}
 use Rattle.cpp_tree.specs.declared.kinds.Builtin.TheVariants.{PutChar, GetChar, Spawn, Join, Abort}
 use Rattle.cpp_tree.specs.declared.kinds.TKind.{TKind}

@@ -1,9 +1,9 @@
 -- Typed trees.
 use Rattle.std.specs.Prelude.{ℕ, false}
-use Rattle.cpp_types.specs.Typ.{Typ, typ, void}
-use Rattle.cpp_types.specs.declared.classes.At.{At}
-use Rattle.cpp_types.specs.declared.ranks.Cat.{Cat}
-use Rattle.cpp_types.specs.declared.ranks.Cat.TheVariants.{Prvalue}
+use Rattle.cpp_layout.specs.cpp_types.Typ.{Typ, typ, void}
+use Rattle.cpp_layout.specs.cpp_types.declared.classes.At.{At}
+use Rattle.cpp_layout.specs.cpp_types.declared.ranks.Cat.{Cat}
+use Rattle.cpp_layout.specs.cpp_types.declared.ranks.Cat.TheVariants.{Prvalue}
 use Rattle.cpp_tree.specs.declared.kinds.TKind.{TKind}
 use Rattle.cpp_tree.specs.declared.kinds.TKind.TheVariants.{Literal}
 

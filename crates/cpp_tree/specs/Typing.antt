@@ -4,15 +4,15 @@ use Rattle.tx_ints.specs.declared.kinds.IntKind.{IntKind}
 use Rattle.tx_ints.specs.declared.kinds.IntKind.TheVariants.{Bool as BoolKind, Int, ULong}
 use Rattle.tx_ints.specs.Integers.{promote_of}
 use Rattle.tx_ints.specs.Words.{word_of, value_of_word}
-use Rattle.cpp_types.specs.Typ.{Typ, typ, Form, void, int, enum, null, ptr, ref, array, class, closure, tx_ex}
-use Rattle.cpp_types.specs.Equal.{kind_eq, typ_eq, form_eq}
-use Rattle.cpp_types.specs.Conversion.{is_object_form, is_lvalue}
-use Rattle.cpp_types.specs.declared.ranks.Cat.{Cat}
-use Rattle.cpp_types.specs.declared.ranks.Cat.TheVariants.{Lvalue, Prvalue}
+use Rattle.cpp_layout.specs.cpp_types.Typ.{Typ, typ, Form, void, int, enum, null, ptr, ref, array, class, closure, tx_ex}
+use Rattle.cpp_layout.specs.cpp_types.Equal.{kind_eq, typ_eq, form_eq}
+use Rattle.cpp_layout.specs.cpp_types.Conversion.{is_object_form, is_lvalue}
+use Rattle.cpp_layout.specs.cpp_types.declared.ranks.Cat.{Cat}
+use Rattle.cpp_layout.specs.cpp_types.declared.ranks.Cat.TheVariants.{Lvalue, Prvalue}
 use Rattle.cpp_tree.specs.declared.kinds.TKind.{TKind}
 use Rattle.cpp_tree.specs.declared.kinds.TKind.TheVariants.{Materialize, Conditional, Comma, FullExpression, Call, VirtualCall, PointerCall, Throw, Rethrow}
 use Rattle.cpp_tree.specs.declared.arena.TNode.{TNode}
-use Rattle.cpp_types.specs.Typ.{typ_of}
+use Rattle.cpp_layout.specs.cpp_types.Typ.{typ_of}
 use Rattle.cpp_tree.specs.Trees.{Tree, node}
 
 -- a node without its place and its kids

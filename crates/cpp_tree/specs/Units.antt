@@ -1,8 +1,8 @@
 -- What a program shows: its functions with their bodies as trees, its globals, its classes and their slots.
 use Rattle.std.specs.Prelude.{ℕ, Bool, List, map, Option, option_map}
-use Rattle.cpp_types.specs.Typ.{Typ, typ_of, Signature, signature_of}
-use Rattle.cpp_types.specs.Class.{Class, classes_of, Function, function_of}
-use Rattle.cpp_types.specs.declared.classes.At.{At}
+use Rattle.cpp_layout.specs.cpp_types.Typ.{Typ, typ_of, Signature, signature_of}
+use Rattle.cpp_layout.specs.cpp_types.Class.{Class, classes_of, Function, function_of}
+use Rattle.cpp_layout.specs.cpp_types.declared.classes.At.{At}
 use Rattle.cpp_tree.specs.declared.program.Linkage.{Linkage}
 use Rattle.cpp_tree.specs.declared.program.FuncKind.{FuncKind}
 use Rattle.cpp_tree.specs.declared.program.TParam.{TParam}

@@ -1,12 +1,12 @@
 -- Well-formed programs.
 use Rattle.std.specs.Prelude.{◌≡◌, ℕ, suc, ◌+◌, ◌<◌, ◌≤◌, ◌==◌, nat_lt, nat_le, nat_eq, Bool, true, false, not, ◌&&◌, ◌||◌, List, [], ◌∷◌, ◌++◌, map, length, slice_get, drop, count_by, Option, Some, None, is_some, unwrap_or, cond}
 use Rattle.std.specs.List.{list_all}
-use Rattle.cpp_types.specs.Typ.{Typ, typ, Form, void, int, ptr, ref, array, class, closure, tx_ex}
-use Rattle.cpp_types.specs.Class.{Class, InOrder, classes_of}
-use Rattle.cpp_types.specs.Equal.{flag_eq, typ_eq}
+use Rattle.cpp_layout.specs.cpp_types.Typ.{Typ, typ, Form, void, int, ptr, ref, array, class, closure, tx_ex}
+use Rattle.cpp_layout.specs.cpp_types.Class.{Class, InOrder, classes_of}
+use Rattle.cpp_layout.specs.cpp_types.Equal.{flag_eq, typ_eq}
 use Rattle.tx_ints.specs.declared.kinds.IntKind.{IntKind}
 use Rattle.tx_ints.specs.declared.kinds.IntKind.TheVariants.{ULong}
-use Rattle.cpp_types.specs.declared.ranks.Cat.{Cat}
+use Rattle.cpp_layout.specs.cpp_types.declared.ranks.Cat.{Cat}
 use Rattle.cpp_tree.specs.declared.kinds.TKind.{TKind}
 use Rattle.cpp_tree.specs.declared.kinds.TKind.TheVariants.{Literal, Local, Conditional, Materialize, FullExpression, Store, Pieces, Piece, Elements, Block, Init, Defer, Loop, Switch, Break, Continue, Return, Handler}
 use Rattle.cpp_tree.specs.declared.arena.TNode.{TNode}

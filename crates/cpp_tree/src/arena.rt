@@ -1,12 +1,12 @@
 // Typed nodes in a list.
 
 ghost use Rattle.std.specs.Prelude.{◌≡◌, ◌++◌, ◌∷◌, [], IfOk, OnOk, OnErr};
-ghost use Rattle.cpp_types.specs.Typ.{typ_of};
+ghost use Rattle.cpp_layout.specs.cpp_types.Typ.{typ_of};
 ghost use Rattle.cpp_tree.specs.Trees.{node, none, one, two};
 ghost use Rattle.cpp_tree.specs.Arena.{trees_of, tree_of, tree_at, Adds};
 
 use crate::kinds::TKind;
-use cpp_types::{At, Cat, Ty};
+use cpp_layout::below::{At, Cat, Ty};
 use std::alloc::{AllocError, Global};
 
 /// The place of a typed node in a list of nodes.

@@ -3,7 +3,7 @@
 ghost use Rattle.std.specs.Prelude.{◌≡◌, ◌∷◌, [], Some, None, true, false};
 ghost use Rattle.tx_ints.specs.declared.kinds.IntKind.TheVariants.{Bool as BoolKind, Int, Long, ULong};
 ghost use Rattle.tx_ints.specs.declared.kinds.BinOp.TheVariants.{Add};
-ghost use Rattle.cpp_types.specs.Typ.{int, array};
+ghost use Rattle.cpp_layout.specs.cpp_types.Typ.{int, array};
 ghost use Rattle.cpp_tree.specs.declared.kinds.TKind.TheVariants.{Literal, Local, Global, Load, Binary, Conditional, Comma, Assign, FullExpression, Call, Store, CopyScalar, Elements, Block, Init, Defer, Case, Default, Break, Continue, Return, Try, Handler, Destroy};
 ghost use Rattle.cpp_tree.specs.Notation.{plain, effect, prvalue, lvalue};
 ghost use Rattle.cpp_tree.specs.Examples.{item_fits, body, int_type, d, number, place, read, returned, block, build, destroy, constant, call_of_k, variable, w, stored, temporary, member, argument, loop, switch, thrown, field, when, virtual_call, thrown_object, lambda_variable, destroy_at, item_of_k_fits, no_result};

@@ -1,6 +1,6 @@
 // Why units have no typed program, and why a part of one is unsafe.
 
-use cpp_types::At;
+use cpp_layout::below::At;
 use std::alloc::AllocError;
 use thiserror::Error;
 

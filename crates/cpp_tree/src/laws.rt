@@ -1,7 +1,7 @@
 //! What lists of nodes show, and how they grow: facts for whoever makes a typed tree or reads one. A function here
 //! does nothing: its clauses are the laws.
 ghost use Rattle.std.specs.Prelude.{◌≡◌, ◌<◌, ◌≤◌, ◌+◌, ◌++◌, ◌∷◌, [], List, ℕ, Some, length, slice_get, take, true};
-ghost use Rattle.cpp_types.specs.Typ.{typ_of};
+ghost use Rattle.cpp_layout.specs.cpp_types.Typ.{typ_of};
 ghost use Rattle.cpp_tree.specs.declared.arena.TNode.{TNode};
 ghost use Rattle.cpp_tree.specs.declared.arena.TNodeId.{TNodeId};
 ghost use Rattle.cpp_tree.specs.Trees.{Tree, Trees, node};

@@ -8,6 +8,7 @@
 #![tactic(auto)]
 
 pub mod arena;
+pub mod below;
 pub mod examples;
 pub mod faults;
 pub mod kinds;

@@ -3,7 +3,7 @@
 ghost use Rattle.std.specs.Prelude.{◌≡◌, ◌<◌, length, Some, slice_get};
 
 use crate::arena::{TNode, TNodeId};
-use cpp_types::{At, ClassRec, FnTy, FuncRec, Ty};
+use cpp_layout::below::{At, ClassRec, FnTy, FuncRec, Ty};
 
 /// How the declarations of a name in several units are joined (C++14 3.5, 7.1.2).
 #[derive(Clone, Copy, Debug, PartialEq, Eq)]

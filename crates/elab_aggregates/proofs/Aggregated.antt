@@ -2,25 +2,25 @@
 use Rattle.std.proofs.Common.{◌≡◌, ◌≢◌, ◌<◌, ◌≤◌, ℕ, zero, suc, ◌+◌, ◌*◌, Ok, Err, Result, IfOk, Option, Some, None, refl, List, [], ◌∷◌, ◌++◌, length, drop, map, get_or, ap, sym, ◌∙◌, subst, is_some, if◌then◌else◌, Vec, Global, append_assoc, append-nil, add-one}
 use Rattle.std.proofs.lemmas.List.{drop-map}
 use Rattle.std.specs.declared.alloc.AllocError.{AllocError}
-use Rattle.cpp_types.specs.declared.types.Ty.{Ty}
-use Rattle.cpp_types.specs.declared.classes.MemberRec.{MemberRec}
-use Rattle.cpp_types.specs.Typ.{Typ, typ_of, array}
-use Rattle.cpp_types.specs.Class.{Member, member_of}
-use Rattle.cpp_types.specs.declared.classes.At.{At}
-use Rattle.cpp_tree.specs.declared.faults.ElabFault.{ElabFault}
-use Rattle.cpp_tree.specs.declared.arena.TNodeId.{TNodeId}
-use Rattle.cpp_tree.specs.Notation.{plain}
-use Rattle.cpp_tree.specs.Trees.{Tree, node}
-use Rattle.cpp_tree.specs.Arena.{tree_at, Adds}
-use Rattle.cpp_tree.specs.Typing.{qualified}
-use Rattle.elab_ctx.specs.Ctx.{Ctx, Work, Default, with_item}
-use Rattle.elab_ctx.specs.Steps.{and_then, Made, MadeAll}
-use Rattle.elab_ctx.specs.Says.{Faults, Puts, MadeAt, Makes, MakesAll, AllMade, place_in}
-use Rattle.elab_ctx.proofs.Looks.{at_grown}
-use Rattle.elab_rules.specs.Objects.{size_of}
-use Rattle.elab_rules.specs.Names.{offset_at, is_const_typ, is_volatile_object}
-use Rattle.elab_rules.specs.Braces.{ThisAt, this_of, relocated, as_part, default_at, default_whole, default_made, default_member, piece, tree_place, rest_members, rest_piece, with_piece}
-use Rattle.elab_init.proofs.Listing.{drop_step, drop_past}
+use Rattle.elab_make.specs.cpp_types.declared.types.Ty.{Ty}
+use Rattle.elab_make.specs.cpp_types.declared.classes.MemberRec.{MemberRec}
+use Rattle.elab_make.specs.cpp_types.Typ.{Typ, typ_of, array}
+use Rattle.elab_make.specs.cpp_types.Class.{Member, member_of}
+use Rattle.elab_make.specs.cpp_types.declared.classes.At.{At}
+use Rattle.elab_make.specs.cpp_tree.declared.faults.ElabFault.{ElabFault}
+use Rattle.elab_make.specs.cpp_tree.declared.arena.TNodeId.{TNodeId}
+use Rattle.elab_make.specs.cpp_tree.Notation.{plain}
+use Rattle.elab_make.specs.cpp_tree.Trees.{Tree, node}
+use Rattle.elab_make.specs.cpp_tree.Arena.{tree_at, Adds}
+use Rattle.elab_make.specs.cpp_tree.Typing.{qualified}
+use Rattle.elab_make.specs.elab_ctx.Ctx.{Ctx, Work, Default, with_item}
+use Rattle.elab_make.specs.elab_ctx.Steps.{and_then, Made, MadeAll}
+use Rattle.elab_make.specs.elab_ctx.Says.{Faults, Puts, MadeAt, Makes, MakesAll, AllMade, place_in}
+use Rattle.elab_make.proofs.elab_ctx.Looks.{at_grown}
+use Rattle.elab_make.specs.elab_rules.Objects.{size_of}
+use Rattle.elab_make.specs.elab_rules.Names.{offset_at, is_const_typ, is_volatile_object}
+use Rattle.elab_make.specs.elab_rules.Braces.{ThisAt, this_of, relocated, as_part, default_at, default_whole, default_made, default_member, piece, tree_place, rest_members, rest_piece, with_piece}
+use Rattle.elab_make.proofs.elab_init.Listing.{drop_step, drop_past}
 use Rattle.elab_aggregates.specs.MemberPieces.{with_items, default_piece, member_piece, piece_from_nothing}
 use Rattle.elab_aggregates.proofs.Making.{Making, then_rest, making_step, making_fails, making_done}
 

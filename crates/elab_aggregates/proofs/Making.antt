@@ -1,16 +1,16 @@
 -- Lists of trees with which something is made, in several steps.
 use Rattle.std.proofs.Common.{◌≡◌, true, List, [], ◌∷◌, ◌++◌, length, Ok, Err, Result, refl, sym, ◌∙◌, ap}
-use Rattle.cpp_tree.specs.declared.faults.ElabFault.{ElabFault}
-use Rattle.cpp_tree.specs.declared.arena.TNodeId.{TNodeId}
-use Rattle.cpp_tree.specs.Trees.{Tree, Trees, none, more, one}
-use Rattle.cpp_tree.specs.Arena.{tree_at, trees_at, Grows}
-use Rattle.elab_ctx.specs.Ctx.{Work}
-use Rattle.elab_ctx.specs.Steps.{and_then, Made, MadeAll}
-use Rattle.elab_ctx.specs.Says.{Faults, MadeAt, AllMade, are_within}
-use Rattle.elab_ctx.proofs.Looks.{grows_refl, grows_trans}
-use Rattle.elab_ctx.proofs.Making.{faults_in, faults_same}
-use Rattle.elab_rules.specs.Objects.{followed_by}
-use Rattle.elab_init.proofs.Listing.{followed_none, followed_twice, trees_append, trees_grown, all_within_grown, within_both, within_one}
+use Rattle.elab_make.specs.cpp_tree.declared.faults.ElabFault.{ElabFault}
+use Rattle.elab_make.specs.cpp_tree.declared.arena.TNodeId.{TNodeId}
+use Rattle.elab_make.specs.cpp_tree.Trees.{Tree, Trees, none, more, one}
+use Rattle.elab_make.specs.cpp_tree.Arena.{tree_at, trees_at, Grows}
+use Rattle.elab_make.specs.elab_ctx.Ctx.{Work}
+use Rattle.elab_make.specs.elab_ctx.Steps.{and_then, Made, MadeAll}
+use Rattle.elab_make.specs.elab_ctx.Says.{Faults, MadeAt, AllMade, are_within}
+use Rattle.elab_make.proofs.elab_ctx.Looks.{grows_refl, grows_trans}
+use Rattle.elab_make.proofs.elab_ctx.Making.{faults_in, faults_same}
+use Rattle.elab_make.specs.elab_rules.Objects.{followed_by}
+use Rattle.elab_make.proofs.elab_init.Listing.{followed_none, followed_twice, trees_append, trees_grown, all_within_grown, within_both, within_one}
 
 -- behind trees that stand there
 abbrev behind : Trees → MadeAll → MadeAll

@@ -1,10 +1,10 @@
 -- Functions of which none passes a test.
 use Rattle.std.proofs.Common.{◌≡◌, ◌∙◌, ℕ, suc, ◌+◌, ◌<◌, ◌≤◌, Bool, true, false, List, ◌∷◌, length, drop, get_or, map, refl, sym, ap, add-one}
-use Rattle.elab_ctx.specs.Ctx.{Func, func_of}
-use Rattle.elab_ctx.specs.declared.env.FuncDecl.{FuncDecl}
-use Rattle.elab_rules.specs.Initialising.{places_from}
-use Rattle.elab_rules.specs.Braces.{is_empty}
-use Rattle.elab_init.proofs.Listing.{drop_step, drop_past}
+use Rattle.elab_make.specs.elab_ctx.Ctx.{Func, func_of}
+use Rattle.elab_make.specs.elab_ctx.declared.env.FuncDecl.{FuncDecl}
+use Rattle.elab_make.specs.elab_rules.Initialising.{places_from}
+use Rattle.elab_make.specs.elab_rules.Braces.{is_empty}
+use Rattle.elab_make.proofs.elab_init.Listing.{drop_step, drop_past}
 
 first_passes : (test : Func → Bool) (i : ℕ) (f : Func) (fs : List Func) → test f ≡ true → is_empty (places_from test i (f ∷ fs)) ≡ false
 first_passes test i f fs t = rw t refl

@@ -3,21 +3,21 @@ use Rattle.std.proofs.Common.{◌≡◌, ◌≢◌, ◌<◌, ◌≤◌, ℕ, zer
 use Rattle.std.proofs.lemmas.Bool.{ltb-true, and_parts}
 use Rattle.std.proofs.Math.Dec.{eqb-suc-zero}
 use Rattle.std.specs.declared.alloc.AllocError.{AllocError}
-use Rattle.cpp_types.specs.Typ.{Typ}
-use Rattle.cpp_types.specs.declared.classes.At.{At}
-use Rattle.cpp_types.specs.declared.ranks.Cat.{Cat}
-use Rattle.cpp_types.specs.declared.ranks.Cat.TheVariants.{Prvalue, Lvalue}
-use Rattle.cpp_tree.specs.declared.kinds.TKind.{TKind}
-use Rattle.cpp_tree.specs.declared.kinds.TKind.TheVariants.{Local, Load, Materialize, FullExpression}
-use Rattle.cpp_tree.specs.declared.arena.TNodeId.{TNodeId}
-use Rattle.cpp_tree.specs.Trees.{Tree, node, Trees, none, more, kind_of, typ_in, cat_of, kids_of}
-use Rattle.cpp_tree.specs.Arena.{tree_at, trees_at, are_below, Grows, Adds}
-use Rattle.elab_ctx.specs.Says.{place_in, are_within, AddsAll}
-use Rattle.elab_ctx.proofs.Looks.{at_grown, within_grown}
-use Rattle.elab_ctx.proofs.Making.{last_adds}
-use Rattle.elab_rules.specs.Values.{only_tree}
-use Rattle.elab_rules.specs.Braces.{ThisAt, this_of, relocated, all_relocated, as_part}
-use Rattle.elab_init.proofs.Listing.{Adding, adding_one, adding_done, drop_step, drop_past}
+use Rattle.elab_make.specs.cpp_types.Typ.{Typ}
+use Rattle.elab_make.specs.cpp_types.declared.classes.At.{At}
+use Rattle.elab_make.specs.cpp_types.declared.ranks.Cat.{Cat}
+use Rattle.elab_make.specs.cpp_types.declared.ranks.Cat.TheVariants.{Prvalue, Lvalue}
+use Rattle.elab_make.specs.cpp_tree.declared.kinds.TKind.{TKind}
+use Rattle.elab_make.specs.cpp_tree.declared.kinds.TKind.TheVariants.{Local, Load, Materialize, FullExpression}
+use Rattle.elab_make.specs.cpp_tree.declared.arena.TNodeId.{TNodeId}
+use Rattle.elab_make.specs.cpp_tree.Trees.{Tree, node, Trees, none, more, kind_of, typ_in, cat_of, kids_of}
+use Rattle.elab_make.specs.cpp_tree.Arena.{tree_at, trees_at, are_below, Grows, Adds}
+use Rattle.elab_make.specs.elab_ctx.Says.{place_in, are_within, AddsAll}
+use Rattle.elab_make.proofs.elab_ctx.Looks.{at_grown, within_grown}
+use Rattle.elab_make.proofs.elab_ctx.Making.{last_adds}
+use Rattle.elab_make.specs.elab_rules.Values.{only_tree}
+use Rattle.elab_make.specs.elab_rules.Braces.{ThisAt, this_of, relocated, all_relocated, as_part}
+use Rattle.elab_make.proofs.elab_init.Listing.{Adding, adding_one, adding_done, drop_step, drop_past}
 use Rattle.elab_aggregates.specs.declared.relocating.Pointed.{Pointed}
 use Rattle.elab_aggregates.specs.declared.relocating.Pointed.TheVariants.{Object, Place}
 use Rattle.elab_aggregates.specs.Relocated.{is_only_first_item, reads_this, moved_kind, this_at, IsThere}

@@ -1,24 +1,24 @@
 -- The parts of an array that a string initialises.
 use Rattle.std.proofs.Common.{◌≡◌, ◌≢◌, ℕ, zero, suc, ◌+◌, ◌-◌, ◌<◌, ◌≤◌, List, [], ◌∷◌, ◌++◌, length, drop, get_or, Result, Ok, Err, IfOk, Vec, Global, refl, ap, sym, ◌∙◌, subst, add-one}
 use Rattle.std.specs.declared.alloc.AllocError.{AllocError}
-use Rattle.cpp_types.specs.Typ.{Typ, typ, array}
-use Rattle.cpp_types.specs.declared.classes.At.{At}
-use Rattle.cpp_types.specs.declared.ranks.Cat.TheVariants.{Prvalue}
-use Rattle.cpp_tree.specs.declared.kinds.TKind.TheVariants.{Literal, Piece, Pieces}
-use Rattle.cpp_tree.specs.declared.faults.ElabFault.{ElabFault}
-use Rattle.cpp_tree.specs.declared.arena.TNodeId.{TNodeId}
-use Rattle.cpp_tree.specs.Notation.{plain}
-use Rattle.cpp_tree.specs.Trees.{Tree, node, Trees, none, more, one}
-use Rattle.cpp_tree.specs.Arena.{trees_at, Adds}
-use Rattle.cpp_tree.specs.Typing.{form_in, unqualified, kind_in}
-use Rattle.elab_ctx.specs.Ctx.{Ctx}
-use Rattle.elab_ctx.specs.Says.{AddsAll, Gives}
-use Rattle.elab_rules.specs.Objects.{followed_by, zeros}
-use Rattle.elab_rules.specs.Values.{stored}
-use Rattle.elab_rules.specs.Braces.{followed, byte_word, byte_pieces, zero_rest, string_object}
-use Rattle.elab_ctx.proofs.Making.{last_adds, gives_same}
+use Rattle.elab_make.specs.cpp_types.Typ.{Typ, typ, array}
+use Rattle.elab_make.specs.cpp_types.declared.classes.At.{At}
+use Rattle.elab_make.specs.cpp_types.declared.ranks.Cat.TheVariants.{Prvalue}
+use Rattle.elab_make.specs.cpp_tree.declared.kinds.TKind.TheVariants.{Literal, Piece, Pieces}
+use Rattle.elab_make.specs.cpp_tree.declared.faults.ElabFault.{ElabFault}
+use Rattle.elab_make.specs.cpp_tree.declared.arena.TNodeId.{TNodeId}
+use Rattle.elab_make.specs.cpp_tree.Notation.{plain}
+use Rattle.elab_make.specs.cpp_tree.Trees.{Tree, node, Trees, none, more, one}
+use Rattle.elab_make.specs.cpp_tree.Arena.{trees_at, Adds}
+use Rattle.elab_make.specs.cpp_tree.Typing.{form_in, unqualified, kind_in}
+use Rattle.elab_make.specs.elab_ctx.Ctx.{Ctx}
+use Rattle.elab_make.specs.elab_ctx.Says.{AddsAll, Gives}
+use Rattle.elab_make.specs.elab_rules.Objects.{followed_by, zeros}
+use Rattle.elab_make.specs.elab_rules.Values.{stored}
+use Rattle.elab_make.specs.elab_rules.Braces.{followed, byte_word, byte_pieces, zero_rest, string_object}
+use Rattle.elab_make.proofs.elab_ctx.Making.{last_adds, gives_same}
 use Rattle.elab_aggregates.specs.StringForms.{string_in}
-use Rattle.elab_init.proofs.Listing.{Adding, adding_one, adding_done, adds_one, adds_more, drop_step, drop_past}
+use Rattle.elab_make.proofs.elab_init.Listing.{Adding, adding_one, adding_done, adds_one, adds_more, drop_step, drop_past}
 
 followed_is : (ts us : Trees) → followed ts us ≡ followed_by ts us
 followed_is none us = refl

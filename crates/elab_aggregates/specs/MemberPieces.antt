@@ -1,16 +1,16 @@
 -- Parts of objects for which no item is written, with their destructions.
 use Rattle.std.specs.Prelude.{ℕ, List, ◌++◌, map, is_some, Result, Ok, if◌then◌else◌}
-use Rattle.cpp_types.specs.declared.types.Ty.{Ty}
-use Rattle.cpp_types.specs.Typ.{Typ, typ_of}
-use Rattle.cpp_types.specs.declared.classes.At.{At}
-use Rattle.cpp_tree.specs.declared.faults.ElabFault.{ElabFault}
-use Rattle.cpp_tree.specs.Trees.{Tree, one}
-use Rattle.cpp_tree.specs.Typing.{qualified}
-use Rattle.elab_ctx.specs.Ctx.{Ctx, Work}
-use Rattle.elab_ctx.specs.Steps.{and_then, Made, MadeAll}
-use Rattle.elab_rules.specs.Initialising.{from_nothing}
-use Rattle.elab_rules.specs.Names.{offset_at, is_const_typ, is_volatile_object}
-use Rattle.elab_rules.specs.Braces.{this_of, default_at, default_member, piece, tree_place}
+use Rattle.elab_make.specs.cpp_types.declared.types.Ty.{Ty}
+use Rattle.elab_make.specs.cpp_types.Typ.{Typ, typ_of}
+use Rattle.elab_make.specs.cpp_types.declared.classes.At.{At}
+use Rattle.elab_make.specs.cpp_tree.declared.faults.ElabFault.{ElabFault}
+use Rattle.elab_make.specs.cpp_tree.Trees.{Tree, one}
+use Rattle.elab_make.specs.cpp_tree.Typing.{qualified}
+use Rattle.elab_make.specs.elab_ctx.Ctx.{Ctx, Work}
+use Rattle.elab_make.specs.elab_ctx.Steps.{and_then, Made, MadeAll}
+use Rattle.elab_make.specs.elab_rules.Initialising.{from_nothing}
+use Rattle.elab_make.specs.elab_rules.Names.{offset_at, is_const_typ, is_volatile_object}
+use Rattle.elab_make.specs.elab_rules.Braces.{this_of, default_at, default_member, piece, tree_place}
 
 -- more items of the frame
 abbrev pub with_items : Work → List Ty → Work

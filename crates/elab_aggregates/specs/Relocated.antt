@@ -1,14 +1,14 @@
 -- A tree of a default member initialiser by its kind, its category and its kids.
 use Rattle.std.specs.Prelude.{◌<◌, ◌==◌, ◌&&◌, ℕ, Bool, false, not, List}
-use Rattle.cpp_types.specs.Typ.{Typ}
-use Rattle.cpp_types.specs.declared.ranks.Cat.{Cat}
-use Rattle.cpp_types.specs.declared.ranks.Cat.TheVariants.{Prvalue}
-use Rattle.cpp_tree.specs.declared.kinds.TKind.{TKind}
-use Rattle.cpp_tree.specs.declared.kinds.TKind.TheVariants.{Local, Load, Materialize}
-use Rattle.cpp_tree.specs.Trees.{Tree, Trees, none, more, kind_of}
-use Rattle.cpp_tree.specs.Arena.{tree_at}
-use Rattle.elab_rules.specs.Names.{this_pointer}
-use Rattle.elab_rules.specs.Braces.{ThisAt, this_of, moved_place}
+use Rattle.elab_make.specs.cpp_types.Typ.{Typ}
+use Rattle.elab_make.specs.cpp_types.declared.ranks.Cat.{Cat}
+use Rattle.elab_make.specs.cpp_types.declared.ranks.Cat.TheVariants.{Prvalue}
+use Rattle.elab_make.specs.cpp_tree.declared.kinds.TKind.{TKind}
+use Rattle.elab_make.specs.cpp_tree.declared.kinds.TKind.TheVariants.{Local, Load, Materialize}
+use Rattle.elab_make.specs.cpp_tree.Trees.{Tree, Trees, none, more, kind_of}
+use Rattle.elab_make.specs.cpp_tree.Arena.{tree_at}
+use Rattle.elab_make.specs.elab_rules.Names.{this_pointer}
+use Rattle.elab_make.specs.elab_rules.Braces.{ThisAt, this_of, moved_place}
 use Rattle.elab_aggregates.specs.declared.relocating.Pointed.{Pointed}
 use Rattle.elab_aggregates.specs.declared.relocating.Pointed.TheVariants.{Object, Place}
 

@@ -1,21 +1,21 @@
 // Aggregates and their parts (C++14 8.5.1).
 
 ghost use Rattle.std.specs.Prelude.{◌≡◌, ◌*◌, MatchOption, None, Some, IfOk, map, option_map, slice_get};
-ghost use Rattle.cpp_types.specs.Typ.{typ_of};
-ghost use Rattle.cpp_types.specs.Class.{classes_of, member_of};
-ghost use Rattle.cpp_tree.specs.Typing.{form_in, qualified};
-ghost use Rattle.elab_ctx.specs.Ctx.{ctx_of, func_of};
-ghost use Rattle.elab_ctx.specs.Says.{Tells};
-ghost use Rattle.elab_rules.specs.Objects.{size_of as size_by};
-ghost use Rattle.elab_rules.specs.Initialising.{makes as makes_of, places_from};
-ghost use Rattle.elab_rules.specs.Names.{offset_at as offset_by, members_in};
-ghost use Rattle.elab_rules.specs.Braces.{is_virtual_member as is_virtual_member_of, is_written_constructor as is_written_constructor_of, is_empty, has_no_base as has_no_base_of, is_aggregate_class as is_aggregate_class_of, part_in as part_in_of, braceable as braceable_of};
-ghost use Rattle.elab_init.specs.Parts.{part_of};
+ghost use Rattle.elab_make.specs.cpp_types.Typ.{typ_of};
+ghost use Rattle.elab_make.specs.cpp_types.Class.{classes_of, member_of};
+ghost use Rattle.elab_make.specs.cpp_tree.Typing.{form_in, qualified};
+ghost use Rattle.elab_make.specs.elab_ctx.Ctx.{ctx_of, func_of};
+ghost use Rattle.elab_make.specs.elab_ctx.Says.{Tells};
+ghost use Rattle.elab_make.specs.elab_rules.Objects.{size_of as size_by};
+ghost use Rattle.elab_make.specs.elab_rules.Initialising.{makes as makes_of, places_from};
+ghost use Rattle.elab_make.specs.elab_rules.Names.{offset_at as offset_by, members_in};
+ghost use Rattle.elab_make.specs.elab_rules.Braces.{is_virtual_member as is_virtual_member_of, is_written_constructor as is_written_constructor_of, is_empty, has_no_base as has_no_base_of, is_aggregate_class as is_aggregate_class_of, part_in as part_in_of, braceable as braceable_of};
+ghost use Rattle.elab_make.specs.elab_init.Parts.{part_of};
 
-use cpp_tree::{ElabFault, FuncKind, IllRule};
-use cpp_types::{At, MemberRec, Shape, Ty};
-use elab_ctx::{Env, FuncDecl, class_at, completion, size_of};
-use elab_init::{ObjectPart, ill, qualified_type, same_number};
+use elab_make::below::{
+    At, ElabFault, Env, FuncDecl, FuncKind, IllRule, MemberRec, ObjectPart, Shape, Ty, class_at,
+    completion, elab_init_ill as ill, qualified_type, same_number, size_of,
+};
 use elab_names::offset_at;
 use std::alloc::{AllocError, Global};
 

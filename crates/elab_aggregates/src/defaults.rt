@@ -1,18 +1,16 @@
 // Default member initialisers in place (C++14 8.5.1 p7, 9.2).
 
 ghost use Rattle.std.specs.Prelude.{◌≡◌, ◌<◌, ◌==◌, ◌&&◌, IfOk, OnOk, MatchOption, None, Some, length};
-ghost use Rattle.cpp_types.specs.Typ.{typ_of};
-ghost use Rattle.cpp_tree.specs.Arena.{trees_of, tree_at, Adds};
-ghost use Rattle.elab_ctx.specs.Ctx.{ctx_of, work_of, default_of};
-ghost use Rattle.elab_ctx.specs.Says.{Puts};
-ghost use Rattle.elab_rules.specs.Braces.{relocated as relocated_of, default_at as default_at_of, default_whole as default_whole_of, default_made as default_made_of};
+ghost use Rattle.elab_make.specs.cpp_types.Typ.{typ_of};
+ghost use Rattle.elab_make.specs.cpp_tree.Arena.{trees_of, tree_at, Adds};
+ghost use Rattle.elab_make.specs.elab_ctx.Ctx.{ctx_of, work_of, default_of};
+ghost use Rattle.elab_make.specs.elab_ctx.Says.{Puts};
+ghost use Rattle.elab_make.specs.elab_rules.Braces.{relocated as relocated_of, default_at as default_at_of, default_whole as default_whole_of, default_made as default_made_of};
 ghost use Rattle.elab_aggregates.specs.MemberPieces.{with_items};
 ghost use Rattle.elab_aggregates.specs.Relocated.{this_at, IsThere};
 
 use crate::relocating::{Pointed, as_part, relocated};
-use cpp_tree::{TNode, TNodeId};
-use cpp_types::{Ty, copy};
-use elab_ctx::{DefaultInit, Env, Work, add_item};
+use elab_make::below::{DefaultInit, Env, TNode, TNodeId, Ty, Work, add_item, copy};
 use std::alloc::{AllocError, Global};
 
 // Whether an initialiser is that of a member.

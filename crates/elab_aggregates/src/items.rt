@@ -1,22 +1,22 @@
 // Items in braces that are expressions (C++14 8.5.1 p12, 8.5.4 p7).
 
 ghost use Rattle.std.specs.Prelude.{◌≡◌, ◌<◌, length};
-ghost use Rattle.cpp_types.specs.Typ.{typ_of};
-ghost use Rattle.cpp_tree.specs.Arena.{trees_of};
-ghost use Rattle.cpp_tree.specs.Typing.{form_in};
-ghost use Rattle.elab_ctx.specs.Ctx.{ctx_of, work_of};
-ghost use Rattle.elab_ctx.specs.Operands.{operand_in};
-ghost use Rattle.elab_ctx.specs.Steps.{and_then};
-ghost use Rattle.elab_ctx.specs.Says.{Makes};
-ghost use Rattle.elab_rules.specs.Initialising.{scalar_from as scalar_from_of};
-ghost use Rattle.elab_rules.specs.Braces.{not_narrowed, is_object_of as is_object_of_of, item_in as item_in_of};
+ghost use Rattle.elab_make.specs.cpp_types.Typ.{typ_of};
+ghost use Rattle.elab_make.specs.cpp_tree.Arena.{trees_of};
+ghost use Rattle.elab_make.specs.cpp_tree.Typing.{form_in};
+ghost use Rattle.elab_make.specs.elab_ctx.Ctx.{ctx_of, work_of};
+ghost use Rattle.elab_make.specs.elab_ctx.Operands.{operand_in};
+ghost use Rattle.elab_make.specs.elab_ctx.Steps.{and_then};
+ghost use Rattle.elab_make.specs.elab_ctx.Says.{Makes};
+ghost use Rattle.elab_make.specs.elab_rules.Initialising.{scalar_from as scalar_from_of};
+ghost use Rattle.elab_make.specs.elab_rules.Braces.{not_narrowed, is_object_of as is_object_of_of, item_in as item_in_of};
 
 use crate::aggregates::is_aggregate_class;
 use crate::narrowing::is_not_narrowed;
-use cpp_tree::{ElabFault, IllRule, TNode, TNodeId};
-use cpp_types::{Shape, Ty};
-use elab_ctx::{Env, Operand, Work, node_at};
-use elab_init::{class_number, ill, is_same_or_base};
+use elab_make::below::{
+    ElabFault, Env, IllRule, Operand, Shape, TNode, TNodeId, Ty, Work, class_number,
+    elab_init_ill as ill, is_same_or_base, node_at,
+};
 use elab_make::{class_from, scalar_from};
 use std::alloc::Global;
 

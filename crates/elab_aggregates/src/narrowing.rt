@@ -1,21 +1,20 @@
 // Narrowing in braces (C++14 8.5.4 p7).
 
 ghost use Rattle.std.specs.Prelude.{◌≡◌, ◌<◌, IfOk, OnOk, length};
-ghost use Rattle.cpp_types.specs.Typ.{typ_of};
-ghost use Rattle.cpp_tree.specs.Arena.{trees_of, Grows};
-ghost use Rattle.cpp_tree.specs.Typing.{form_in};
-ghost use Rattle.elab_ctx.specs.Ctx.{work_of};
-ghost use Rattle.elab_ctx.specs.Operands.{operand_in};
-ghost use Rattle.tx_ints.specs.Integers.{represents as represents_of};
-ghost use Rattle.elab_rules.specs.Operators.{arithmetic as arithmetic_of};
-ghost use Rattle.elab_rules.specs.Braces.{fits as fits_of, keeps_values as keeps_values_of, is_not_narrowed as is_not_narrowed_of};
+ghost use Rattle.elab_make.specs.cpp_types.Typ.{typ_of};
+ghost use Rattle.elab_make.specs.cpp_tree.Arena.{trees_of, Grows};
+ghost use Rattle.elab_make.specs.cpp_tree.Typing.{form_in};
+ghost use Rattle.elab_make.specs.elab_ctx.Ctx.{work_of};
+ghost use Rattle.elab_make.specs.elab_ctx.Operands.{operand_in};
+ghost use Rattle.elab_make.specs.tx_ints.Integers.{represents as represents_of};
+ghost use Rattle.elab_make.specs.elab_rules.Operators.{arithmetic as arithmetic_of};
+ghost use Rattle.elab_make.specs.elab_rules.Braces.{fits as fits_of, keeps_values as keeps_values_of, is_not_narrowed as is_not_narrowed_of};
 
-use cpp_types::{Shape, Ty};
 use elab_consts::constant;
-use elab_conv::valued;
-use elab_ctx::{Operand, Work, node_at};
+use elab_make::below::{
+    IntKind, Operand, Shape, Ty, Work, convert, node_at, value_of_word, valued,
+};
 use std::alloc::{AllocError, Global};
-use tx_ints::{IntKind, convert, value_of_word};
 
 // Whether a constant of a kind is the same number in another.
 fn fits(from: IntKind, to: IntKind, word: Option<u64>) -> bool

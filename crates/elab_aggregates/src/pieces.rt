@@ -1,16 +1,13 @@
 // Parts of objects, with their destructions.
 
 ghost use Rattle.std.specs.Prelude.{◌<◌, IfOk, length};
-ghost use Rattle.cpp_types.specs.Typ.{typ_of};
-ghost use Rattle.cpp_tree.specs.Trees.{node};
-ghost use Rattle.cpp_tree.specs.Arena.{trees_of, tree_at, trees_at, Adds};
-ghost use Rattle.elab_ctx.specs.Ctx.{ctx_of};
-ghost use Rattle.elab_rules.specs.Braces.{piece as piece_of};
+ghost use Rattle.elab_make.specs.cpp_types.Typ.{typ_of};
+ghost use Rattle.elab_make.specs.cpp_tree.Trees.{node};
+ghost use Rattle.elab_make.specs.cpp_tree.Arena.{trees_of, tree_at, trees_at, Adds};
+ghost use Rattle.elab_make.specs.elab_ctx.Ctx.{ctx_of};
+ghost use Rattle.elab_make.specs.elab_rules.Braces.{piece as piece_of};
 
-use cpp_tree::{TKind, TNode, TNodeId, add_node};
-use cpp_types::{At, Cat, Ty, copy};
-use elab_ctx::Env;
-use elab_init::object_kids;
+use elab_make::below::{At, Cat, Env, TKind, TNode, TNodeId, Ty, add_node, copy, object_kids};
 use elab_make::destroys;
 use std::alloc::{AllocError, Global};
 

@@ -1,19 +1,17 @@
 // Trees of default member initialisers in another frame (C++14 9.2, 12.6.2).
 
 ghost use Rattle.std.specs.Prelude.{◌≡◌, ◌<◌, IfOk, length, true};
-ghost use Rattle.cpp_types.specs.Typ.{typ_of};
-ghost use Rattle.cpp_tree.specs.Trees.{node, kids_of};
-ghost use Rattle.cpp_tree.specs.Arena.{trees_of, tree_at, trees_at, are_below, Adds};
-ghost use Rattle.elab_ctx.specs.Says.{AddsAll, are_within};
-ghost use Rattle.elab_rules.specs.Values.{only_tree};
-ghost use Rattle.elab_rules.specs.Braces.{this_of, moved_place as moved_place_of, relocated as relocated_of, all_relocated as all_relocated_of, as_part as as_part_of};
+ghost use Rattle.elab_make.specs.cpp_types.Typ.{typ_of};
+ghost use Rattle.elab_make.specs.cpp_tree.Trees.{node, kids_of};
+ghost use Rattle.elab_make.specs.cpp_tree.Arena.{trees_of, tree_at, trees_at, are_below, Adds};
+ghost use Rattle.elab_make.specs.elab_ctx.Says.{AddsAll, are_within};
+ghost use Rattle.elab_make.specs.elab_rules.Values.{only_tree};
+ghost use Rattle.elab_make.specs.elab_rules.Braces.{this_of, moved_place as moved_place_of, relocated as relocated_of, all_relocated as all_relocated_of, as_part as as_part_of};
 ghost use Rattle.elab_aggregates.specs.Relocated.{is_first_item, is_only_first_item, reads_this as reads_this_of, moved_kind as moved_kind_of, this_at, IsThere};
 
-use cpp_tree::{TKind, TNode, TNodeId, add_node};
-use cpp_types::{At, Cat, Ty, copy};
-use elab_conv::types::pointer_to;
-use elab_ctx::{This, kids_at, node_at};
-use elab_init::keep;
+use elab_make::below::{
+    At, Cat, TKind, TNode, TNodeId, This, Ty, add_node, copy, keep, kids_at, node_at, pointer_to,
+};
 use elab_names::parts::retyped;
 use elab_names::variables::this_pointer;
 use std::alloc::{AllocError, Global};

@@ -1,16 +1,16 @@
 // The parts of an object behind the last item of its braces (C++14 8.5.1 p7).
 
 ghost use Rattle.std.specs.Prelude.{◌≡◌, ◌<◌, ◌*◌, ◌-◌, IfOk, length, drop, map, is_some, slice_get, if◌then◌else◌};
-ghost use Rattle.cpp_types.specs.Typ.{typ_of, array};
-ghost use Rattle.cpp_types.specs.Class.{classes_of, member_of};
-ghost use Rattle.cpp_tree.specs.Arena.{trees_of, tree_at, Adds};
-ghost use Rattle.cpp_tree.specs.Notation.{plain};
-ghost use Rattle.cpp_tree.specs.Typing.{form_in};
-ghost use Rattle.elab_ctx.specs.Ctx.{ctx_of, work_of};
-ghost use Rattle.elab_ctx.specs.Says.{Makes, MakesAll};
-ghost use Rattle.elab_rules.specs.Objects.{size_of as size_by};
-ghost use Rattle.elab_rules.specs.Names.{offset_at as offset_by, members_in};
-ghost use Rattle.elab_rules.specs.Braces.{this_of, default_at as default_at_of, default_member as default_member_of, piece as piece_of, tree_place, rest_piece as rest_piece_of, rest_members as rest_members_of, rest_in as rest_in_of};
+ghost use Rattle.elab_make.specs.cpp_types.Typ.{typ_of, array};
+ghost use Rattle.elab_make.specs.cpp_types.Class.{classes_of, member_of};
+ghost use Rattle.elab_make.specs.cpp_tree.Arena.{trees_of, tree_at, Adds};
+ghost use Rattle.elab_make.specs.cpp_tree.Notation.{plain};
+ghost use Rattle.elab_make.specs.cpp_tree.Typing.{form_in};
+ghost use Rattle.elab_make.specs.elab_ctx.Ctx.{ctx_of, work_of};
+ghost use Rattle.elab_make.specs.elab_ctx.Says.{Makes, MakesAll};
+ghost use Rattle.elab_make.specs.elab_rules.Objects.{size_of as size_by};
+ghost use Rattle.elab_make.specs.elab_rules.Names.{offset_at as offset_by, members_in};
+ghost use Rattle.elab_make.specs.elab_rules.Braces.{this_of, default_at as default_at_of, default_member as default_member_of, piece as piece_of, tree_place, rest_piece as rest_piece_of, rest_members as rest_members_of, rest_in as rest_in_of};
 ghost use Rattle.elab_aggregates.specs.MemberPieces.{default_piece as default_piece_of, member_piece as member_piece_of, piece_from_nothing as piece_from_nothing_of};
 
 use crate::aggregates::offset_of;
@@ -18,10 +18,10 @@ use crate::defaults::{default_at, default_made};
 use crate::pieces::piece;
 use crate::relocating::Pointed;
 use crate::strings::array_type;
-use cpp_tree::{ElabFault, TNode, TNodeId};
-use cpp_types::{At, MemberRec, Shape, Ty};
-use elab_ctx::{Env, Work, node_at, size_of};
-use elab_init::{keep, qualified_type};
+use elab_make::below::{
+    At, ElabFault, Env, MemberRec, Shape, TNode, TNodeId, Ty, Work, keep, node_at, qualified_type,
+    size_of,
+};
 use elab_make::{from_nothing, one_of};
 use elab_names::members::members_at;
 use elab_names::offset_at;

@@ -1,34 +1,31 @@
 // Strings that initialise arrays of characters (C++14 8.5.2).
 
 ghost use Rattle.std.specs.Prelude.{◌≡◌, ◌<◌, ◌-◌, IfOk, length};
-ghost use Rattle.cpp_types.specs.Typ.{typ_of, int, array};
-ghost use Rattle.cpp_types.specs.Class.{classes_of};
-ghost use Rattle.cpp_tree.specs.Trees.{node, one, none};
-ghost use Rattle.cpp_tree.specs.Arena.{trees_of, Adds};
-ghost use Rattle.cpp_tree.specs.Notation.{plain};
-ghost use Rattle.cpp_tree.specs.Typing.{form_in, unqualified, kind_in};
-ghost use Rattle.elab_ctx.specs.Ctx.{ctx_of};
-ghost use Rattle.elab_ctx.specs.Says.{AddsAll, Gives};
-ghost use Rattle.elab_rules.specs.Values.{stored as stored_of};
-ghost use Rattle.elab_rules.specs.Objects.{zeros as zeros_of};
-ghost use Rattle.elab_rules.specs.Braces.{is_char as is_char_of, is_char_array as is_char_array_of, string_token as string_token_of, byte_word as byte_word_of, byte_pieces as byte_pieces_of, zero_rest as zero_rest_of, string_object as string_object_of, followed};
+ghost use Rattle.elab_make.specs.cpp_types.Typ.{typ_of, int, array};
+ghost use Rattle.elab_make.specs.cpp_types.Class.{classes_of};
+ghost use Rattle.elab_make.specs.cpp_tree.Trees.{node, one, none};
+ghost use Rattle.elab_make.specs.cpp_tree.Arena.{trees_of, Adds};
+ghost use Rattle.elab_make.specs.cpp_tree.Notation.{plain};
+ghost use Rattle.elab_make.specs.cpp_tree.Typing.{form_in, unqualified, kind_in};
+ghost use Rattle.elab_make.specs.elab_ctx.Ctx.{ctx_of};
+ghost use Rattle.elab_make.specs.elab_ctx.Says.{AddsAll, Gives};
+ghost use Rattle.elab_make.specs.elab_rules.Values.{stored as stored_of};
+ghost use Rattle.elab_make.specs.elab_rules.Objects.{zeros as zeros_of};
+ghost use Rattle.elab_make.specs.elab_rules.Braces.{is_char as is_char_of, is_char_array as is_char_array_of, string_token as string_token_of, byte_word as byte_word_of, byte_pieces as byte_pieces_of, zero_rest as zero_rest_of, string_object as string_object_of, followed};
 ghost use Rattle.elab_types.specs.Syntax.{syntax_of, tree_at};
 ghost use Rattle.elab_aggregates.specs.StringForms.{string_in as string_in_of};
 
 use crate::pieces::pieces_made;
-use cpp_ast::{NodeId, NodeKind, Nodes};
-use cpp_tree::{ElabFault, IllRule, TKind, TNode, TNodeId, add_leaf, add_unary};
-use cpp_types::{At, Cat, Shape, Ty, copy};
 use elab_consts::word_in;
-use elab_conv::stored;
-use elab_conv::types::{kind_of, unqualified_type};
-use elab_ctx::Env;
-use elab_init::{ill, keep, keep_all, zeros};
+use elab_make::below::{
+    At, Cat, ElabFault, Env, IllRule, IntKind, NodeId, NodeKind, Nodes, Shape, TKind, TNode,
+    TNodeId, Ty, add_leaf, add_unary, copy, elab_init_ill as ill, keep, keep_all, kind_of, stored,
+    unqualified_type, zeros,
+};
 use elab_make::one_of;
 use elab_types::kids::{Kids, kids_of};
 use elab_types::syntax::node_at;
 use std::alloc::{AllocError, Global};
-use tx_ints::IntKind;
 
 // Whether a type is one of characters.
 fn is_char(ty: &Ty) -> bool

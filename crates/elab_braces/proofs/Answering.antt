@@ -1,25 +1,25 @@
 -- What is made of operands that were made before it.
 use Rattle.std.proofs.Common.{◌≡◌, ◌≢◌, List, [], ◌∷◌, length, Result, Ok, Err, refl, ap, sym, ◌∙◌, subst}
-use Rattle.cpp_lex.specs.Tokens.{Lexeme}
-use Rattle.cpp_ast.specs.declared.kinds.NodeKind.{NodeKind}
-use Rattle.cpp_ast.specs.declared.arena.At.{At as SyntaxAt}
-use Rattle.cpp_ast.specs.Trees as syntax
-use Rattle.cpp_types.specs.Typ.{Typ, typ, ref}
-use Rattle.cpp_types.specs.declared.classes.At.{At}
-use Rattle.cpp_tree.specs.declared.faults.ElabFault.{ElabFault}
-use Rattle.cpp_tree.specs.declared.arena.TNodeId.{TNodeId}
-use Rattle.cpp_tree.specs.Trees.{Tree}
-use Rattle.elab_ctx.specs.Ctx.{Ctx, Work, Closure}
-use Rattle.elab_ctx.specs.Steps.{and_then, Made, Typed, TypedAll}
-use Rattle.elab_ctx.specs.Operands.{operand_in, operands_in}
-use Rattle.elab_ctx.specs.declared.operand.Operand.{Operand as OperandRec}
-use Rattle.elab_ctx.specs.Says.{Faults, Makes}
-use Rattle.elab_ctx.proofs.Looks.{grows_trans}
-use Rattle.elab_ctx.proofs.Making.{faults_in, faults_same}
-use Rattle.elab_rules.specs.Expressions.{expression_with, expression_of, operands_with, chosen_operand}
-use Rattle.elab_rules.specs.Initialising.{from_values}
-use Rattle.elab_rules.specs.Statements.{directly_initialised}
-use Rattle.elab_rows.specs.Typed.{TypedAt, AllTyped}
+use Rattle.elab_expr.specs.cpp_lex.Tokens.{Lexeme}
+use Rattle.elab_expr.specs.cpp_ast.declared.kinds.NodeKind.{NodeKind}
+use Rattle.elab_expr.specs.cpp_ast.declared.arena.At.{At as SyntaxAt}
+use Rattle.elab_expr.specs.cpp_ast.Trees as syntax
+use Rattle.elab_expr.specs.cpp_types.Typ.{Typ, typ, ref}
+use Rattle.elab_expr.specs.cpp_types.declared.classes.At.{At}
+use Rattle.elab_expr.specs.cpp_tree.declared.faults.ElabFault.{ElabFault}
+use Rattle.elab_expr.specs.cpp_tree.declared.arena.TNodeId.{TNodeId}
+use Rattle.elab_expr.specs.cpp_tree.Trees.{Tree}
+use Rattle.elab_expr.specs.elab_ctx.Ctx.{Ctx, Work, Closure}
+use Rattle.elab_expr.specs.elab_ctx.Steps.{and_then, Made, Typed, TypedAll}
+use Rattle.elab_expr.specs.elab_ctx.Operands.{operand_in, operands_in}
+use Rattle.elab_expr.specs.elab_ctx.declared.operand.Operand.{Operand as OperandRec}
+use Rattle.elab_expr.specs.elab_ctx.Says.{Faults, Makes}
+use Rattle.elab_expr.proofs.elab_ctx.Looks.{grows_trans}
+use Rattle.elab_expr.proofs.elab_ctx.Making.{faults_in, faults_same}
+use Rattle.elab_expr.specs.elab_rules.Expressions.{expression_with, expression_of, operands_with, chosen_operand}
+use Rattle.elab_expr.specs.elab_rules.Initialising.{from_values}
+use Rattle.elab_expr.specs.elab_rules.Statements.{directly_initialised}
+use Rattle.elab_expr.specs.elab_rows.Typed.{TypedAt, AllTyped}
 use Rattle.elab_braces.specs.Forms.{by_values_in}
 
 value_makes : (old mid new : List Tree) (w v : Work) (o : OperandRec) (r : Result TNodeId ElabFault) (x : Result Typed ElabFault) (f : Typed → Result Made ElabFault) → TypedAt old mid w o x → Makes mid new v r (f (record { operand = operand_in mid o; work = w })) → Makes old new v r (and_then x f)

@@ -1,23 +1,23 @@
 -- Initialisers as they are written: what a global is initialised by, and bounds.
 use Rattle.std.proofs.Common.{◌≡◌, ◌≢◌, ◌<◌, ℕ, zero, suc, Bool, true, false, Option, Some, None, List, [], ◌∷◌, length, Result, IfOk, refl, sym, ap, ◌∙◌, subst, arith}
 use Rattle.std.specs.declared.alloc.AllocError.{AllocError}
-use Rattle.cpp_lex.specs.Tokens.{Lexeme}
-use Rattle.cpp_ast.specs.declared.kinds.NodeKind.TheVariants as k
-use Rattle.cpp_ast.specs.Trees as syntax
-use Rattle.cpp_ast.specs.declared.arena.NodeId.{NodeId}
-use Rattle.cpp_types.specs.declared.types.Ty.{Ty}
-use Rattle.cpp_types.specs.Typ.{Typ, typ, array, typ_of}
-use Rattle.cpp_types.specs.declared.classes.At.{At}
-use Rattle.cpp_tree.specs.declared.faults.ElabFault.{ElabFault}
-use Rattle.cpp_tree.specs.declared.arena.TNodeId.{TNodeId}
-use Rattle.cpp_tree.specs.Trees.{Tree}
-use Rattle.cpp_tree.specs.Typing.{form_in}
-use Rattle.elab_ctx.specs.Ctx.{Ctx, Work}
-use Rattle.elab_ctx.specs.Says.{Makes}
-use Rattle.elab_rules.specs.Braces.{is_char_array, string_token}
-use Rattle.elab_rules.specs.Statements.{State, bound_by_initialiser, closed_bound, count}
-use Rattle.elab_rules.specs.Globals.{global_object, global_from, from_expression}
-use Rattle.elab_types.specs.Syntax.{trees_at}
+use Rattle.elab_expr.specs.cpp_lex.Tokens.{Lexeme}
+use Rattle.elab_expr.specs.cpp_ast.declared.kinds.NodeKind.TheVariants as k
+use Rattle.elab_expr.specs.cpp_ast.Trees as syntax
+use Rattle.elab_expr.specs.cpp_ast.declared.arena.NodeId.{NodeId}
+use Rattle.elab_expr.specs.cpp_types.declared.types.Ty.{Ty}
+use Rattle.elab_expr.specs.cpp_types.Typ.{Typ, typ, array, typ_of}
+use Rattle.elab_expr.specs.cpp_types.declared.classes.At.{At}
+use Rattle.elab_expr.specs.cpp_tree.declared.faults.ElabFault.{ElabFault}
+use Rattle.elab_expr.specs.cpp_tree.declared.arena.TNodeId.{TNodeId}
+use Rattle.elab_expr.specs.cpp_tree.Trees.{Tree}
+use Rattle.elab_expr.specs.cpp_tree.Typing.{form_in}
+use Rattle.elab_expr.specs.elab_ctx.Ctx.{Ctx, Work}
+use Rattle.elab_expr.specs.elab_ctx.Says.{Makes}
+use Rattle.elab_expr.specs.elab_rules.Braces.{is_char_array, string_token}
+use Rattle.elab_expr.specs.elab_rules.Statements.{State, bound_by_initialiser, closed_bound, count}
+use Rattle.elab_expr.specs.elab_rules.Globals.{global_object, global_from, from_expression}
+use Rattle.elab_expr.specs.elab_types.Syntax.{trees_at}
 use Rattle.elab_braces.specs.declared.forms.Written.{Written}
 use Rattle.elab_braces.specs.declared.forms.Written.TheVariants as w
 use Rattle.elab_braces.specs.Forms.{Form, form_of, by_expression, by_form, object_by, bound_by_form, IsLower}

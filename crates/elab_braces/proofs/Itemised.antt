@@ -1,33 +1,33 @@
 -- Items in braces, one behind the other.
 use Rattle.std.proofs.Common.{◌≡◌, ◌≢◌, ◌<◌, ◌≤◌, ℕ, suc, ◌+◌, Ok, Err, Result, Option, Some, None, option_map, List, ◌∷◌, [], ◌++◌, length, drop, get_or, refl, ap, sym, ◌∙◌, subst, add-one}
-use Rattle.cpp_types.specs.Typ.{Typ}
-use Rattle.cpp_types.specs.declared.classes.At.{At}
-use Rattle.cpp_lex.specs.Tokens.{Lexeme}
-use Rattle.cpp_ast.specs.declared.arena.NodeId.{NodeId}
-use Rattle.cpp_ast.specs.declared.arena.At.{At as SyntaxAt}
-use Rattle.cpp_ast.specs.declared.kinds.NodeKind.{NodeKind}
-use Rattle.cpp_ast.specs.declared.kinds.NodeKind.TheVariants as k
-use Rattle.cpp_ast.specs.Trees as syntax
-use Rattle.cpp_tree.specs.declared.faults.ElabFault.{ElabFault}
-use Rattle.cpp_tree.specs.declared.faults.ElabFault.TheVariants.{Ill}
-use Rattle.cpp_tree.specs.declared.faults.IllRule.TheVariants.{BadInit}
-use Rattle.cpp_tree.specs.declared.arena.TNodeId.{TNodeId}
-use Rattle.cpp_tree.specs.Trees.{Tree}
-use Rattle.cpp_tree.specs.Arena.{tree_at, Adds}
-use Rattle.cpp_tree.specs.Typing.{form_in}
-use Rattle.elab_ctx.specs.Ctx.{Ctx, Work}
-use Rattle.elab_ctx.specs.Steps.{and_then, expect, at_of, Made, MadeAll}
-use Rattle.elab_ctx.specs.Says.{Faults, MadeAt, Makes, AllMade, place_in}
-use Rattle.elab_ctx.proofs.Looks.{at_grown, grows_trans}
-use Rattle.elab_ctx.proofs.Making.{faults_in, faults_same}
-use Rattle.elab_rules.specs.Objects.{Part}
-use Rattle.elab_rules.specs.Values.{part_at}
-use Rattle.elab_rules.specs.Expressions.{expression_of, chosen_operand}
-use Rattle.elab_rules.specs.Braces.{item_of, items_of, piece, part_in, tree_place, with_piece, syntax_place, rest_in, item_expression, string_token}
-use Rattle.elab_init.specs.Parts.{part_of}
-use Rattle.elab_init.specs.declared.parts.ObjectPart.{ObjectPart}
-use Rattle.elab_init.proofs.Listing.{drop_step, drop_past}
-use Rattle.elab_types.specs.Syntax as nodes
+use Rattle.elab_expr.specs.cpp_types.Typ.{Typ}
+use Rattle.elab_expr.specs.cpp_types.declared.classes.At.{At}
+use Rattle.elab_expr.specs.cpp_lex.Tokens.{Lexeme}
+use Rattle.elab_expr.specs.cpp_ast.declared.arena.NodeId.{NodeId}
+use Rattle.elab_expr.specs.cpp_ast.declared.arena.At.{At as SyntaxAt}
+use Rattle.elab_expr.specs.cpp_ast.declared.kinds.NodeKind.{NodeKind}
+use Rattle.elab_expr.specs.cpp_ast.declared.kinds.NodeKind.TheVariants as k
+use Rattle.elab_expr.specs.cpp_ast.Trees as syntax
+use Rattle.elab_expr.specs.cpp_tree.declared.faults.ElabFault.{ElabFault}
+use Rattle.elab_expr.specs.cpp_tree.declared.faults.ElabFault.TheVariants.{Ill}
+use Rattle.elab_expr.specs.cpp_tree.declared.faults.IllRule.TheVariants.{BadInit}
+use Rattle.elab_expr.specs.cpp_tree.declared.arena.TNodeId.{TNodeId}
+use Rattle.elab_expr.specs.cpp_tree.Trees.{Tree}
+use Rattle.elab_expr.specs.cpp_tree.Arena.{tree_at, Adds}
+use Rattle.elab_expr.specs.cpp_tree.Typing.{form_in}
+use Rattle.elab_expr.specs.elab_ctx.Ctx.{Ctx, Work}
+use Rattle.elab_expr.specs.elab_ctx.Steps.{and_then, expect, at_of, Made, MadeAll}
+use Rattle.elab_expr.specs.elab_ctx.Says.{Faults, MadeAt, Makes, AllMade, place_in}
+use Rattle.elab_expr.proofs.elab_ctx.Looks.{at_grown, grows_trans}
+use Rattle.elab_expr.proofs.elab_ctx.Making.{faults_in, faults_same}
+use Rattle.elab_expr.specs.elab_rules.Objects.{Part}
+use Rattle.elab_expr.specs.elab_rules.Values.{part_at}
+use Rattle.elab_expr.specs.elab_rules.Expressions.{expression_of, chosen_operand}
+use Rattle.elab_expr.specs.elab_rules.Braces.{item_of, items_of, piece, part_in, tree_place, with_piece, syntax_place, rest_in, item_expression, string_token}
+use Rattle.elab_expr.specs.elab_init.Parts.{part_of}
+use Rattle.elab_expr.specs.elab_init.declared.parts.ObjectPart.{ObjectPart}
+use Rattle.elab_expr.proofs.elab_init.Listing.{drop_step, drop_past}
+use Rattle.elab_expr.specs.elab_types.Syntax as nodes
 use Rattle.elab_aggregates.proofs.Aggregated.{place_is}
 use Rattle.elab_aggregates.proofs.Making.{Making, then_rest, making_step, making_fails, making_last, making_last_fails}
 use Rattle.elab_braces.specs.ItemPieces.{item_piece, placed_item, braced}

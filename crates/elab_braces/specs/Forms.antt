@@ -1,21 +1,21 @@
 -- The initialiser of a declarator, as it is written.
 use Rattle.std.specs.Prelude.{◌<◌, ℕ, Bool, true, List, Option, Some, Result, Ok, Err}
-use Rattle.cpp_lex.specs.Tokens.{Lexeme}
-use Rattle.cpp_ast.specs.declared.kinds.NodeKind.TheVariants as k
-use Rattle.cpp_ast.specs.Trees as syntax
-use Rattle.cpp_types.specs.Typ.{Typ}
-use Rattle.cpp_types.specs.declared.classes.At.{At}
-use Rattle.cpp_tree.specs.declared.faults.ElabFault.{ElabFault}
-use Rattle.cpp_tree.specs.declared.faults.ElabFault.TheVariants.{Ill}
-use Rattle.cpp_tree.specs.declared.faults.IllRule.TheVariants.{OutOfProfile}
-use Rattle.cpp_tree.specs.Trees.{Tree}
-use Rattle.elab_ctx.specs.Ctx.{Ctx, Work}
-use Rattle.elab_ctx.specs.Steps.{and_then, Made, Typed, TypedAll, spelling}
-use Rattle.elab_rules.specs.Strings.{string_bytes}
-use Rattle.elab_rules.specs.Expressions.{expression_of, operands_of, chosen_operand}
-use Rattle.elab_rules.specs.Braces.{item_of, string_token, string_object, is_char_array, syntax_place}
-use Rattle.elab_rules.specs.Statements.{default_object, copy_initialised, directly_initialised, closed_bound, string_length, count}
-use Rattle.elab_types.specs.Syntax.{tree_at}
+use Rattle.elab_expr.specs.cpp_lex.Tokens.{Lexeme}
+use Rattle.elab_expr.specs.cpp_ast.declared.kinds.NodeKind.TheVariants as k
+use Rattle.elab_expr.specs.cpp_ast.Trees as syntax
+use Rattle.elab_expr.specs.cpp_types.Typ.{Typ}
+use Rattle.elab_expr.specs.cpp_types.declared.classes.At.{At}
+use Rattle.elab_expr.specs.cpp_tree.declared.faults.ElabFault.{ElabFault}
+use Rattle.elab_expr.specs.cpp_tree.declared.faults.ElabFault.TheVariants.{Ill}
+use Rattle.elab_expr.specs.cpp_tree.declared.faults.IllRule.TheVariants.{OutOfProfile}
+use Rattle.elab_expr.specs.cpp_tree.Trees.{Tree}
+use Rattle.elab_expr.specs.elab_ctx.Ctx.{Ctx, Work}
+use Rattle.elab_expr.specs.elab_ctx.Steps.{and_then, Made, Typed, TypedAll, spelling}
+use Rattle.elab_expr.specs.elab_rules.Strings.{string_bytes}
+use Rattle.elab_expr.specs.elab_rules.Expressions.{expression_of, operands_of, chosen_operand}
+use Rattle.elab_expr.specs.elab_rules.Braces.{item_of, string_token, string_object, is_char_array, syntax_place}
+use Rattle.elab_expr.specs.elab_rules.Statements.{default_object, copy_initialised, directly_initialised, closed_bound, string_length, count}
+use Rattle.elab_expr.specs.elab_types.Syntax.{tree_at}
 use Rattle.elab_braces.specs.declared.forms.Written.{Written}
 use Rattle.elab_braces.specs.declared.forms.Written.TheVariants as w
 

@@ -1,18 +1,18 @@
 -- Items in braces, as parts of the object with their destructions.
 use Rattle.std.specs.Prelude.{ℕ, List, Result, Ok}
-use Rattle.cpp_types.specs.Typ.{Typ}
-use Rattle.cpp_types.specs.declared.classes.At.{At}
-use Rattle.cpp_lex.specs.Tokens.{Lexeme}
-use Rattle.cpp_ast.specs.Trees as syntax
-use Rattle.cpp_tree.specs.declared.faults.ElabFault.{ElabFault}
-use Rattle.cpp_tree.specs.declared.faults.IllRule.TheVariants.{BadInit}
-use Rattle.cpp_tree.specs.Trees.{Tree}
-use Rattle.cpp_tree.specs.Typing.{form_in}
-use Rattle.elab_ctx.specs.Ctx.{Ctx, Work}
-use Rattle.elab_ctx.specs.Steps.{and_then, expect, Made, MadeAll}
-use Rattle.elab_rules.specs.Objects.{Part}
-use Rattle.elab_rules.specs.Values.{part_at}
-use Rattle.elab_rules.specs.Braces.{item_of, items_of, piece, part_in, tree_place, syntax_place, braceable, pieces_made}
+use Rattle.elab_expr.specs.cpp_types.Typ.{Typ}
+use Rattle.elab_expr.specs.cpp_types.declared.classes.At.{At}
+use Rattle.elab_expr.specs.cpp_lex.Tokens.{Lexeme}
+use Rattle.elab_expr.specs.cpp_ast.Trees as syntax
+use Rattle.elab_expr.specs.cpp_tree.declared.faults.ElabFault.{ElabFault}
+use Rattle.elab_expr.specs.cpp_tree.declared.faults.IllRule.TheVariants.{BadInit}
+use Rattle.elab_expr.specs.cpp_tree.Trees.{Tree}
+use Rattle.elab_expr.specs.cpp_tree.Typing.{form_in}
+use Rattle.elab_expr.specs.elab_ctx.Ctx.{Ctx, Work}
+use Rattle.elab_expr.specs.elab_ctx.Steps.{and_then, expect, Made, MadeAll}
+use Rattle.elab_expr.specs.elab_rules.Objects.{Part}
+use Rattle.elab_expr.specs.elab_rules.Values.{part_at}
+use Rattle.elab_expr.specs.elab_rules.Braces.{item_of, items_of, piece, part_in, tree_place, syntax_place, braceable, pieces_made}
 
 -- an item as a part
 abbrev pub placed_item : List Lexeme → Ctx → Work → Tree → At → Part → syntax.Tree → Result Made ElabFault

@@ -1,27 +1,24 @@
 // Items in braces, and braces in braces.
 
 ghost use Rattle.std.specs.Prelude.{◌≡◌, ◌<◌, length, true};
-ghost use Rattle.cpp_lex.specs.Tokens.{lexemes_of};
-ghost use Rattle.cpp_ast.specs.Orders.{are_below};
-ghost use Rattle.cpp_types.specs.Typ.{typ_of};
-ghost use Rattle.cpp_tree.specs.Arena.{trees_of, tree_at as tree_in};
-ghost use Rattle.elab_ctx.specs.Ctx.{ctx_of, work_of};
-ghost use Rattle.elab_ctx.specs.Says.{Makes, MakesAll};
-ghost use Rattle.elab_rules.specs.Braces.{item_of, items_of};
-ghost use Rattle.elab_init.specs.Parts.{part_of};
-ghost use Rattle.elab_types.specs.Syntax.{syntax_of, tree_at, trees_at};
+ghost use Rattle.elab_expr.specs.cpp_lex.Tokens.{lexemes_of};
+ghost use Rattle.elab_expr.specs.cpp_ast.Orders.{are_below};
+ghost use Rattle.elab_expr.specs.cpp_types.Typ.{typ_of};
+ghost use Rattle.elab_expr.specs.cpp_tree.Arena.{trees_of, tree_at as tree_in};
+ghost use Rattle.elab_expr.specs.elab_ctx.Ctx.{ctx_of, work_of};
+ghost use Rattle.elab_expr.specs.elab_ctx.Says.{Makes, MakesAll};
+ghost use Rattle.elab_expr.specs.elab_rules.Braces.{item_of, items_of};
+ghost use Rattle.elab_expr.specs.elab_init.Parts.{part_of};
+ghost use Rattle.elab_expr.specs.elab_types.Syntax.{syntax_of, tree_at, trees_at};
 ghost use Rattle.elab_braces.specs.ItemPieces.{placed_item as placed_item_of, item_piece as item_piece_of, braced as braced_of};
 
 use crate::expressions::plain_item;
-use cpp_ast::{NodeId, NodeKind, Nodes};
-use cpp_lex::Tokens;
-use cpp_tree::{ElabFault, IllRule, TNodeId};
-use cpp_types::{At, Ty, copy};
 use elab_aggregates::{braceable, part_in, piece, pieces_made, rest_in};
-use elab_ctx::{Env, Work, node_at as typed_node_at};
-use elab_init::{ObjectPart, ill, keep, keep_all};
-use elab_names::parts::part_at;
-use elab_types::syntax::{node_at, place};
+use elab_expr::below::{
+    At, ElabFault, Env, IllRule, NodeId, NodeKind, Nodes, ObjectPart, TNodeId, Tokens, Ty, Work,
+    copy, elab_init_ill as ill, elab_types_node_at as node_at, keep, keep_all,
+    node_at as typed_node_at, part_at, place,
+};
 use std::alloc::Global;
 
 /// What an item, in braces or not, makes of an object of a type, which stands where an expression says.

@@ -1,27 +1,24 @@
 // Items that are expressions or strings.
 
 ghost use Rattle.std.specs.Prelude.{◌<◌, length};
-ghost use Rattle.cpp_lex.specs.Tokens.{lexemes_of};
-ghost use Rattle.cpp_types.specs.Typ.{typ_of};
-ghost use Rattle.cpp_tree.specs.Arena.{trees_of};
-ghost use Rattle.cpp_tree.specs.Typing.{form_in};
-ghost use Rattle.elab_ctx.specs.Ctx.{ctx_of, work_of};
-ghost use Rattle.elab_ctx.specs.Steps.{and_then, Typed, spelling as spelling_of};
-ghost use Rattle.elab_ctx.specs.Says.{Gives, Makes};
-ghost use Rattle.elab_rules.specs.Strings.{string_bytes as string_bytes_of};
-ghost use Rattle.elab_rules.specs.Expressions.{expression_of, chosen_operand};
-ghost use Rattle.elab_rules.specs.Braces.{item_in as item_in_of, item_expression, string_token as string_token_of, string_object as string_object_of, syntax_place};
-ghost use Rattle.elab_types.specs.Syntax.{syntax_of, tree_at};
+ghost use Rattle.elab_expr.specs.cpp_lex.Tokens.{lexemes_of};
+ghost use Rattle.elab_expr.specs.cpp_types.Typ.{typ_of};
+ghost use Rattle.elab_expr.specs.cpp_tree.Arena.{trees_of};
+ghost use Rattle.elab_expr.specs.cpp_tree.Typing.{form_in};
+ghost use Rattle.elab_expr.specs.elab_ctx.Ctx.{ctx_of, work_of};
+ghost use Rattle.elab_expr.specs.elab_ctx.Steps.{and_then, Typed, spelling as spelling_of};
+ghost use Rattle.elab_expr.specs.elab_ctx.Says.{Gives, Makes};
+ghost use Rattle.elab_expr.specs.elab_rules.Strings.{string_bytes as string_bytes_of};
+ghost use Rattle.elab_expr.specs.elab_rules.Expressions.{expression_of, chosen_operand};
+ghost use Rattle.elab_expr.specs.elab_rules.Braces.{item_in as item_in_of, item_expression, string_token as string_token_of, string_object as string_object_of, syntax_place};
+ghost use Rattle.elab_expr.specs.elab_types.Syntax.{syntax_of, tree_at};
 
-use cpp_ast::{NodeId, Nodes};
-use cpp_lex::Tokens;
-use cpp_tree::{ElabFault, TNode, TNodeId};
-use cpp_types::{At, Ty};
 use elab_aggregates::{is_char_array, item_in, string_object, string_token};
-use elab_consts::string_bytes;
-use elab_ctx::{Env, Work};
+use elab_expr::below::{
+    At, ElabFault, Env, NodeId, Nodes, TNode, TNodeId, Tokens, Ty, Work,
+    elab_types_node_at as node_at, place, spelling, string_bytes,
+};
 use elab_expr::chosen_expression;
-use elab_types::syntax::{node_at, place, spelling};
 use std::alloc::Global;
 
 /// An array of characters by the string of a token.

@@ -1,21 +1,19 @@
 // The initialiser of a declarator, as it is written (C++14 8.5).
 
 ghost use Rattle.std.specs.Prelude.{◌≡◌, ◌<◌, ◌+◌, List, length, true, IfOk};
-ghost use Rattle.cpp_lex.specs.Tokens.{lexemes_of};
-ghost use Rattle.cpp_ast.specs.Orders.{are_below};
-ghost use Rattle.cpp_ast.specs.Trees.{Tree};
-ghost use Rattle.cpp_types.specs.Typ.{typ_of, typ, array};
-ghost use Rattle.elab_rules.specs.Statements.{count, closed_bound as closed_bound_of, string_length as string_length_of, bound_by_initialiser as bound_by_initialiser_of};
-ghost use Rattle.elab_types.specs.Syntax.{syntax_of, tree_at, trees_at};
+ghost use Rattle.elab_expr.specs.cpp_lex.Tokens.{lexemes_of};
+ghost use Rattle.elab_expr.specs.cpp_ast.Orders.{are_below};
+ghost use Rattle.elab_expr.specs.cpp_ast.Trees.{Tree};
+ghost use Rattle.elab_expr.specs.cpp_types.Typ.{typ_of, typ, array};
+ghost use Rattle.elab_expr.specs.elab_rules.Statements.{count, closed_bound as closed_bound_of, string_length as string_length_of, bound_by_initialiser as bound_by_initialiser_of};
+ghost use Rattle.elab_expr.specs.elab_types.Syntax.{syntax_of, tree_at, trees_at};
 ghost use Rattle.elab_braces.specs.Forms.{form_of, one_form, equal_form, equal_of, shown_in, IsLower, bound_by_form};
 
-use cpp_ast::{NodeId, NodeKind, Nodes};
-use cpp_lex::Tokens;
-use cpp_types::{Shape, Ty, copy};
 use elab_aggregates::string_token;
-use elab_consts::string_bytes;
-use elab_types::kids::{Kids, kids_of};
-use elab_types::syntax::{node_at, spelling};
+use elab_expr::below::{
+    Kids, NodeId, NodeKind, Nodes, Shape, Tokens, Ty, copy, elab_types_node_at as node_at, kids_of,
+    spelling, string_bytes,
+};
 use std::alloc::{AllocError, Global};
 
 /// What initialises an object, as it is written.

@@ -1,23 +1,21 @@
 // What declarations make of objects: nothing, `= e`, and values in parentheses (C++14 8.5).
 
 ghost use Rattle.std.specs.Prelude.{◌≡◌, ◌<◌, length, true, if◌then◌else◌, Ok};
-ghost use Rattle.cpp_types.specs.Typ.{typ_of};
-ghost use Rattle.cpp_tree.specs.Arena.{trees_of};
-ghost use Rattle.elab_ctx.specs.Ctx.{ctx_of, work_of, special_of};
-ghost use Rattle.elab_ctx.specs.Operands.{operand_in, operands_in, are_in};
-ghost use Rattle.elab_ctx.specs.Says.{Gives, Makes, Tells};
-ghost use Rattle.elab_rules.specs.Initialising.{class_number as class_number_of};
-ghost use Rattle.elab_rules.specs.Objects.{element_of};
-ghost use Rattle.elab_rules.specs.Statements.{is_const_element, has_written_default as has_written_default_of, const_initialised as const_initialised_of, default_object as default_object_of, is_direct as is_direct_of, is_lasting as is_lasting_of, bound_reference as bound_reference_of, copy_initialised as copy_initialised_of, directly_initialised as directly_initialised_of, is_own_value as is_own_value_of, values_place as values_place_of};
+ghost use Rattle.elab_expr.specs.cpp_types.Typ.{typ_of};
+ghost use Rattle.elab_expr.specs.cpp_tree.Arena.{trees_of};
+ghost use Rattle.elab_expr.specs.elab_ctx.Ctx.{ctx_of, work_of, special_of};
+ghost use Rattle.elab_expr.specs.elab_ctx.Operands.{operand_in, operands_in, are_in};
+ghost use Rattle.elab_expr.specs.elab_ctx.Says.{Gives, Makes, Tells};
+ghost use Rattle.elab_expr.specs.elab_rules.Initialising.{class_number as class_number_of};
+ghost use Rattle.elab_expr.specs.elab_rules.Objects.{element_of};
+ghost use Rattle.elab_expr.specs.elab_rules.Statements.{is_const_element, has_written_default as has_written_default_of, const_initialised as const_initialised_of, default_object as default_object_of, is_direct as is_direct_of, is_lasting as is_lasting_of, bound_reference as bound_reference_of, copy_initialised as copy_initialised_of, directly_initialised as directly_initialised_of, is_own_value as is_own_value_of, values_place as values_place_of};
 
-use cpp_tree::{ElabFault, IllRule, TNode, TNodeId};
-use cpp_types::{At, Binding, Conversion, Shape, Ty};
-use elab_ctx::{Env, Operand, Special, Work, function_at, node_at};
-use elab_init::{
-    class_number, conversion_of, element_type, ill, is_class_prvalue, is_prvalue_of_class,
-    traits_at,
+use elab_expr::below::{
+    At, Binding, Conversion, ElabFault, Env, IllRule, Operand, Shape, Special, TNode, TNodeId, Ty,
+    Work, class_from, class_number, conversion_of, elab_init_ill as ill, element_type,
+    from_nothing, from_values, function_at, is_class_prvalue, is_prvalue_of_class, node_at,
+    scalar_from, traits_at,
 };
-use elab_make::{class_from, from_nothing, from_values, scalar_from};
 use std::alloc::Global;
 
 // Whether a class has a default constructor that is written.

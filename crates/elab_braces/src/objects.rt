@@ -1,29 +1,26 @@
 // Objects by their initialisers, as they are written (C++14 8.5).
 
 ghost use Rattle.std.specs.Prelude.{◌≡◌, ◌<◌, length, true};
-ghost use Rattle.cpp_lex.specs.Tokens.{lexemes_of};
-ghost use Rattle.cpp_ast.specs.Orders.{are_below};
-ghost use Rattle.cpp_types.specs.Typ.{typ_of};
-ghost use Rattle.cpp_tree.specs.Arena.{trees_of, tree_at as tree_in};
-ghost use Rattle.elab_ctx.specs.Ctx.{ctx_of, work_of};
-ghost use Rattle.elab_ctx.specs.Says.{Makes};
-ghost use Rattle.elab_rules.specs.Braces.{is_char_array as is_char_array_of, string_token as string_token_of};
-ghost use Rattle.elab_types.specs.Syntax.{syntax_of, tree_at, trees_at};
+ghost use Rattle.elab_expr.specs.cpp_lex.Tokens.{lexemes_of};
+ghost use Rattle.elab_expr.specs.cpp_ast.Orders.{are_below};
+ghost use Rattle.elab_expr.specs.cpp_types.Typ.{typ_of};
+ghost use Rattle.elab_expr.specs.cpp_tree.Arena.{trees_of, tree_at as tree_in};
+ghost use Rattle.elab_expr.specs.elab_ctx.Ctx.{ctx_of, work_of};
+ghost use Rattle.elab_expr.specs.elab_ctx.Says.{Makes};
+ghost use Rattle.elab_expr.specs.elab_rules.Braces.{is_char_array as is_char_array_of, string_token as string_token_of};
+ghost use Rattle.elab_expr.specs.elab_types.Syntax.{syntax_of, tree_at, trees_at};
 ghost use Rattle.elab_braces.specs.Forms.{shown_in, IsLower, by_form, by_values_in, by_value as by_value_of, by_expression as by_expression_of, object_by as object_by_of};
 
 use crate::braces::item;
 use crate::expressions::string_initialiser;
 use crate::forms::{Written, read_initialiser};
 use crate::initialising::{copy_initialised, default_object, directly_initialised};
-use cpp_ast::{NodeId, Nodes};
-use cpp_lex::Tokens;
-use cpp_tree::{ElabFault, IllRule, TNodeId};
-use cpp_types::{At, Ty};
 use elab_aggregates::{is_char_array, string_token};
-use elab_ctx::{Env, Work};
+use elab_expr::below::{
+    At, ElabFault, Env, IllRule, NodeId, Nodes, TNodeId, Tokens, Ty, Work, elab_init_ill as ill,
+    elab_types_node_at as node_at, place,
+};
 use elab_expr::{chosen_expression, operands};
-use elab_init::ill;
-use elab_types::syntax::{node_at, place};
 use std::alloc::Global;
 
 // By values in parentheses.

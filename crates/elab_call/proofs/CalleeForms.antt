@@ -5,15 +5,15 @@ use Rattle.cpp_types.specs.Typ.{Typ, typ, void}
 use Rattle.cpp_types.specs.declared.classes.At.{At}
 use Rattle.cpp_types.specs.declared.ranks.Cat.{Cat}
 use Rattle.cpp_types.specs.declared.ranks.Cat.TheVariants.{Lvalue}
-use Rattle.cpp_tree.specs.declared.kinds.TKind.{TKind}
-use Rattle.cpp_tree.specs.declared.kinds.TKind.TheVariants.{Function, Default, Builtin}
-use Rattle.cpp_tree.specs.declared.arena.TNodeId.{TNodeId}
-use Rattle.cpp_tree.specs.Trees.{Tree, node, Trees, none, more, kind_of, typ_in, cat_of, kids_of}
-use Rattle.cpp_tree.specs.Arena.{trees_at}
-use Rattle.elab_ctx.specs.Ctx.{Ctx, Work}
-use Rattle.elab_ctx.specs.Says.{are_within}
-use Rattle.elab_ctx.specs.Steps.{Operand}
-use Rattle.elab_rules.specs.Calls.{call, call_form}
+use Rattle.elab_make.specs.cpp_tree.declared.kinds.TKind.{TKind}
+use Rattle.elab_make.specs.cpp_tree.declared.kinds.TKind.TheVariants.{Function, Default, Builtin}
+use Rattle.elab_make.specs.cpp_tree.declared.arena.TNodeId.{TNodeId}
+use Rattle.elab_make.specs.cpp_tree.Trees.{Tree, node, Trees, none, more, kind_of, typ_in, cat_of, kids_of}
+use Rattle.elab_make.specs.cpp_tree.Arena.{trees_at}
+use Rattle.elab_make.specs.elab_ctx.Ctx.{Ctx, Work}
+use Rattle.elab_make.specs.elab_ctx.Says.{are_within}
+use Rattle.elab_make.specs.elab_ctx.Steps.{Operand}
+use Rattle.elab_make.specs.elab_rules.Calls.{call, call_form}
 use Rattle.elab_names.specs.declared.resolving.Callee.{Callee}
 use Rattle.elab_names.specs.declared.resolving.Callee.TheVariants.{Functions, Get, Known, Value}
 use Rattle.elab_names.specs.Callees.{callee_in, callee_at}

@@ -2,15 +2,15 @@
 use Rattle.std.proofs.Common.{◌≡◌, ℕ, List, Option, Some, None, unwrap_or, slice_get, Result, Ok, false, refl, sym, ap, ◌∙◌}
 use Rattle.cpp_types.specs.Typ.{Form, closure, Signature}
 use Rattle.cpp_types.specs.declared.classes.At.{At}
-use Rattle.cpp_tree.specs.declared.faults.ElabFault.{ElabFault}
-use Rattle.cpp_tree.specs.declared.kinds.TKind.{TKind}
-use Rattle.cpp_tree.specs.Trees.{Tree, one, typ_in}
-use Rattle.cpp_tree.specs.Typing.{form_in}
-use Rattle.elab_ctx.specs.Ctx.{Ctx, Work, Func}
-use Rattle.elab_ctx.specs.Steps.{Operand, Made, and_then}
-use Rattle.elab_rules.specs.Values.{valued}
-use Rattle.elab_rules.specs.Initialising.{func_at, no_function, object_of}
-use Rattle.elab_rules.specs.Calls.{best_of, called, call_closure, call_value, call_pointer}
+use Rattle.elab_make.specs.cpp_tree.declared.faults.ElabFault.{ElabFault}
+use Rattle.elab_make.specs.cpp_tree.declared.kinds.TKind.{TKind}
+use Rattle.elab_make.specs.cpp_tree.Trees.{Tree, one, typ_in}
+use Rattle.elab_make.specs.cpp_tree.Typing.{form_in}
+use Rattle.elab_make.specs.elab_ctx.Ctx.{Ctx, Work, Func}
+use Rattle.elab_make.specs.elab_ctx.Steps.{Operand, Made, and_then}
+use Rattle.elab_make.specs.elab_rules.Values.{valued}
+use Rattle.elab_make.specs.elab_rules.Initialising.{func_at, no_function, object_of}
+use Rattle.elab_make.specs.elab_rules.Calls.{best_of, called, call_closure, call_value, call_pointer}
 use Rattle.elab_call.specs.Callees.{closure_class, closure_called}
 
 -- the function in a place is called with an object

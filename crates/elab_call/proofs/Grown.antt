@@ -1,11 +1,11 @@
 -- Operands stay what they are when the list of nodes grows.
 use Rattle.std.proofs.Common.{◌≡◌, true, nat_lt, List, [], ◌∷◌, length, refl, lt-ltb}
 use Rattle.std.proofs.lemmas.Bool.{and_parts, ltb-true}
-use Rattle.cpp_tree.specs.Trees.{Tree}
-use Rattle.cpp_tree.specs.Arena.{tree_at, Grows}
-use Rattle.elab_ctx.specs.declared.operand.Operand.{Operand}
-use Rattle.elab_ctx.specs.Operands.{operands_in, are_in}
-use Rattle.elab_ctx.proofs.Looks.{at_grown, within_grown}
+use Rattle.elab_make.specs.cpp_tree.Trees.{Tree}
+use Rattle.elab_make.specs.cpp_tree.Arena.{tree_at, Grows}
+use Rattle.elab_make.specs.elab_ctx.declared.operand.Operand.{Operand}
+use Rattle.elab_make.specs.elab_ctx.Operands.{operands_in, are_in}
+use Rattle.elab_make.proofs.elab_ctx.Looks.{at_grown, within_grown}
 
 pub operands_kept : (old new : List Tree) (os : List Operand) → Grows old new → are_in (length old) os ≡ true → operands_in new os ≡ operands_in old os
 operands_kept old new [] g h = refl

@@ -1,8 +1,8 @@
 -- Functions of a class among the first ones.
 use Rattle.std.proofs.Common.{◌≡◌, ℕ, zero, suc, ◌+◌, ◌≤◌, List, [], ◌∷◌, length, map, take, if◌then◌else◌, refl, ap, arith}
-use Rattle.elab_ctx.specs.Ctx.{func_of}
-use Rattle.elab_ctx.specs.declared.env.FuncDecl.{FuncDecl}
-use Rattle.elab_rules.specs.Calls.{count_before, is_of_class}
+use Rattle.elab_make.specs.elab_ctx.Ctx.{func_of}
+use Rattle.elab_make.specs.elab_ctx.declared.env.FuncDecl.{FuncDecl}
+use Rattle.elab_make.specs.elab_rules.Calls.{count_before, is_of_class}
 use Rattle.elab_call.specs.Slots.{members_among}
 
 pub first_counted : (n k : ℕ) (fs : List FuncDecl) → members_among n (map func_of (take k fs)) ≡ count_before (is_of_class n) k (map func_of fs)

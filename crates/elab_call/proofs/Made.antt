@@ -2,19 +2,19 @@
 use Rattle.std.proofs.Common.{◌≡◌, ◌<◌, Bool, List, ◌∷◌, length, Result, Ok, Err, refl, sym, ap, ◌∙◌, subst}
 use Rattle.cpp_types.specs.Typ.{Typ, Typs, Signature, signature}
 use Rattle.cpp_types.specs.declared.classes.At.{At}
-use Rattle.cpp_tree.specs.declared.faults.ElabFault.{ElabFault}
-use Rattle.cpp_tree.specs.declared.kinds.TKind.{TKind}
-use Rattle.cpp_tree.specs.declared.arena.TNodeId.{TNodeId}
-use Rattle.cpp_tree.specs.Trees.{Tree, Trees, more, one}
-use Rattle.cpp_tree.specs.Arena.{tree_at, trees_at, Grows, Adds}
-use Rattle.elab_ctx.specs.Ctx.{Ctx, Work}
-use Rattle.elab_ctx.specs.Steps.{Operand, Made, and_then}
-use Rattle.elab_ctx.specs.Says.{Faults, Gives, MadeAt, Makes, AllMade}
-use Rattle.elab_ctx.proofs.Looks.{grows_trans, at_grown}
-use Rattle.elab_ctx.proofs.Making.{faults_in}
-use Rattle.elab_rules.specs.Initialising.{words}
-use Rattle.elab_rules.specs.Objects.{followed_by}
-use Rattle.elab_rules.specs.Calls.{complete_result, call_node, called}
+use Rattle.elab_make.specs.cpp_tree.declared.faults.ElabFault.{ElabFault}
+use Rattle.elab_make.specs.cpp_tree.declared.kinds.TKind.{TKind}
+use Rattle.elab_make.specs.cpp_tree.declared.arena.TNodeId.{TNodeId}
+use Rattle.elab_make.specs.cpp_tree.Trees.{Tree, Trees, more, one}
+use Rattle.elab_make.specs.cpp_tree.Arena.{tree_at, trees_at, Grows, Adds}
+use Rattle.elab_make.specs.elab_ctx.Ctx.{Ctx, Work}
+use Rattle.elab_make.specs.elab_ctx.Steps.{Operand, Made, and_then}
+use Rattle.elab_make.specs.elab_ctx.Says.{Faults, Gives, MadeAt, Makes, AllMade}
+use Rattle.elab_make.proofs.elab_ctx.Looks.{grows_trans, at_grown}
+use Rattle.elab_make.proofs.elab_ctx.Making.{faults_in}
+use Rattle.elab_make.specs.elab_rules.Initialising.{words}
+use Rattle.elab_make.specs.elab_rules.Objects.{followed_by}
+use Rattle.elab_make.specs.elab_rules.Calls.{complete_result, call_node, called}
 
 pub called_made : (c : Ctx) (w : Work) (at : At) (kind : TKind) (sig : Signature) (ps : Typs) (ret : Typ) (safe b : Bool) (object : Trees) (os : List Operand) (n0 n1 n2 : List Tree) (w1 : Work) (ids all : List TNodeId) (r : TNodeId) → sig ≡ signature ps ret safe → complete_result c at ret ≡ Ok b → AllMade n0 n1 w1 ids (words c w ps os) → trees_at n1 all ≡ followed_by object (trees_at n1 ids) → Adds n1 n2 r (call_node at kind ret (trees_at n1 all)) → MadeAt n0 n2 w1 r (called c w at kind sig object os)
 called_made c w at kind sig ps ret safe b object os n0 n1 n2 w1 ids all r e h m t a = record {

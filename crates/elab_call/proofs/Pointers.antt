@@ -2,8 +2,8 @@
 use Rattle.std.proofs.Common.{◌≡◌, ℕ, zero, suc, ◌+◌, ◌-◌, ◌*◌, ◌<◌, true, false, List, [], ◌∷◌, Option, Some, Result, Ok, Err, IfOk, sym, ap, ◌∙◌, arith, slice_get}
 use Rattle.std.proofs.Math.Nat.{div-eq_of_lt}
 use Rattle.cpp_types.specs.Class.{Class}
-use Rattle.cpp_layout.specs.Layout.{next_multiple, Extent, end_from, has_class_pointer, base_items, class_extent}
-use Rattle.elab_rules.specs.Calls.{pointer_along, own_pointer_offset, base_of_class}
+use Rattle.elab_make.specs.cpp_layout.Layout.{next_multiple, Extent, end_from, has_class_pointer, base_items, class_extent}
+use Rattle.elab_make.specs.elab_rules.Calls.{pointer_along, own_pointer_offset, base_of_class}
 use Rattle.elab_call.specs.Slots.{end_of_base}
 
 -- nothing stands before the first item

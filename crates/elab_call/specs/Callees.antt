@@ -3,18 +3,18 @@ use Rattle.std.specs.Prelude.{ℕ, nat_lt, Bool, true, List, [], ◌∷◌, Opti
 use Rattle.cpp_types.specs.Typ.{Typ, typ, Form, ptr, func, closure, Signature}
 use Rattle.cpp_types.specs.declared.classes.At.{At}
 use Rattle.cpp_types.specs.declared.ranks.Cat.TheVariants.{Prvalue}
-use Rattle.cpp_tree.specs.declared.kinds.TKind.TheVariants.{CopyFrom, Call}
-use Rattle.cpp_tree.specs.declared.kinds.Builtin.{Builtin}
-use Rattle.cpp_tree.specs.declared.faults.ElabFault.{ElabFault}
-use Rattle.cpp_tree.specs.declared.arena.TNodeId.{TNodeId}
-use Rattle.cpp_tree.specs.Trees.{Tree, node, Trees, none, more, one, two, typ_in, kids_of}
-use Rattle.cpp_tree.specs.Arena.{tree_at}
-use Rattle.cpp_tree.specs.Typing.{form_in, kind_in, unqualified}
-use Rattle.elab_ctx.specs.Ctx.{Ctx, Work}
-use Rattle.elab_ctx.specs.Steps.{Operand, Made, and_then}
-use Rattle.elab_rules.specs.Objects.{copies}
-use Rattle.elab_rules.specs.Initialising.{func_at, places_from}
-use Rattle.elab_rules.specs.Calls.{best_of, called, is_closure_call, call_free, call_method, call_get, call_abort, call_value, loaded_value}
+use Rattle.elab_make.specs.cpp_tree.declared.kinds.TKind.TheVariants.{CopyFrom, Call}
+use Rattle.elab_make.specs.cpp_tree.declared.kinds.Builtin.{Builtin}
+use Rattle.elab_make.specs.cpp_tree.declared.faults.ElabFault.{ElabFault}
+use Rattle.elab_make.specs.cpp_tree.declared.arena.TNodeId.{TNodeId}
+use Rattle.elab_make.specs.cpp_tree.Trees.{Tree, node, Trees, none, more, one, two, typ_in, kids_of}
+use Rattle.elab_make.specs.cpp_tree.Arena.{tree_at}
+use Rattle.elab_make.specs.cpp_tree.Typing.{form_in, kind_in, unqualified}
+use Rattle.elab_make.specs.elab_ctx.Ctx.{Ctx, Work}
+use Rattle.elab_make.specs.elab_ctx.Steps.{Operand, Made, and_then}
+use Rattle.elab_make.specs.elab_rules.Objects.{copies}
+use Rattle.elab_make.specs.elab_rules.Initialising.{func_at, places_from}
+use Rattle.elab_make.specs.elab_rules.Calls.{best_of, called, is_closure_call, call_free, call_method, call_get, call_abort, call_value, loaded_value}
 use Rattle.elab_names.specs.declared.resolving.Callee.{Callee}
 use Rattle.elab_names.specs.declared.resolving.Callee.TheVariants.{Functions, Get, Known}
 use Rattle.elab_names.specs.Callees.{callee_at}

@@ -1,12 +1,12 @@
 -- Parts of rows of elab_rules on virtual functions.
 use Rattle.std.specs.Prelude.{ℕ, ◌+◌, List, [], ◌∷◌, unwrap_or, slice_get, if◌then◌else◌}
 use Rattle.cpp_types.specs.Class.{Class}
-use Rattle.cpp_layout.specs.Layout.{base_items, class_extent, end_from}
-use Rattle.cpp_tree.specs.declared.kinds.TKind.{TKind}
-use Rattle.cpp_tree.specs.declared.kinds.TKind.TheVariants.{VirtualCall}
-use Rattle.cpp_tree.specs.Units.{SlotFunc}
-use Rattle.elab_ctx.specs.Ctx.{Ctx, Func}
-use Rattle.elab_rules.specs.Calls.{is_of_class, slot_of_function, pointer_offset, base_of_class}
+use Rattle.elab_make.specs.cpp_layout.Layout.{base_items, class_extent, end_from}
+use Rattle.elab_make.specs.cpp_tree.declared.kinds.TKind.{TKind}
+use Rattle.elab_make.specs.cpp_tree.declared.kinds.TKind.TheVariants.{VirtualCall}
+use Rattle.elab_make.specs.cpp_tree.Units.{SlotFunc}
+use Rattle.elab_make.specs.elab_ctx.Ctx.{Ctx, Func}
+use Rattle.elab_make.specs.elab_rules.Calls.{is_of_class, slot_of_function, pointer_offset, base_of_class}
 
 abbrev pub slots_in : Ctx → ℕ → List SlotFunc
 slots_in c n = unwrap_or (slice_get c.slots n) []

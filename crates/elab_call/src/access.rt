@@ -2,16 +2,17 @@
 
 ghost use Rattle.std.specs.Prelude.{◌≡◌, ◌<◌, length};
 ghost use Rattle.cpp_types.specs.Typ.{typ_of};
-ghost use Rattle.cpp_tree.specs.Arena.{trees_of, tree_at};
-ghost use Rattle.elab_ctx.specs.Ctx.{ctx_of, work_of};
-ghost use Rattle.elab_ctx.specs.Operands.{operand_in};
-ghost use Rattle.elab_ctx.specs.Says.{Gives, Makes};
-ghost use Rattle.elab_rules.specs.Names.{is_tx_exception as is_tx_exception_of, exception_member as exception_member_of, class_member as class_member_of, member_access as member_access_of};
+ghost use Rattle.elab_make.specs.cpp_tree.Arena.{trees_of, tree_at};
+ghost use Rattle.elab_make.specs.elab_ctx.Ctx.{ctx_of, work_of};
+ghost use Rattle.elab_make.specs.elab_ctx.Operands.{operand_in};
+ghost use Rattle.elab_make.specs.elab_ctx.Says.{Gives, Makes};
+ghost use Rattle.elab_make.specs.elab_rules.Names.{is_tx_exception as is_tx_exception_of, exception_member as exception_member_of, class_member as class_member_of, member_access as member_access_of};
 
-use cpp_tree::{ElabFault, IllRule, TKind, TNode, TNodeId, add_unary};
 use cpp_types::{At, Cat, Shape, Ty};
-use elab_ctx::{Env, Operand, Work, completion, node_at};
-use elab_init::class_number;
+use elab_make::below::{
+    ElabFault, Env, IllRule, Operand, TKind, TNode, TNodeId, Work, add_unary, class_number,
+    completion, node_at,
+};
 use elab_make::object_of;
 use elab_names::parts::{ill, plain_type};
 use elab_names::{member_found, member_of};

@@ -1,11 +1,10 @@
 // What is called, by the node that stands for it.
 
 ghost use Rattle.std.specs.Prelude.{◌≡◌, ◌<◌, length, true, IfOk};
-ghost use Rattle.cpp_tree.specs.Arena.{trees_of, tree_at};
+ghost use Rattle.elab_make.specs.cpp_tree.Arena.{trees_of, tree_at};
 ghost use Rattle.elab_call.specs.Callees.{counted, form_with, form_shown, callee_form, is_form_within};
 
-use cpp_tree::{Builtin, TNode, TNodeId};
-use elab_ctx::{kids_at, node_at};
+use elab_make::below::{Builtin, TNode, TNodeId, kids_at, node_at};
 use elab_names::resolving::{Callee, callee_of};
 use std::alloc::AllocError;
 

@@ -2,29 +2,26 @@
 
 ghost use Rattle.std.specs.Prelude.{◌≡◌, ◌<◌, ◌∷◌, [], true, map, None, length, option_map, IfOk};
 ghost use Rattle.cpp_types.specs.Typ.{typ_of, signature_of};
-ghost use Rattle.cpp_tree.specs.Typing.{form_in};
-ghost use Rattle.cpp_tree.specs.Trees.{typ_in};
-ghost use Rattle.cpp_tree.specs.Arena.{trees_of, tree_at, Adds};
-ghost use Rattle.cpp_overload.specs.Overload.{candidate_of};
-ghost use Rattle.elab_ctx.specs.Ctx.{ctx_of, work_of};
-ghost use Rattle.elab_ctx.specs.Operands.{operand_in, operands_in, are_in};
-ghost use Rattle.elab_ctx.specs.Says.{Makes, Tells};
-ghost use Rattle.elab_rules.specs.Initialising.{func_at};
-ghost use Rattle.elab_rules.specs.Calls.{best_of as best_of_places, call_kind as call_kind_of, is_main as is_main_of, call_free as call_free_of, call_method_of as call_method_by, call_method as call_method_by_name, call_closure as call_closure_of, call_pointer as call_pointer_of, call_value as call_value_of, call_abort as call_abort_of, call_get as call_get_of, exception_value as exception_value_of, value_type as value_type_of, call as call_of};
+ghost use Rattle.elab_make.specs.cpp_tree.Typing.{form_in};
+ghost use Rattle.elab_make.specs.cpp_tree.Trees.{typ_in};
+ghost use Rattle.elab_make.specs.cpp_tree.Arena.{trees_of, tree_at, Adds};
+ghost use Rattle.elab_make.specs.cpp_overload.Overload.{candidate_of};
+ghost use Rattle.elab_make.specs.elab_ctx.Ctx.{ctx_of, work_of};
+ghost use Rattle.elab_make.specs.elab_ctx.Operands.{operand_in, operands_in, are_in};
+ghost use Rattle.elab_make.specs.elab_ctx.Says.{Makes, Tells};
+ghost use Rattle.elab_make.specs.elab_rules.Initialising.{func_at};
+ghost use Rattle.elab_make.specs.elab_rules.Calls.{best_of as best_of_places, call_kind as call_kind_of, is_main as is_main_of, call_free as call_free_of, call_method_of as call_method_by, call_method as call_method_by_name, call_closure as call_closure_of, call_pointer as call_pointer_of, call_value as call_value_of, call_abort as call_abort_of, call_get as call_get_of, exception_value as exception_value_of, value_type as value_type_of, call as call_of};
 ghost use Rattle.elab_call.specs.Callees.{closure_class, closure_called, function_in, copied_exception, read_exception};
 
 use crate::callees::{CalleeForm, form_at};
 use crate::results::{called, called_on};
 use crate::slots::member_kind;
-use cpp_overload::Cand;
-use cpp_tree::{
-    Builtin, ElabFault, IllRule, TKind, TNode, TNodeId, add_binary, add_leaf, add_unary,
-};
 use cpp_types::{At, Cat, FnTy, Shape, Ty, copy, copy_function};
-use elab_conv::types::{kind_of, unqualified_type};
-use elab_conv::valued;
-use elab_ctx::{Env, Operand, Work, function_at, node_at};
-use elab_init::{as_source, candidates, copies, is_class_type, meant};
+use elab_make::below::{
+    Builtin, Cand, ElabFault, Env, IllRule, Operand, TKind, TNode, TNodeId, Work, add_binary,
+    add_leaf, add_unary, as_source, candidates, copies, function_at, is_class_type, kind_of, meant,
+    node_at, unqualified_type, valued,
+};
 use elab_make::object_of;
 use elab_names::functions::{closure_places, free_places, method_places};
 use elab_names::parts::{ill, plain_type, retyped};

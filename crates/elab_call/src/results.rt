@@ -2,17 +2,18 @@
 
 ghost use Rattle.std.specs.Prelude.{◌≡◌, ◌<◌, ◌∷◌, length, true, IfOk};
 ghost use Rattle.cpp_types.specs.Typ.{typ_of, signature_of};
-ghost use Rattle.cpp_tree.specs.Trees.{Trees, none, one, more};
-ghost use Rattle.cpp_tree.specs.Arena.{trees_of, tree_at, trees_at, Adds};
-ghost use Rattle.elab_ctx.specs.Ctx.{ctx_of, work_of};
-ghost use Rattle.elab_ctx.specs.Operands.{operands_in, are_in};
-ghost use Rattle.elab_ctx.specs.Says.{Makes, Tells};
-ghost use Rattle.elab_rules.specs.Calls.{result_category as result_category_of, result_type as result_type_of, call_node as call_node_of, complete_result as complete_result_of, called as called_of};
+ghost use Rattle.elab_make.specs.cpp_tree.Trees.{Trees, none, one, more};
+ghost use Rattle.elab_make.specs.cpp_tree.Arena.{trees_of, tree_at, trees_at, Adds};
+ghost use Rattle.elab_make.specs.elab_ctx.Ctx.{ctx_of, work_of};
+ghost use Rattle.elab_make.specs.elab_ctx.Operands.{operands_in, are_in};
+ghost use Rattle.elab_make.specs.elab_ctx.Says.{Makes, Tells};
+ghost use Rattle.elab_make.specs.elab_rules.Calls.{result_category as result_category_of, result_type as result_type_of, call_node as call_node_of, complete_result as complete_result_of, called as called_of};
 
-use cpp_tree::{ElabFault, IllRule, TKind, TNode, TNodeId, add_node};
 use cpp_types::{At, Cat, FnTy, Shape, Ty, copy};
-use elab_conv::types::unqualified_type;
-use elab_ctx::{Env, Operand, Work, completion};
+use elab_make::below::{
+    ElabFault, Env, IllRule, Operand, TKind, TNode, TNodeId, Work, add_node, completion,
+    unqualified_type,
+};
 use elab_make::words;
 use elab_names::parts::ill;
 use std::alloc::{AllocError, Global};

@@ -3,17 +3,15 @@
 ghost use Rattle.std.specs.Prelude.{◌≡◌, ◌≤◌, map, option_map, IfOk, if◌then◌else◌};
 ghost use Rattle.cpp_types.specs.Class.{classes_of};
 ghost use Rattle.cpp_types.specs.Conversion.{chain};
-ghost use Rattle.cpp_tree.specs.Units.{slot_of};
-ghost use Rattle.cpp_layout.specs.Layout.{next_multiple};
-ghost use Rattle.elab_ctx.specs.Ctx.{ctx_of, func_of};
-ghost use Rattle.elab_rules.specs.Initialising.{func_at};
-ghost use Rattle.elab_rules.specs.Calls.{index_in_class as index_in_class_of, slot_from, slot_of_function as slot_of_function_of, own_pointer_offset as own_pointer_offset_of, pointer_along, pointer_offset as pointer_offset_of, member_kind as member_kind_of};
+ghost use Rattle.elab_make.specs.cpp_tree.Units.{slot_of};
+ghost use Rattle.elab_make.specs.cpp_layout.Layout.{next_multiple};
+ghost use Rattle.elab_make.specs.elab_ctx.Ctx.{ctx_of, func_of};
+ghost use Rattle.elab_make.specs.elab_rules.Initialising.{func_at};
+ghost use Rattle.elab_make.specs.elab_rules.Calls.{index_in_class as index_in_class_of, slot_from, slot_of_function as slot_of_function_of, own_pointer_offset as own_pointer_offset_of, pointer_along, pointer_offset as pointer_offset_of, member_kind as member_kind_of};
 ghost use Rattle.elab_call.specs.Slots.{members_among as members_among_of, slots_in, end_of_base, virtual_kind};
 
-use cpp_layout::has_pointer;
-use cpp_tree::{SlotRec, TKind};
 use cpp_types::Shape;
-use elab_ctx::{Env, FuncDecl, class_at, completion, size_of};
+use elab_make::below::{Env, FuncDecl, SlotRec, TKind, class_at, completion, has_pointer, size_of};
 use elab_names::functions::is_number;
 use elab_names::members::base_of_complete;
 use elab_names::parts::plain_type;

@@ -1,16 +1,16 @@
 -- Objects of classes from values, as expressions.
 use Rattle.std.proofs.Common.{◌≡◌, List, Ok, subst}
-use Rattle.cpp_types.specs.Typ.{Typ}
-use Rattle.cpp_types.specs.declared.classes.At.{At}
-use Rattle.cpp_tree.specs.declared.arena.TNodeId.{TNodeId}
-use Rattle.cpp_tree.specs.Trees.{Tree}
-use Rattle.cpp_tree.specs.Arena.{tree_at, Adds}
-use Rattle.cpp_tree.specs.Typing.{unqualified}
-use Rattle.elab_ctx.specs.Ctx.{Ctx, Work}
-use Rattle.elab_ctx.specs.Steps.{and_then, Operand, Made}
-use Rattle.elab_ctx.specs.Says.{MadeAt}
-use Rattle.elab_rules.specs.Initialising.{from_values, with_tree}
-use Rattle.elab_rules.specs.Casts.{as_expression}
+use Rattle.elab_forms.specs.cpp_types.Typ.{Typ}
+use Rattle.elab_forms.specs.cpp_types.declared.classes.At.{At}
+use Rattle.elab_forms.specs.cpp_tree.declared.arena.TNodeId.{TNodeId}
+use Rattle.elab_forms.specs.cpp_tree.Trees.{Tree}
+use Rattle.elab_forms.specs.cpp_tree.Arena.{tree_at, Adds}
+use Rattle.elab_forms.specs.cpp_tree.Typing.{unqualified}
+use Rattle.elab_forms.specs.elab_ctx.Ctx.{Ctx, Work}
+use Rattle.elab_forms.specs.elab_ctx.Steps.{and_then, Operand, Made}
+use Rattle.elab_forms.specs.elab_ctx.Says.{MadeAt}
+use Rattle.elab_forms.specs.elab_rules.Initialising.{from_values, with_tree}
+use Rattle.elab_forms.specs.elab_rules.Casts.{as_expression}
 use Rattle.elab_forms.proofs.Steps.{then_adds}
 use Rattle.elab_casts.specs.Rows.{class_made}
 

@@ -1,22 +1,22 @@
 -- Parts of rows, as functions of what they read.
 use Rattle.std.specs.Prelude.{Bool, ◌&&◌, List, [], ◌∷◌, is_some, Result, Ok, Err, if◌then◌else◌}
-use Rattle.cpp_types.specs.Typ.{Typ, void}
-use Rattle.cpp_types.specs.declared.classes.At.{At}
-use Rattle.cpp_types.specs.declared.ranks.Cat.TheVariants.{Prvalue}
-use Rattle.cpp_tree.specs.declared.faults.ElabFault.{ElabFault}
-use Rattle.cpp_tree.specs.declared.faults.ElabFault.TheVariants.{Ill}
-use Rattle.cpp_tree.specs.declared.faults.IllRule.TheVariants.{BadInit, BadThrow}
-use Rattle.cpp_tree.specs.declared.kinds.TKind.TheVariants.{Literal, Retype}
-use Rattle.tx_ints.specs.declared.kinds.IntKind.TheVariants.{ULong}
-use Rattle.cpp_tree.specs.Trees.{Tree, node, none, one, typ_in}
-use Rattle.cpp_tree.specs.Notation.{plain}
-use Rattle.cpp_tree.specs.Typing.{form_in, unqualified, is_class_typ, is_void, kind_in}
-use Rattle.elab_ctx.specs.Ctx.{Ctx, Work}
-use Rattle.elab_ctx.specs.Steps.{and_then, check, Operand, Made}
-use Rattle.elab_rules.specs.Values.{converted, number, retyped}
-use Rattle.elab_rules.specs.Initialising.{initial, from_values, with_tree}
-use Rattle.elab_rules.specs.Operators.{dropped}
-use Rattle.elab_rules.specs.Casts.{is_numeric, as_expression, is_thrown_scalar, throw_node}
+use Rattle.elab_forms.specs.cpp_types.Typ.{Typ, void}
+use Rattle.elab_forms.specs.cpp_types.declared.classes.At.{At}
+use Rattle.elab_forms.specs.cpp_types.declared.ranks.Cat.TheVariants.{Prvalue}
+use Rattle.elab_forms.specs.cpp_tree.declared.faults.ElabFault.{ElabFault}
+use Rattle.elab_forms.specs.cpp_tree.declared.faults.ElabFault.TheVariants.{Ill}
+use Rattle.elab_forms.specs.cpp_tree.declared.faults.IllRule.TheVariants.{BadInit, BadThrow}
+use Rattle.elab_forms.specs.cpp_tree.declared.kinds.TKind.TheVariants.{Literal, Retype}
+use Rattle.elab_forms.specs.tx_ints.declared.kinds.IntKind.TheVariants.{ULong}
+use Rattle.elab_forms.specs.cpp_tree.Trees.{Tree, node, none, one, typ_in}
+use Rattle.elab_forms.specs.cpp_tree.Notation.{plain}
+use Rattle.elab_forms.specs.cpp_tree.Typing.{form_in, unqualified, is_class_typ, is_void, kind_in}
+use Rattle.elab_forms.specs.elab_ctx.Ctx.{Ctx, Work}
+use Rattle.elab_forms.specs.elab_ctx.Steps.{and_then, check, Operand, Made}
+use Rattle.elab_forms.specs.elab_rules.Values.{converted, number, retyped}
+use Rattle.elab_forms.specs.elab_rules.Initialising.{initial, from_values, with_tree}
+use Rattle.elab_forms.specs.elab_rules.Operators.{dropped}
+use Rattle.elab_forms.specs.elab_rules.Casts.{is_numeric, as_expression, is_thrown_scalar, throw_node}
 
 -- a value as one of a scalar type
 abbrev pub value_cast : Ctx → Work → At → Typ → Tree → Bool → Result Made ElabFault

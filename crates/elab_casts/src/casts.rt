@@ -1,35 +1,30 @@
 // Casts and `sizeof` (C++14 5.2.3, 5.2.9, 5.3.3, 5.4).
 
 ghost use Rattle.std.specs.Prelude.{◌≡◌, ◌<◌, ◌&&◌, length, true, IfOk};
-ghost use Rattle.tx_ints.specs.declared.kinds.IntKind.TheVariants.{ULong};
-ghost use Rattle.cpp_types.specs.Typ.{typ_of, void, ref};
-ghost use Rattle.cpp_types.specs.declared.ranks.Cat.TheVariants.{Lvalue, Prvalue};
-ghost use Rattle.cpp_tree.specs.declared.kinds.TKind.TheVariants.{Literal, Retype};
-ghost use Rattle.cpp_tree.specs.Trees.{node, none, one, typ_in, cat_of, kids_of};
-ghost use Rattle.cpp_tree.specs.Notation.{plain};
-ghost use Rattle.cpp_tree.specs.Arena.{trees_of, tree_at, Adds};
-ghost use Rattle.cpp_tree.specs.Typing.{form_in, unqualified};
-ghost use Rattle.elab_ctx.specs.Ctx.{ctx_of, work_of};
-ghost use Rattle.elab_ctx.specs.Operands.{operand_in, operands_in, are_in};
-ghost use Rattle.elab_ctx.specs.Says.{Gives, Makes, Puts};
-ghost use Rattle.elab_rules.specs.Values.{number, retyped};
-ghost use Rattle.elab_rules.specs.Casts.{is_numeric, is_exception_form, stored_at, as_expression, reference_cast, scalar_cast, cast_in, cast, functional, size_literal};
+ghost use Rattle.elab_forms.specs.tx_ints.declared.kinds.IntKind.TheVariants.{ULong};
+ghost use Rattle.elab_forms.specs.cpp_types.Typ.{typ_of, void, ref};
+ghost use Rattle.elab_forms.specs.cpp_types.declared.ranks.Cat.TheVariants.{Lvalue, Prvalue};
+ghost use Rattle.elab_forms.specs.cpp_tree.declared.kinds.TKind.TheVariants.{Literal, Retype};
+ghost use Rattle.elab_forms.specs.cpp_tree.Trees.{node, none, one, typ_in, cat_of, kids_of};
+ghost use Rattle.elab_forms.specs.cpp_tree.Notation.{plain};
+ghost use Rattle.elab_forms.specs.cpp_tree.Arena.{trees_of, tree_at, Adds};
+ghost use Rattle.elab_forms.specs.cpp_tree.Typing.{form_in, unqualified};
+ghost use Rattle.elab_forms.specs.elab_ctx.Ctx.{ctx_of, work_of};
+ghost use Rattle.elab_forms.specs.elab_ctx.Operands.{operand_in, operands_in, are_in};
+ghost use Rattle.elab_forms.specs.elab_ctx.Says.{Gives, Makes, Puts};
+ghost use Rattle.elab_forms.specs.elab_rules.Values.{number, retyped};
+ghost use Rattle.elab_forms.specs.elab_rules.Casts.{is_numeric, is_exception_form, stored_at, as_expression, reference_cast, scalar_cast, cast_in, cast, functional, size_literal};
 ghost use Rattle.elab_casts.specs.Rows.{value_cast, void_made, class_made, zero_made, many_made};
 
-use cpp_tree::{ElabFault, IllRule, TKind, TNode, TNodeId, add_leaf, add_node, add_unary};
-use cpp_types::{At, Cat, Shape, Ty, copy};
-use elab_conv::converted;
-use elab_conv::types::{kind_of, unqualified_type};
-use elab_ctx::{Env, Operand, Work, kids_at, node_at, size_of};
+use elab_forms::below::{
+    At, Cat, ElabFault, Env, IllRule, IntKind, Operand, Shape, TKind, TNode, TNodeId, Ty, Work,
+    add_leaf, add_node, add_unary, converted, copy, elab_ops_ill as ill, from_values, initial,
+    is_class_type, is_function, is_sized, kids_at, kind_of, node_at, number, referred_type,
+    size_of, unqualified_type, value,
+};
 use elab_forms::conditionals::{is_void, void_type};
 use elab_forms::dropped;
-use elab_init::{is_class_type, referred_type};
-use elab_make::{from_values, initial};
-use elab_ops::arithmetic::number;
-use elab_ops::pointers::{is_function, is_sized};
-use elab_ops::{ill, value};
 use std::alloc::{AllocError, Global};
-use tx_ints::IntKind;
 
 // Whether a type is one of integers or enums.
 fn is_numeric(ty: &Ty) -> bool

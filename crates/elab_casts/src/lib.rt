@@ -1,6 +1,7 @@
 //! Casts, `sizeof`, `throw` and strings as typed nodes, from operands that are typed.
 #![tactic(auto)]
 
+pub mod below;
 pub mod casts;
 pub mod strings;
 pub mod throws;

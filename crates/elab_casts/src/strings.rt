@@ -1,20 +1,20 @@
 // String literals (C++14 2.14.5): a global of its own for each place.
 
 ghost use Rattle.std.specs.Prelude.{◌≡◌, ◌++◌, ◌∷◌, [], map, true, false, IfOk, OnOk};
-ghost use Rattle.tx_ints.specs.declared.kinds.IntKind.TheVariants.{Char};
-ghost use Rattle.cpp_types.specs.Typ.{typ_of, typ, int};
-ghost use Rattle.cpp_tree.specs.Arena.{trees_of};
-ghost use Rattle.cpp_tree.specs.Units.{cell_of, global_of};
-ghost use Rattle.elab_ctx.specs.Ctx.{work_of};
-ghost use Rattle.elab_ctx.specs.Says.{Puts};
-ghost use Rattle.elab_rules.specs.Casts.{string_symbol, string_type, byte_cells, string_global, string_made};
+ghost use Rattle.elab_forms.specs.tx_ints.declared.kinds.IntKind.TheVariants.{Char};
+ghost use Rattle.elab_forms.specs.cpp_types.Typ.{typ_of, typ, int};
+ghost use Rattle.elab_forms.specs.cpp_tree.Arena.{trees_of};
+ghost use Rattle.elab_forms.specs.cpp_tree.Units.{cell_of, global_of};
+ghost use Rattle.elab_forms.specs.elab_ctx.Ctx.{work_of};
+ghost use Rattle.elab_forms.specs.elab_ctx.Says.{Puts};
+ghost use Rattle.elab_forms.specs.elab_rules.Casts.{string_symbol, string_type, byte_cells, string_global, string_made};
 
-use cpp_tree::{CellKind, InitCell, Linkage, TGlobal, TKind, TNodeId, add_leaf};
-use cpp_types::{At, Cat, Shape, Ty};
-use elab_ctx::Work;
+use elab_forms::below::{
+    At, Cat, CellKind, InitCell, IntKind, Linkage, Shape, TGlobal, TKind, TNodeId, Ty, Work,
+    add_leaf,
+};
 use itoa::Buffer;
 use std::alloc::{AllocError, Global};
-use tx_ints::IntKind;
 
 // The symbol of a string at a place.
 fn string_symbol(alloc: Global, at: At) -> Result<Vec<u8>, AllocError>

@@ -1,29 +1,26 @@
 // `throw` (C++14 15.1).
 
 ghost use Rattle.std.specs.Prelude.{◌≡◌, ◌<◌, length, true, IfOk};
-ghost use Rattle.cpp_types.specs.Typ.{typ_of, void, class as class_form};
-ghost use Rattle.cpp_types.specs.declared.ranks.Cat.TheVariants.{Prvalue};
-ghost use Rattle.cpp_tree.specs.declared.kinds.TKind.TheVariants.{Rethrow};
-ghost use Rattle.cpp_tree.specs.Trees.{node, none, typ_in};
-ghost use Rattle.cpp_tree.specs.Notation.{plain};
-ghost use Rattle.cpp_tree.specs.Arena.{trees_of, tree_at, Adds};
-ghost use Rattle.cpp_tree.specs.Typing.{form_in};
-ghost use Rattle.elab_ctx.specs.Ctx.{ctx_of, work_of};
-ghost use Rattle.elab_ctx.specs.Operands.{operand_in, operands_in, are_in};
-ghost use Rattle.elab_ctx.specs.Says.{Makes, Tells};
-ghost use Rattle.elab_rules.specs.Casts.{is_thrown_scalar, within_exception, throw_node, throw_object, throw_in, throw};
-ghost use Rattle.elab_rules.specs.Operators.{value as value_of};
+ghost use Rattle.elab_forms.specs.cpp_types.Typ.{typ_of, void, class as class_form};
+ghost use Rattle.elab_forms.specs.cpp_types.declared.ranks.Cat.TheVariants.{Prvalue};
+ghost use Rattle.elab_forms.specs.cpp_tree.declared.kinds.TKind.TheVariants.{Rethrow};
+ghost use Rattle.elab_forms.specs.cpp_tree.Trees.{node, none, typ_in};
+ghost use Rattle.elab_forms.specs.cpp_tree.Notation.{plain};
+ghost use Rattle.elab_forms.specs.cpp_tree.Arena.{trees_of, tree_at, Adds};
+ghost use Rattle.elab_forms.specs.cpp_tree.Typing.{form_in};
+ghost use Rattle.elab_forms.specs.elab_ctx.Ctx.{ctx_of, work_of};
+ghost use Rattle.elab_forms.specs.elab_ctx.Operands.{operand_in, operands_in, are_in};
+ghost use Rattle.elab_forms.specs.elab_ctx.Says.{Makes, Tells};
+ghost use Rattle.elab_forms.specs.elab_rules.Casts.{is_thrown_scalar, within_exception, throw_node, throw_object, throw_in, throw};
+ghost use Rattle.elab_forms.specs.elab_rules.Operators.{value as value_of};
 ghost use Rattle.elab_casts.specs.Rows.{value_thrown};
 
-use cpp_tree::{ElabFault, IllRule, LimitKind, TKind, TNode, TNodeId, add_leaf, add_node};
-use cpp_types::{At, Cat, Shape, Ty, copy};
-use elab_conv::types::unqualified_type;
-use elab_ctx::{Env, Operand, Work, node_at, size_of};
+use elab_forms::below::{
+    At, Cat, ElabFault, Env, IllRule, LimitKind, Operand, Shape, TKind, TNode, TNodeId, Ty, Work,
+    add_leaf, add_node, copy, elab_ops_ill as ill, fields, node_at, object_kids, object_of,
+    size_of, traits_at, unqualified_type, value,
+};
 use elab_forms::conditionals::void_type;
-use elab_init::temporaries::object_kids;
-use elab_init::traits_at;
-use elab_make::{fields, object_of};
-use elab_ops::{ill, value};
 use std::alloc::{AllocError, Global};
 
 // The greatest size of an exception, in bytes.

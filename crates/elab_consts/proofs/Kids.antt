@@ -1,17 +1,17 @@
 -- The constant of a node from its kind, its category and the constants of its kids.
 use Rattle.std.proofs.Common.{◌≡◌, ℕ, ◌∙◌, ◌<◌, List, [], ◌∷◌, length, Option, Some, None, true, false, Bool, ◌==◌, refl, ap, sym, slice_get, get_or, ◌≢◌, arith}
-use Rattle.tx_ints.specs.declared.kinds.IntKind.{IntKind}
-use Rattle.cpp_types.specs.Typ.{Typ}
-use Rattle.cpp_types.specs.declared.classes.At.{At}
-use Rattle.cpp_types.specs.declared.ranks.Cat.{Cat}
-use Rattle.cpp_types.specs.declared.ranks.Cat.TheVariants.{Prvalue, Lvalue}
-use Rattle.cpp_tree.specs.declared.arena.TNodeId.{TNodeId}
-use Rattle.cpp_tree.specs.declared.kinds.TKind.{TKind}
-use Rattle.cpp_tree.specs.declared.kinds.TKind.TheVariants.{Literal, Load, Convert, Retype, Binary, Conditional, Global as GlobalNode}
-use Rattle.cpp_tree.specs.Trees.{Tree, node, Trees, none, more, one, two, three, kind_of, typ_in, cat_of, kids_of}
-use Rattle.cpp_tree.specs.Arena.{tree_at, trees_at}
-use Rattle.cpp_tree.specs.Units.{Global}
-use Rattle.elab_ctx.specs.Says.{place_in}
+use Rattle.elab_rules.specs.tx_ints.declared.kinds.IntKind.{IntKind}
+use Rattle.elab_rules.specs.cpp_types.Typ.{Typ}
+use Rattle.elab_rules.specs.cpp_types.declared.classes.At.{At}
+use Rattle.elab_rules.specs.cpp_types.declared.ranks.Cat.{Cat}
+use Rattle.elab_rules.specs.cpp_types.declared.ranks.Cat.TheVariants.{Prvalue, Lvalue}
+use Rattle.elab_rules.specs.cpp_tree.declared.arena.TNodeId.{TNodeId}
+use Rattle.elab_rules.specs.cpp_tree.declared.kinds.TKind.{TKind}
+use Rattle.elab_rules.specs.cpp_tree.declared.kinds.TKind.TheVariants.{Literal, Load, Convert, Retype, Binary, Conditional, Global as GlobalNode}
+use Rattle.elab_rules.specs.cpp_tree.Trees.{Tree, node, Trees, none, more, one, two, three, kind_of, typ_in, cat_of, kids_of}
+use Rattle.elab_rules.specs.cpp_tree.Arena.{tree_at, trees_at}
+use Rattle.elab_rules.specs.cpp_tree.Units.{Global}
+use Rattle.elab_rules.specs.elab_ctx.Says.{place_in}
 use Rattle.elab_rules.specs.Constants.{constant, value_of_global, address, Address}
 use Rattle.elab_consts.specs.FromKids.{word_at, from_one, from_two, from_three, global_in, global_number, only_global, loaded, is_load}
 

@@ -1,12 +1,12 @@
 -- Constants of nodes from those of their kids.
 use Rattle.std.specs.Prelude.{ℕ, Bool, true, false, List, Option, Some, None, option_map, slice_get}
-use Rattle.tx_ints.specs.declared.kinds.IntKind.{IntKind}
-use Rattle.cpp_types.specs.declared.ranks.Cat.{Cat}
-use Rattle.cpp_types.specs.declared.ranks.Cat.TheVariants.{Prvalue}
-use Rattle.cpp_tree.specs.declared.kinds.TKind.{TKind}
-use Rattle.cpp_tree.specs.declared.kinds.TKind.TheVariants.{Literal, Load, Convert, Retype, Binary, Conditional, Global as GlobalNode}
-use Rattle.cpp_tree.specs.Trees.{Tree, node, Trees, none, more}
-use Rattle.cpp_tree.specs.Units.{Global}
+use Rattle.elab_rules.specs.tx_ints.declared.kinds.IntKind.{IntKind}
+use Rattle.elab_rules.specs.cpp_types.declared.ranks.Cat.{Cat}
+use Rattle.elab_rules.specs.cpp_types.declared.ranks.Cat.TheVariants.{Prvalue}
+use Rattle.elab_rules.specs.cpp_tree.declared.kinds.TKind.{TKind}
+use Rattle.elab_rules.specs.cpp_tree.declared.kinds.TKind.TheVariants.{Literal, Load, Convert, Retype, Binary, Conditional, Global as GlobalNode}
+use Rattle.elab_rules.specs.cpp_tree.Trees.{Tree, node, Trees, none, more}
+use Rattle.elab_rules.specs.cpp_tree.Units.{Global}
 use Rattle.elab_rules.specs.Constants.{word_in, both, applied, branch, value_of_global}
 
 -- a literal, whatever its kids

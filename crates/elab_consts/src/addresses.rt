@@ -1,12 +1,11 @@
 // Address constants (C++14 5.19), read off typed nodes.
 
 ghost use Rattle.std.specs.Prelude.{◌≡◌, ◌<◌, length, IfOk, option_map};
-ghost use Rattle.cpp_tree.specs.Arena.{trees_of, tree_at};
+ghost use Rattle.elab_rules.specs.cpp_tree.Arena.{trees_of, tree_at};
 ghost use Rattle.elab_rules.specs.Constants.{address};
 ghost use Rattle.elab_consts.specs.Shown.{address_of};
 
-use cpp_tree::{TKind, TNode, TNodeId};
-use elab_ctx::nodes::{kids_at, node_at};
+use elab_rules::below::{TKind, TNode, TNodeId, kids_at, node_at};
 use std::alloc::AllocError;
 
 /// Whose address a constant is.

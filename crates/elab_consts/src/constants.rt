@@ -1,15 +1,14 @@
 // Integer constant expressions (C++14 5.19), read off typed nodes.
 
 ghost use Rattle.std.specs.Prelude.{◌≡◌, ◌<◌, length, map, true, IfOk};
-ghost use Rattle.cpp_tree.specs.Arena.{trees_of, tree_at, trees_at};
-ghost use Rattle.cpp_tree.specs.Units.{global_of};
-ghost use Rattle.elab_ctx.specs.Says.{are_within};
+ghost use Rattle.elab_rules.specs.cpp_tree.Arena.{trees_of, tree_at, trees_at};
+ghost use Rattle.elab_rules.specs.cpp_tree.Units.{global_of};
+ghost use Rattle.elab_rules.specs.elab_ctx.Says.{are_within};
 ghost use Rattle.elab_rules.specs.Constants.{constant};
 ghost use Rattle.elab_consts.specs.FromKids.{global_in, only_global};
 
 use crate::rows::{from_one, from_three, from_two, loaded, word_at};
-use cpp_tree::{TGlobal, TKind, TNode, TNodeId};
-use elab_ctx::nodes::{kids_at, node_at};
+use elab_rules::below::{TGlobal, TKind, TNode, TNodeId, kids_at, node_at};
 use std::alloc::AllocError;
 
 // The global that an expression is.

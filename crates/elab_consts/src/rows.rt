@@ -1,16 +1,14 @@
 // Constants of nodes from those of their kids.
 
 ghost use Rattle.std.specs.Prelude.{◌≡◌, map, slice_get, List};
-ghost use Rattle.cpp_tree.specs.Units.{global_of};
-ghost use Rattle.cpp_types.specs.Typ.{typ_of};
+ghost use Rattle.elab_rules.specs.cpp_tree.Units.{global_of};
+ghost use Rattle.elab_rules.specs.cpp_types.Typ.{typ_of};
 ghost use Rattle.elab_rules.specs.Constants.{is_constant_type, number_in, value_of_global, branch};
 ghost use Rattle.elab_consts.specs.FromKids.{word_at, from_one, from_two, from_three, loaded};
-ghost use Rattle.cpp_tree.specs.Units.{cell_of};
+ghost use Rattle.elab_rules.specs.cpp_tree.Units.{cell_of};
 
 use crate::words::{applied, word_in};
-use cpp_tree::{InitCell, TGlobal, TKind};
-use cpp_types::{Cat, Shape, Ty};
-use tx_ints::IntKind;
+use elab_rules::below::{Cat, InitCell, IntKind, Shape, TGlobal, TKind, Ty};
 
 /// The word of a literal.
 pub fn word_at(kind: TKind) -> Option<u64>

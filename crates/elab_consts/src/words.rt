@@ -3,7 +3,7 @@
 ghost use Rattle.std.specs.Prelude.{◌≡◌};
 ghost use Rattle.elab_rules.specs.Constants.{word_in, right_kind, applied};
 
-use tx_ints::{BinOp, IntKind, apply, value_of_word, word_of};
+use elab_rules::below::{BinOp, IntKind, apply, value_of_word, word_of};
 
 /// A word as that of a number of a kind.
 pub fn word_in(kind: IntKind, word: u64) -> u64

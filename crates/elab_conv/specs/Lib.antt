@@ -1,1 +1,11 @@
+pub use Rattle.elab_rules.specs.cpp_ast as cpp_ast
+pub use Rattle.elab_rules.specs.cpp_layout as cpp_layout
+pub use Rattle.elab_rules.specs.cpp_lex as cpp_lex
+pub use Rattle.elab_rules.specs.cpp_names as cpp_names
+pub use Rattle.elab_rules.specs.cpp_overload as cpp_overload
+pub use Rattle.elab_rules.specs.cpp_tree as cpp_tree
+pub use Rattle.elab_rules.specs.cpp_types as cpp_types
+pub use Rattle.elab_rules.specs.elab_ctx as elab_ctx
+pub use Rattle.elab_rules.specs as elab_rules
+pub use Rattle.elab_rules.specs.tx_ints as tx_ints
 pub mod Reads

@@ -1,10 +1,10 @@
 -- What is read of an expression where its value is wanted.
 use Rattle.std.specs.Prelude.{Some}
-use Rattle.cpp_types.specs.Conversion.{decayed}
-use Rattle.cpp_types.specs.declared.classes.At.{At}
-use Rattle.cpp_types.specs.declared.ranks.Cat.TheVariants.{Prvalue}
-use Rattle.cpp_tree.specs.Trees.{Tree, typ_in}
-use Rattle.cpp_tree.specs.Notation.{plain}
+use Rattle.elab_rules.specs.cpp_types.Conversion.{decayed}
+use Rattle.elab_rules.specs.cpp_types.declared.classes.At.{At}
+use Rattle.elab_rules.specs.cpp_types.declared.ranks.Cat.TheVariants.{Prvalue}
+use Rattle.elab_rules.specs.cpp_tree.Trees.{Tree, typ_in}
+use Rattle.elab_rules.specs.cpp_tree.Notation.{plain}
 use Rattle.elab_rules.specs.Values.{retyped, loaded}
 use Rattle.elab_conv.specs.declared.values.Reading.{Reading}
 use Rattle.elab_conv.specs.declared.values.Reading.TheVariants.{Stays, Decays, Loads}

@@ -1,18 +1,17 @@
 // Conversions of values (C++14 4.5 to 4.12), each as a node of its own.
 
 ghost use Rattle.std.specs.Prelude.{◌≡◌, ◌<◌, length, IfOk};
-ghost use Rattle.cpp_types.specs.Typ.{typ_of};
-ghost use Rattle.cpp_types.specs.Equal.{kind_eq, typ_eq};
-ghost use Rattle.cpp_tree.specs.Arena.{trees_of, tree_at, Adds};
-ghost use Rattle.cpp_tree.specs.Typing.{unqualified};
+ghost use Rattle.elab_rules.specs.cpp_types.Typ.{typ_of};
+ghost use Rattle.elab_rules.specs.cpp_types.Equal.{kind_eq, typ_eq};
+ghost use Rattle.elab_rules.specs.cpp_tree.Arena.{trees_of, tree_at, Adds};
+ghost use Rattle.elab_rules.specs.cpp_tree.Typing.{unqualified};
 ghost use Rattle.elab_rules.specs.Values.{converted as converted_of, stepped as stepped_of, stored as stored_of};
 
 use crate::types::{kind_of, unqualified_type};
-use cpp_tree::{TKind, TNode, TNodeId, add_unary};
-use cpp_types::{At, Cat, Step, Ty, copy, same};
-use elab_ctx::nodes::node_at;
+use elab_rules::below::{
+    At, Cat, IntKind, Step, TKind, TNode, TNodeId, Ty, add_unary, copy, node_at, same,
+};
 use std::alloc::{AllocError, Global};
-use tx_ints::IntKind;
 
 fn is_same_kind(a: IntKind, b: IntKind) -> bool
     ensures { result ≡ kind_eq a b }

@@ -1,6 +1,7 @@
 //! Values and conversions as typed nodes.
 #![tactic(auto)]
 
+pub mod below;
 pub mod conversions;
 pub mod types;
 pub mod values;

@@ -1,15 +1,14 @@
 // Types without their qualifiers, their kinds, and what they decay to.
 
 ghost use Rattle.std.specs.Prelude.{◌≡◌, IfOk};
-ghost use Rattle.cpp_types.specs.Typ.{typ_of, ptr};
-ghost use Rattle.cpp_types.specs.Equal.{typ_eq};
-ghost use Rattle.cpp_types.specs.Conversion.{decayed, referred};
-ghost use Rattle.cpp_tree.specs.Notation.{plain};
-ghost use Rattle.cpp_tree.specs.Typing.{form_in, kind_in, unqualified};
+ghost use Rattle.elab_rules.specs.cpp_types.Typ.{typ_of, ptr};
+ghost use Rattle.elab_rules.specs.cpp_types.Equal.{typ_eq};
+ghost use Rattle.elab_rules.specs.cpp_types.Conversion.{decayed, referred};
+ghost use Rattle.elab_rules.specs.cpp_tree.Notation.{plain};
+ghost use Rattle.elab_rules.specs.cpp_tree.Typing.{form_in, kind_in, unqualified};
 
-use cpp_types::{Shape, Ty, copy};
+use elab_rules::below::{IntKind, Shape, Ty, copy};
 use std::alloc::{AllocError, Global};
-use tx_ints::IntKind;
 
 /// The kind by which a scalar of a type is loaded and stored; `None` where it is no scalar.
 pub fn kind_of(ty: &Ty) -> Option<IntKind>

@@ -1,20 +1,17 @@
 // The value of an expression.
 
 ghost use Rattle.std.specs.Prelude.{◌≡◌, ◌<◌, length, IfOk};
-ghost use Rattle.cpp_types.specs.Typ.{typ_of};
-ghost use Rattle.cpp_tree.specs.Trees.{Tree};
-ghost use Rattle.cpp_tree.specs.Typing.{form_in};
-ghost use Rattle.cpp_tree.specs.Arena.{trees_of, tree_at, Adds};
-ghost use Rattle.cpp_types.specs.declared.classes.At.{At};
+ghost use Rattle.elab_rules.specs.cpp_types.Typ.{typ_of};
+ghost use Rattle.elab_rules.specs.cpp_tree.Trees.{Tree};
+ghost use Rattle.elab_rules.specs.cpp_tree.Typing.{form_in};
+ghost use Rattle.elab_rules.specs.cpp_tree.Arena.{trees_of, tree_at, Adds};
+ghost use Rattle.elab_rules.specs.cpp_types.declared.classes.At.{At};
 ghost use Rattle.elab_rules.specs.Values.{valued as valued_of, value_in};
 ghost use Rattle.elab_conv.specs.Reads.{read_as};
 
 use crate::types::{decayed_type, unqualified_type};
-use cpp_tree::{TKind, TNode, TNodeId, add_unary};
-use cpp_types::{At, Cat, Shape, Ty};
-use elab_ctx::nodes::node_at;
+use elab_rules::below::{At, Cat, IntKind, Shape, TKind, TNode, TNodeId, Ty, add_unary, node_at};
 use std::alloc::{AllocError, Global};
-use tx_ints::IntKind;
 
 /// What is read of an expression where its value is wanted.
 #[derive(Clone, Copy)]

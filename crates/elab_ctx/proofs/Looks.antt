@@ -3,9 +3,9 @@ use Rattle.std.proofs.Common.{◌≡◌, ℕ, zero, suc, ◌+◌, ◌<◌, ◌�
 use Rattle.std.proofs.lemmas.List.{get_or_append_left, get_or_push}
 use Rattle.std.proofs.lemmas.Option.{slice_get-get_or}
 use Rattle.std.proofs.lemmas.Bool.{and_parts, ltb-true}
-use Rattle.cpp_types.specs.Typ.{typ_of}
-use Rattle.cpp_types.specs.declared.ranks.Cat.{Cat}
-use Rattle.cpp_types.specs.declared.classes.At.{At}
+use Rattle.cpp_tree.specs.cpp_types.Typ.{typ_of}
+use Rattle.cpp_tree.specs.cpp_types.declared.ranks.Cat.{Cat}
+use Rattle.cpp_tree.specs.cpp_types.declared.classes.At.{At}
 use Rattle.cpp_tree.specs.declared.kinds.TKind.{TKind}
 use Rattle.cpp_tree.specs.declared.arena.TNodeId.{TNodeId}
 use Rattle.cpp_tree.specs.declared.arena.TNode.{TNode}

@@ -1,10 +1,10 @@
 -- Classes whose objects have sizes.
 use Rattle.std.proofs.Common.{◌≡◌, ℕ, Bool, true, false, List, Option, Some, None, is_some, refl, sym, ◌∙◌, ap}
-use Rattle.cpp_types.specs.Typ.{Form}
-use Rattle.cpp_types.specs.Class.{Class, InOrder, completion_of, held_form}
-use Rattle.cpp_types.specs.Order.{all_consistent}
-use Rattle.cpp_types.proofs.OrderTests.{order_is}
-use Rattle.cpp_layout.specs.Measured.{IsComplete, HoldsComplete}
+use Rattle.cpp_tree.specs.cpp_types.Typ.{Form}
+use Rattle.cpp_tree.specs.cpp_types.Class.{Class, InOrder, completion_of, held_form}
+use Rattle.cpp_tree.specs.cpp_types.Order.{all_consistent}
+use Rattle.cpp_tree.proofs.cpp_types.OrderTests.{order_is}
+use Rattle.cpp_tree.specs.cpp_layout.Measured.{IsComplete, HoldsComplete}
 use Rattle.elab_ctx.specs.Sized.{is_known, is_whole}
 
 pub in_order : (classes : List Class) → all_consistent classes ≡ true → InOrder classes

@@ -1,8 +1,8 @@
 -- What is declared where a form stands, and what is made there, as plain data.
 use Rattle.std.specs.Prelude.{ℕ, Bool, List, [], ◌∷◌, ◌++◌, map, drop, length, Option, Some, None, option_map}
-use Rattle.cpp_types.specs.Typ.{Typ, typ_of}
-use Rattle.cpp_types.specs.Class.{Class, Function, classes_of, function_of}
-use Rattle.cpp_types.specs.declared.classes.At.{At}
+use Rattle.cpp_tree.specs.cpp_types.Typ.{Typ, typ_of}
+use Rattle.cpp_tree.specs.cpp_types.Class.{Class, Function, classes_of, function_of}
+use Rattle.cpp_tree.specs.cpp_types.declared.classes.At.{At}
 use Rattle.cpp_names.specs.Names.{Names, with_name}
 use Rattle.cpp_names.specs.declared.entity.Entity.{Entity}
 use Rattle.cpp_tree.specs.declared.kinds.Builtin.{Builtin}

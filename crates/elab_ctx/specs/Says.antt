@@ -2,7 +2,7 @@
 use Rattle.std.specs.Prelude.{◌≡◌, ◌<◌, ℕ, Bool, true, nat_lt, Vec, List, [], ◌∷◌, length, Result, Ok, Err}
 use Rattle.std.specs.List.{list_all}
 use Rattle.std.specs.declared.alloc.Global.{Global}
-use Rattle.cpp_types.specs.declared.classes.At.{At}
+use Rattle.cpp_tree.specs.cpp_types.declared.classes.At.{At}
 use Rattle.cpp_tree.specs.declared.faults.ElabFault.{ElabFault}
 use Rattle.cpp_tree.specs.declared.faults.ElabFault.TheVariants.{Ill, Override, JumpIntoBlock, Limit, Memory}
 use Rattle.cpp_tree.specs.declared.arena.TNodeId.{TNodeId}

@@ -1,7 +1,7 @@
 -- Types whose objects have a size.
 use Rattle.std.specs.Prelude.{Bool, true, ℕ, List, Option, Some, None, is_some}
-use Rattle.cpp_types.specs.Typ.{Form}
-use Rattle.cpp_types.specs.Class.{Class, completion_of, held_form}
+use Rattle.cpp_tree.specs.cpp_types.Typ.{Form}
+use Rattle.cpp_tree.specs.cpp_types.Class.{Class, completion_of, held_form}
 
 abbrev pub is_known : List Class → Option ℕ → Bool
 is_known classes None = true

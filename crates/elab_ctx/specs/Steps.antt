@@ -3,7 +3,7 @@ use Rattle.std.specs.Prelude.{ℕ, Bool, true, false, List, [], ◌∷◌, Optio
 use Rattle.cpp_lex.specs.Tokens.{Lexeme}
 use Rattle.cpp_ast.specs.Trees as syntax
 use Rattle.cpp_ast.specs.declared.arena.At.{At as SyntaxAt}
-use Rattle.cpp_types.specs.declared.classes.At.{At}
+use Rattle.cpp_tree.specs.cpp_types.declared.classes.At.{At}
 use Rattle.cpp_tree.specs.Trees.{Tree, Trees}
 use Rattle.elab_ctx.specs.Ctx.{Work}
 use Rattle.cpp_tree.specs.declared.faults.ElabFault.{ElabFault}

@@ -1,12 +1,12 @@
 // What is declared where a form stands, and what is made there.
 
 ghost use Rattle.std.specs.Prelude.{◌≡◌, true};
-ghost use Rattle.cpp_types.specs.Class.{classes_of};
-ghost use Rattle.cpp_types.specs.Order.{all_consistent};
+ghost use Rattle.cpp_tree.specs.cpp_types.Class.{classes_of};
+ghost use Rattle.cpp_tree.specs.cpp_types.Order.{all_consistent};
 
 use cpp_names::Scopes;
+use cpp_tree::below::{At, ClassRec, FuncRec, Ty};
 use cpp_tree::{Builtin, FuncKind, Linkage, SlotRec, TGlobal, TNode, TNodeId, TParam};
-use cpp_types::{At, ClassRec, FuncRec, Ty};
 
 /// A name of a type: of a class, an enum or an alias (C++14 7.1.3, 9.1).
 #[derive(Drop)]

@@ -1,6 +1,7 @@
 //! What is known where a form stands, and the steps of which elaboration is made.
 #![tactic(auto)]
 
+pub mod below;
 pub mod env;
 pub mod lookups;
 pub mod nodes;

@@ -1,17 +1,15 @@
 // What stands at a number, and sizes.
 
 ghost use Rattle.std.specs.Prelude.{◌≡◌, ◌≤◌, MatchOption, None, Some, slice_get, IfOk};
-ghost use Rattle.cpp_types.specs.Typ.{typ_of};
-ghost use Rattle.cpp_types.specs.Class.{classes_of, class_of, completion_of};
-ghost use Rattle.cpp_layout.specs.Layout.{extent_of};
+ghost use Rattle.cpp_tree.specs.cpp_types.Typ.{typ_of};
+ghost use Rattle.cpp_tree.specs.cpp_types.Class.{classes_of, class_of, completion_of};
+ghost use Rattle.cpp_tree.specs.cpp_layout.Layout.{extent_of};
 ghost use Rattle.cpp_tree.specs.Typing.{form_in};
 ghost use Rattle.elab_ctx.specs.Ctx.{ctx_of, func_of, traits_of};
 ghost use Rattle.elab_ctx.specs.Sized.{is_whole};
 
 use crate::env::{Env, FuncDecl, Traits};
-use cpp_layout::{SizeAlign, size_align};
-use cpp_types::copyability::held_class;
-use cpp_types::{ClassRec, Ty};
+use cpp_tree::below::{ClassRec, SizeAlign, Ty, held_class, size_align};
 use std::alloc::AllocError;
 
 /// The function with a number.

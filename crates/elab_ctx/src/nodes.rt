@@ -1,7 +1,7 @@
 // Reading typed nodes.
 
 ghost use Rattle.std.specs.Prelude.{◌≡◌, ◌<◌, length, true, IfOk};
-ghost use Rattle.cpp_types.specs.Typ.{typ_of};
+ghost use Rattle.cpp_tree.specs.cpp_types.Typ.{typ_of};
 ghost use Rattle.cpp_tree.specs.Trees.{kind_of, typ_in, cat_of, kids_of};
 ghost use Rattle.cpp_tree.specs.Arena.{trees_of, tree_at, trees_at, are_below};
 ghost use Rattle.elab_ctx.specs.Says.{place_in, are_within};

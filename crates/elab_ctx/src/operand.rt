@@ -1,7 +1,7 @@
 // An expression that an operator or a call takes.
 
 use cpp_tree::TNodeId;
-use cpp_types::At;
+use cpp_tree::below::At;
 
 /// An operand: an expression, and what its place says of it.
 #[derive(Clone, Copy)]

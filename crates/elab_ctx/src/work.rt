@@ -1,11 +1,11 @@
 // What is made beside nodes.
 
 ghost use Rattle.std.specs.Prelude.{◌≡◌, IfOk, OnOk};
-ghost use Rattle.cpp_types.specs.Typ.{typ_of};
+ghost use Rattle.cpp_tree.specs.cpp_types.Typ.{typ_of};
 ghost use Rattle.elab_ctx.specs.Ctx.{work_of, with_item, next_place};
 
 use crate::env::Work;
-use cpp_types::Ty;
+use cpp_tree::below::Ty;
 use std::alloc::AllocError;
 
 /// One more item of the frame; the answer is its place. Where no number is left, that counts as want of memory.

@@ -1,21 +1,21 @@
 -- Enumerators, as steps.
 use Rattle.std.proofs.Common.{◌≡◌, ◌∙◌, ℕ, ℤ, pos, Bool, List, length, Option, Some, None, is_none, Result, Ok, Err, refl, sym, ap}
-use Rattle.cpp_lex.specs.Tokens.{Lexeme}
-use Rattle.cpp_ast.specs.Trees as syntax
-use Rattle.cpp_ast.specs.declared.arena.At.{At as SyntaxAt}
-use Rattle.cpp_ast.specs.declared.kinds.NodeKind.{NodeKind}
+use Rattle.elab_expr.specs.cpp_lex.Tokens.{Lexeme}
+use Rattle.elab_expr.specs.cpp_ast.Trees as syntax
+use Rattle.elab_expr.specs.cpp_ast.declared.arena.At.{At as SyntaxAt}
+use Rattle.elab_expr.specs.cpp_ast.declared.kinds.NodeKind.{NodeKind}
 use Rattle.cpp_types.specs.Typ.{Typ, enum}
 use Rattle.cpp_types.specs.declared.classes.At.{At}
-use Rattle.cpp_tree.specs.declared.faults.ElabFault.{ElabFault}
-use Rattle.cpp_tree.specs.declared.faults.IllRule.TheVariants.{Redeclared}
-use Rattle.cpp_tree.specs.Notation.{plain}
-use Rattle.elab_ctx.specs.Ctx.{Ctx, Work}
-use Rattle.elab_ctx.specs.Says.{Faults}
-use Rattle.elab_ctx.specs.Steps.{and_then, check, Typed, at_of, spelling}
-use Rattle.elab_rules.specs.Expressions.{expression_of, chosen_operand}
-use Rattle.elab_rules.specs.Statements.{State}
-use Rattle.elab_rules.specs.Types.{type_named}
-use Rattle.elab_rules.specs.Globals.{Enumerating, enumerator_value, enumerator_made, enumerator_declared, enumerators_declared, with_type, enum_with, closed_enum}
+use Rattle.elab_expr.specs.cpp_tree.declared.faults.ElabFault.{ElabFault}
+use Rattle.elab_expr.specs.cpp_tree.declared.faults.IllRule.TheVariants.{Redeclared}
+use Rattle.elab_expr.specs.cpp_tree.Notation.{plain}
+use Rattle.elab_expr.specs.elab_ctx.Ctx.{Ctx, Work}
+use Rattle.elab_expr.specs.elab_ctx.Says.{Faults}
+use Rattle.elab_expr.specs.elab_ctx.Steps.{and_then, check, Typed, at_of, spelling}
+use Rattle.elab_expr.specs.elab_rules.Expressions.{expression_of, chosen_operand}
+use Rattle.elab_expr.specs.elab_rules.Statements.{State}
+use Rattle.elab_expr.specs.elab_rules.Types.{type_named}
+use Rattle.elab_expr.specs.elab_rules.Globals.{Enumerating, enumerator_value, enumerator_made, enumerator_declared, enumerators_declared, with_type, enum_with, closed_enum}
 use Rattle.elab_decls.specs.Enums.{Valued, written_value, found_value}
 use Rattle.elab_decls.proofs.Steps.{faults_then, faults_after, faults_same}
 

@@ -1,13 +1,13 @@
 -- Declarations of functions, as steps.
 use Rattle.std.proofs.Common.{◌≡◌, ◌∙◌, ℕ, Bool, true, false, not, ◌||◌, List, [], ◌∷◌, ◌++◌, length, Option, Some, None, Result, Ok, Err, refl, sym, ap}
 use Rattle.cpp_types.specs.declared.classes.At.{At}
-use Rattle.cpp_tree.specs.declared.faults.ElabFault.{ElabFault}
-use Rattle.cpp_tree.specs.declared.faults.IllRule.TheVariants.{Redeclared, BadDeclaration, OutOfProfile}
-use Rattle.cpp_names.specs.Names.{innermost_of}
-use Rattle.cpp_names.specs.declared.entity.Entity.{Entity}
-use Rattle.elab_ctx.specs.Ctx.{Ctx, Func}
-use Rattle.elab_ctx.specs.Steps.{and_then, check}
-use Rattle.elab_rules.specs.Functions.{Header, Placed, main_fits, dynamic_fits, may_be_c, header_sized, is_same_function, first_from, is_function_entity, function_named, name_declared, declared_in, function_declared, new_function}
+use Rattle.elab_expr.specs.cpp_tree.declared.faults.ElabFault.{ElabFault}
+use Rattle.elab_expr.specs.cpp_tree.declared.faults.IllRule.TheVariants.{Redeclared, BadDeclaration, OutOfProfile}
+use Rattle.elab_expr.specs.cpp_names.Names.{innermost_of}
+use Rattle.elab_expr.specs.cpp_names.declared.entity.Entity.{Entity}
+use Rattle.elab_expr.specs.elab_ctx.Ctx.{Ctx, Func}
+use Rattle.elab_expr.specs.elab_ctx.Steps.{and_then, check}
+use Rattle.elab_expr.specs.elab_rules.Functions.{Header, Placed, main_fits, dynamic_fits, may_be_c, header_sized, is_same_function, first_from, is_function_entity, function_named, name_declared, declared_in, function_declared, new_function}
 use Rattle.elab_decls.specs.Says.{words_fit, newly_declared}
 
 five : {A : Type 0} (m a d e z : Result Bool ElabFault) (r : Result A ElabFault) (x y w : Bool) → m ≡ Ok x → and_then a (λ _. and_then d (λ _. e)) ≡ Ok y → z ≡ Ok w → and_then m (λ _. and_then a (λ _. and_then d (λ _. and_then e (λ _. and_then z (λ _. r))))) ≡ r

@@ -1,23 +1,23 @@
 -- Variables at file scope, as steps.
 use Rattle.std.proofs.Common.{◌≡◌, ◌∙◌, ℕ, Bool, true, false, List, Result, Ok, Err, refl, sym, ap, subst}
-use Rattle.cpp_lex.specs.Tokens.{Lexeme}
-use Rattle.cpp_ast.specs.Trees as syntax
-use Rattle.cpp_names.specs.Names.{innermost_of}
+use Rattle.elab_expr.specs.cpp_lex.Tokens.{Lexeme}
+use Rattle.elab_expr.specs.cpp_ast.Trees as syntax
+use Rattle.elab_expr.specs.cpp_names.Names.{innermost_of}
 use Rattle.cpp_types.specs.Typ.{Typ}
 use Rattle.cpp_types.specs.Class.{held}
 use Rattle.cpp_types.specs.declared.classes.At.{At}
-use Rattle.cpp_tree.specs.declared.faults.ElabFault.{ElabFault}
-use Rattle.cpp_tree.specs.declared.faults.IllRule.TheVariants.{Incomplete, NotConstant}
-use Rattle.cpp_tree.specs.Units.{Cell}
-use Rattle.elab_ctx.specs.Ctx.{Work}
-use Rattle.elab_ctx.specs.Says.{Faults}
-use Rattle.elab_ctx.specs.Steps.{and_then, check, Made}
-use Rattle.elab_rules.specs.Functions.{Storage}
-use Rattle.elab_rules.specs.Initialising.{class_number}
-use Rattle.elab_rules.specs.Objects.{element_of}
-use Rattle.elab_rules.specs.Operators.{is_complete}
-use Rattle.elab_rules.specs.Statements.{State}
-use Rattle.elab_rules.specs.Globals.{PlacedGlobal, is_trivial_class, is_definition, cells_of, global_object, global_declarable, global_named, global_declared, global_declared_as, global_defined, defined_global}
+use Rattle.elab_expr.specs.cpp_tree.declared.faults.ElabFault.{ElabFault}
+use Rattle.elab_expr.specs.cpp_tree.declared.faults.IllRule.TheVariants.{Incomplete, NotConstant}
+use Rattle.elab_expr.specs.cpp_tree.Units.{Cell}
+use Rattle.elab_expr.specs.elab_ctx.Ctx.{Work}
+use Rattle.elab_expr.specs.elab_ctx.Says.{Faults}
+use Rattle.elab_expr.specs.elab_ctx.Steps.{and_then, check, Made}
+use Rattle.elab_expr.specs.elab_rules.Functions.{Storage}
+use Rattle.elab_expr.specs.elab_rules.Initialising.{class_number}
+use Rattle.elab_expr.specs.elab_rules.Objects.{element_of}
+use Rattle.elab_expr.specs.elab_rules.Operators.{is_complete}
+use Rattle.elab_expr.specs.elab_rules.Statements.{State}
+use Rattle.elab_expr.specs.elab_rules.Globals.{PlacedGlobal, is_trivial_class, is_definition, cells_of, global_object, global_declarable, global_named, global_declared, global_declared_as, global_defined, defined_global}
 use Rattle.elab_braces.specs.Forms.{object_by}
 use Rattle.elab_braces.proofs.Initials.{global_is}
 use Rattle.elab_decls.specs.Says.{global_made, with_cells}

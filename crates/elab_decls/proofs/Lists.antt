@@ -7,11 +7,11 @@ use Rattle.cpp_types.specs.Typ.{Typ, typs_of, typ_of, signature_of}
 use Rattle.cpp_types.specs.declared.types.Ty.{Ty}
 use Rattle.cpp_types.specs.declared.types.FnTy.{FnTy, out-FnTy}
 use Rattle.cpp_types.proofs.Views.{signature_view}
-use Rattle.elab_ctx.specs.Ctx.{Enumerator, enumerator_of}
-use Rattle.elab_ctx.specs.declared.env.EnumRec.{EnumRec}
-use Rattle.elab_rules.specs.Initialising.{signature_parameters}
-use Rattle.elab_rules.specs.Functions.{is_none_typs}
-use Rattle.elab_rules.specs.Globals.{typed_from}
+use Rattle.elab_expr.specs.elab_ctx.Ctx.{Enumerator, enumerator_of}
+use Rattle.elab_expr.specs.elab_ctx.declared.env.EnumRec.{EnumRec}
+use Rattle.elab_expr.specs.elab_rules.Initialising.{signature_parameters}
+use Rattle.elab_expr.specs.elab_rules.Functions.{is_none_typs}
+use Rattle.elab_expr.specs.elab_rules.Globals.{typed_from}
 use Rattle.elab_decls.specs.Says.{with_typ}
 
 -- what is read of an element

@@ -1,10 +1,10 @@
 -- Steps that may be refused, one behind the other.
 use Rattle.std.proofs.Common.{◌≡◌, Result, Ok, Err, refl, sym, ap, subst}
-use Rattle.cpp_tree.specs.declared.faults.ElabFault.{ElabFault}
-use Rattle.elab_ctx.specs.Says.{Faults}
-use Rattle.elab_ctx.specs.Steps.{and_then}
-use Rattle.elab_ctx.proofs.Making.{faults_in}
-use Rattle.elab_types.specs.Shown.{Says}
+use Rattle.elab_expr.specs.cpp_tree.declared.faults.ElabFault.{ElabFault}
+use Rattle.elab_expr.specs.elab_ctx.Says.{Faults}
+use Rattle.elab_expr.specs.elab_ctx.Steps.{and_then}
+use Rattle.elab_expr.proofs.elab_ctx.Making.{faults_in}
+use Rattle.elab_expr.specs.elab_types.Shown.{Says}
 use Rattle.class_members.specs.Shown.{Answers}
 
 -- a fault of a step is that of the whole

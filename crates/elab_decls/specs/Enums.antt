@@ -1,14 +1,14 @@
 -- The value that is written for an enumerator, with its place.
 use Rattle.std.specs.Prelude.{ℤ, Result, Ok}
 use Rattle.cpp_types.specs.declared.classes.At.{At}
-use Rattle.cpp_lex.specs.Tokens.{Lexeme}
-use Rattle.cpp_ast.specs.Trees as syntax
+use Rattle.elab_expr.specs.cpp_lex.Tokens.{Lexeme}
+use Rattle.elab_expr.specs.cpp_ast.Trees as syntax
 use Rattle.std.specs.Prelude.{List}
-use Rattle.cpp_tree.specs.declared.faults.ElabFault.{ElabFault}
-use Rattle.elab_ctx.specs.Ctx.{Ctx, Work}
-use Rattle.elab_ctx.specs.Steps.{and_then, Typed}
-use Rattle.elab_rules.specs.Expressions.{expression_of, chosen_operand}
-use Rattle.elab_rules.specs.Globals.{enumerator_value}
+use Rattle.elab_expr.specs.cpp_tree.declared.faults.ElabFault.{ElabFault}
+use Rattle.elab_expr.specs.elab_ctx.Ctx.{Ctx, Work}
+use Rattle.elab_expr.specs.elab_ctx.Steps.{and_then, Typed}
+use Rattle.elab_expr.specs.elab_rules.Expressions.{expression_of, chosen_operand}
+use Rattle.elab_expr.specs.elab_rules.Globals.{enumerator_value}
 use Rattle.elab_decls.specs.declared.enums.Valued.{Valued as ValuedRec}
 
 pub record Valued : Type 0 where

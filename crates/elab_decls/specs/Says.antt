@@ -1,30 +1,30 @@
 -- What the records of the code show, and what answers say.
 use Rattle.std.specs.Prelude.{ℕ, zero, suc, pred, ℤ, Bool, true, false, not, ◌&&◌, ◌||◌, List, [], ◌∷◌, ◌++◌, length, Option, Some, None, Result, Ok, slice_get, slice_set, unwrap_or, if◌then◌else◌}
-use Rattle.tx_ints.specs.declared.kinds.IntKind.TheVariants.{Int}
+use Rattle.elab_expr.specs.tx_ints.declared.kinds.IntKind.TheVariants.{Int}
 use Rattle.cpp_types.specs.Typ.{Typ, int}
 use Rattle.cpp_types.specs.declared.classes.At.{At}
-use Rattle.cpp_tree.specs.declared.program.Linkage.{Linkage}
-use Rattle.cpp_tree.specs.declared.program.Linkage.TheVariants.{Internal, External}
-use Rattle.cpp_tree.specs.declared.faults.ElabFault.{ElabFault}
-use Rattle.cpp_tree.specs.declared.faults.IllRule.TheVariants.{Redeclared, BadDeclaration, OutOfProfile, Incomplete, NotConstant}
-use Rattle.cpp_tree.specs.Units.{Cell}
-use Rattle.cpp_tree.specs.Notation.{plain}
-use Rattle.elab_ctx.specs.Ctx.{Ctx, Work, Enumerator, ctx_of, work_of}
+use Rattle.elab_expr.specs.cpp_tree.declared.program.Linkage.{Linkage}
+use Rattle.elab_expr.specs.cpp_tree.declared.program.Linkage.TheVariants.{Internal, External}
+use Rattle.elab_expr.specs.cpp_tree.declared.faults.ElabFault.{ElabFault}
+use Rattle.elab_expr.specs.cpp_tree.declared.faults.IllRule.TheVariants.{Redeclared, BadDeclaration, OutOfProfile, Incomplete, NotConstant}
+use Rattle.elab_expr.specs.cpp_tree.Units.{Cell}
+use Rattle.elab_expr.specs.cpp_tree.Notation.{plain}
+use Rattle.elab_expr.specs.elab_ctx.Ctx.{Ctx, Work, Enumerator, ctx_of, work_of}
 use Rattle.cpp_types.specs.Class.{held}
-use Rattle.cpp_lex.specs.Tokens.{Lexeme}
-use Rattle.cpp_ast.specs.Trees as syntax
-use Rattle.elab_ctx.specs.Steps.{and_then, check, Made}
-use Rattle.elab_ctx.specs.declared.env.Env.{Env}
-use Rattle.elab_ctx.specs.declared.env.Work.{Work as WorkRec}
-use Rattle.cpp_names.specs.Names.{with_name}
-use Rattle.cpp_names.specs.declared.entity.Entity.{Entity}
-use Rattle.cpp_names.specs.declared.entity.EntityKind.TheVariants as entities
-use Rattle.elab_rules.specs.Functions.{Storage, Header, Placed, dynamic_fits, may_be_c, name_declared, new_function}
-use Rattle.elab_rules.specs.Statements.{State, Body}
-use Rattle.elab_rules.specs.Objects.{element_of}
-use Rattle.elab_rules.specs.Initialising.{class_number}
-use Rattle.elab_rules.specs.Operators.{is_complete}
-use Rattle.elab_rules.specs.Globals.{PlacedGlobal, Enumerating, new_global, no_global_storage, is_trivial_class, cells_of, global_object}
+use Rattle.elab_expr.specs.cpp_lex.Tokens.{Lexeme}
+use Rattle.elab_expr.specs.cpp_ast.Trees as syntax
+use Rattle.elab_expr.specs.elab_ctx.Steps.{and_then, check, Made}
+use Rattle.elab_expr.specs.elab_ctx.declared.env.Env.{Env}
+use Rattle.elab_expr.specs.elab_ctx.declared.env.Work.{Work as WorkRec}
+use Rattle.elab_expr.specs.cpp_names.Names.{with_name}
+use Rattle.elab_expr.specs.cpp_names.declared.entity.Entity.{Entity}
+use Rattle.elab_expr.specs.cpp_names.declared.entity.EntityKind.TheVariants as entities
+use Rattle.elab_expr.specs.elab_rules.Functions.{Storage, Header, Placed, dynamic_fits, may_be_c, name_declared, new_function}
+use Rattle.elab_expr.specs.elab_rules.Statements.{State, Body}
+use Rattle.elab_expr.specs.elab_rules.Objects.{element_of}
+use Rattle.elab_expr.specs.elab_rules.Initialising.{class_number}
+use Rattle.elab_expr.specs.elab_rules.Operators.{is_complete}
+use Rattle.elab_expr.specs.elab_rules.Globals.{PlacedGlobal, Enumerating, new_global, no_global_storage, is_trivial_class, cells_of, global_object}
 use Rattle.elab_braces.specs.Forms.{object_by}
 
 -- what is known and made, beside bodies that a declaration leaves as they are

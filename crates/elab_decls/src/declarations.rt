@@ -2,26 +2,24 @@
 
 ghost use Rattle.std.specs.Prelude.{◌≡◌, List, map, length, IfOk, OnOk};
 ghost use Rattle.cpp_types.specs.Typ.{Typ, typ_of};
-ghost use Rattle.cpp_tree.specs.Typing.{form_in};
-ghost use Rattle.cpp_tree.specs.Units.{cell_of, global_of};
-ghost use Rattle.cpp_names.specs.Names.{innermost_of};
-ghost use Rattle.elab_ctx.specs.Ctx.{Ctx, Work as WorkOf, ctx_of, work_of, special_of};
-ghost use Rattle.elab_ctx.specs.Says.{Tells};
-ghost use Rattle.elab_rules.specs.Statements.{Body, is_bounded, is_trivial};
-ghost use Rattle.elab_rules.specs.Globals.{is_trivial_class, is_constant_object, is_internal_linkage, not_void, global_linkage, new_global, global_agrees, global_again, global_named, global_declarable};
-ghost use Rattle.elab_types.specs.Shown.{Says};
+ghost use Rattle.elab_expr.specs.cpp_tree.Typing.{form_in};
+ghost use Rattle.elab_expr.specs.cpp_tree.Units.{cell_of, global_of};
+ghost use Rattle.elab_expr.specs.cpp_names.Names.{innermost_of};
+ghost use Rattle.elab_expr.specs.elab_ctx.Ctx.{Ctx, Work as WorkOf, ctx_of, work_of, special_of};
+ghost use Rattle.elab_expr.specs.elab_ctx.Says.{Tells};
+ghost use Rattle.elab_expr.specs.elab_rules.Statements.{Body, is_bounded, is_trivial};
+ghost use Rattle.elab_expr.specs.elab_rules.Globals.{is_trivial_class, is_constant_object, is_internal_linkage, not_void, global_linkage, new_global, global_agrees, global_again, global_named, global_declarable};
+ghost use Rattle.elab_expr.specs.elab_types.Shown.{Says};
 ghost use Rattle.class_members.specs.Shown.{storage_of};
 ghost use Rattle.elab_decls.specs.Says.{state_of, placed_in, with_global, with_cells, declared_as, linkage_by};
 
 use class_members::Storage;
-use cpp_names::{Entity, EntityKind, NameFault};
-use cpp_tree::{ElabFault, IllRule, InitCell, Linkage, TGlobal};
 use cpp_types::{At, Shape, Ty, copy, equal_types};
-use elab_ctx::{Env, Special, Work};
-use elab_init::{element_type, traits_at};
+use elab_expr::below::{
+    ElabFault, Entity, EntityKind, Env, IllRule, InitCell, Linkage, NameFault, Special, TGlobal,
+    Work, element_type, has_auto, ill, traits_at,
+};
 use elab_sizes::typ_sized;
-use elab_types::specifiers::ill;
-use elab_types::types::has_auto;
 use std::alloc::{AllocError, Global};
 
 // Whether a special member does to each part what is to be done.

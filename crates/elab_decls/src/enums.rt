@@ -1,37 +1,32 @@
 // Enums as they are written (C++14 7.2).
 
 ghost use Rattle.std.specs.Prelude.{◌≡◌, ◌<◌, List, length, true, pos};
-ghost use Rattle.cpp_lex.specs.Tokens.{lexemes_of};
-ghost use Rattle.cpp_ast.specs.Orders.{are_below};
+ghost use Rattle.elab_expr.specs.cpp_lex.Tokens.{lexemes_of};
+ghost use Rattle.elab_expr.specs.cpp_ast.Orders.{are_below};
 ghost use Rattle.cpp_types.specs.declared.classes.At.{At as AtOf};
-ghost use Rattle.cpp_tree.specs.Arena.{trees_of};
-ghost use Rattle.cpp_tree.specs.Units.{global_of};
-ghost use Rattle.elab_ctx.specs.Ctx.{ctx_of, work_of};
-ghost use Rattle.elab_ctx.specs.Operands.{operand_in};
-ghost use Rattle.elab_ctx.specs.Says.{Tells};
-ghost use Rattle.elab_rules.specs.Statements.{Body};
-ghost use Rattle.elab_rules.specs.Globals.{enumerator_value, enumerator_declared as enumerator_declared_of, enumerators_declared as enumerators_declared_of, enum_with as enum_with_of, enum_declared as enum_declared_of};
-ghost use Rattle.elab_types.specs.Shown.{Says};
-ghost use Rattle.elab_types.specs.Syntax.{syntax_of, tree_at, trees_at};
+ghost use Rattle.elab_expr.specs.cpp_tree.Arena.{trees_of};
+ghost use Rattle.elab_expr.specs.cpp_tree.Units.{global_of};
+ghost use Rattle.elab_expr.specs.elab_ctx.Ctx.{ctx_of, work_of};
+ghost use Rattle.elab_expr.specs.elab_ctx.Operands.{operand_in};
+ghost use Rattle.elab_expr.specs.elab_ctx.Says.{Tells};
+ghost use Rattle.elab_expr.specs.elab_rules.Statements.{Body};
+ghost use Rattle.elab_expr.specs.elab_rules.Globals.{enumerator_value, enumerator_declared as enumerator_declared_of, enumerators_declared as enumerators_declared_of, enum_with as enum_with_of, enum_declared as enum_declared_of};
+ghost use Rattle.elab_expr.specs.elab_types.Shown.{Says};
+ghost use Rattle.elab_expr.specs.elab_types.Syntax.{syntax_of, tree_at, trees_at};
 ghost use Rattle.class_members.specs.Shown.{Answers};
 ghost use Rattle.elab_decls.specs.Says.{changed, counted};
 ghost use Rattle.elab_decls.specs.Enums.{valued_shown, found_value as found_value_of, written_value as written_value_of};
 
 use crate::names::{close_enum, count_enumerators, enum_named, enum_type, enumerator_made};
 use crate::scratch::copy_work;
-use cpp_ast::{NodeId, NodeKind, Nodes};
-use cpp_lex::Tokens;
-use cpp_tree::{ElabFault, IllRule, TNode};
 use cpp_types::At;
-use elab_consts::constant;
-use elab_ctx::{Env, Operand, Work, node_at as typed_node_at};
+use elab_expr::below::{
+    ElabFault, Env, IllRule, NodeId, NodeKind, Nodes, Operand, TNode, Tokens, Work, arithmetic,
+    constant, elab_types_node_at as node_at, first_kid, ill, node_at as typed_node_at, place,
+    spelling, value, value_of_word,
+};
 use elab_expr::chosen_expression;
-use elab_ops::operands::{arithmetic, value};
-use elab_types::kids::first_kid;
-use elab_types::specifiers::ill;
-use elab_types::syntax::{node_at, place, spelling};
 use std::alloc::Global;
-use tx_ints::value_of_word;
 
 /// The value of an enumerator, and where it stands.
 #[derive(Clone, Copy)]

@@ -2,18 +2,18 @@
 
 ghost use Rattle.std.specs.Prelude.{◌≡◌, ◌&&◌, ◌||◌, not, map, length, codes, is_some, is_none, IfOk, OnOk};
 ghost use Rattle.std.specs.Str.{bytes_eq};
-ghost use Rattle.tx_ints.specs.declared.kinds.IntKind.TheVariants.{Int};
+ghost use Rattle.elab_expr.specs.tx_ints.declared.kinds.IntKind.TheVariants.{Int};
 ghost use Rattle.cpp_types.specs.Typ.{int, typ_of, signature_of};
 ghost use Rattle.cpp_types.specs.Equal.{typ_eq};
-ghost use Rattle.cpp_tree.specs.Notation.{plain};
-ghost use Rattle.elab_ctx.specs.Steps.{check as check_of};
-ghost use Rattle.elab_rules.specs.Initialising.{signature_parameters, signature_result};
+ghost use Rattle.elab_expr.specs.cpp_tree.Notation.{plain};
+ghost use Rattle.elab_expr.specs.elab_ctx.Steps.{check as check_of};
+ghost use Rattle.elab_expr.specs.elab_rules.Initialising.{signature_parameters, signature_result};
 ghost use Rattle.cpp_types.specs.Class.{function_of};
-ghost use Rattle.cpp_tree.specs.Units.{param_of};
-ghost use Rattle.elab_ctx.specs.Ctx.{ctx_of, func_of};
-ghost use Rattle.elab_ctx.specs.Says.{Tells};
-ghost use Rattle.elab_rules.specs.Functions.{safety_of as safety_of_of, same_safety as same_safety_of, linkage_of as linkage_of_of, is_internal as is_internal_of, is_same_function as is_same_function_of, first_from, agrees as agrees_of, param_of as declared_param, function_record as function_record_of, new_function as new_function_of, main_fits as main_fits_of, is_main_type as is_main_type_of, is_none_typs, may_be_c as may_be_c_of, is_function_entity as is_function_entity_of, name_declared as name_declared_of, function_declared as function_declared_of, with_definition as with_definition_of};
-ghost use Rattle.elab_types.specs.Shown.{Says, parameter_of, qualifiers_of};
+ghost use Rattle.elab_expr.specs.cpp_tree.Units.{param_of};
+ghost use Rattle.elab_expr.specs.elab_ctx.Ctx.{ctx_of, func_of};
+ghost use Rattle.elab_expr.specs.elab_ctx.Says.{Tells};
+ghost use Rattle.elab_expr.specs.elab_rules.Functions.{safety_of as safety_of_of, same_safety as same_safety_of, linkage_of as linkage_of_of, is_internal as is_internal_of, is_same_function as is_same_function_of, first_from, agrees as agrees_of, param_of as declared_param, function_record as function_record_of, new_function as new_function_of, main_fits as main_fits_of, is_main_type as is_main_type_of, is_none_typs, may_be_c as may_be_c_of, is_function_entity as is_function_entity_of, name_declared as name_declared_of, function_declared as function_declared_of, with_definition as with_definition_of};
+ghost use Rattle.elab_expr.specs.elab_types.Shown.{Says, parameter_of, qualifiers_of};
 ghost use Rattle.class_members.specs.Shown.{Answers, header_of, storage_of};
 ghost use Rattle.elab_decls.specs.Says.{with_exceptions, words_fit as words_fit_of, newly_declared, placed_at};
 
@@ -21,15 +21,12 @@ use crate::declarations::declare;
 use class_members::lists::{add_function, keep_param};
 use class_members::overriding::{same_flag, same_parameters};
 use class_members::{Header, Storage, header_sized};
-use cpp_names::{Entity, EntityKind};
-use cpp_tree::{ElabFault, IllRule, Linkage, OverrideRule, TParam};
 use cpp_types::{At, FnTy, FuncRec, Safety, Shape, Ty, copy, copy_function, equal_types};
-use elab_ctx::{Env, FuncDecl};
-use elab_names::captures::is_same_variable;
-use elab_types::specifiers::ill;
-use elab_types::{Parameter, Qualifiers};
+use elab_expr::below::{
+    ElabFault, Entity, EntityKind, Env, FuncDecl, IllRule, IntKind, Linkage, OverrideRule,
+    Parameter, Qualifiers, TParam, ill, is_same_variable,
+};
 use std::alloc::{AllocError, Global};
-use tx_ints::IntKind;
 
 fn safety_of(qualifiers: Qualifiers) -> Safety
     ensures { result ≡ safety_of_of (qualifiers_of qualifiers) }

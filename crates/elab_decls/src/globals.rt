@@ -1,16 +1,16 @@
 // Variables at file scope, with their initialisers (C++14 3.6.2, 8.5).
 
 ghost use Rattle.std.specs.Prelude.{◌≡◌, ◌<◌, List, map, length, true, IfOk};
-ghost use Rattle.cpp_lex.specs.Tokens.{lexemes_of};
-ghost use Rattle.cpp_ast.specs.Orders.{are_below};
-ghost use Rattle.cpp_ast.specs.Trees.{Tree};
+ghost use Rattle.elab_expr.specs.cpp_lex.Tokens.{lexemes_of};
+ghost use Rattle.elab_expr.specs.cpp_ast.Orders.{are_below};
+ghost use Rattle.elab_expr.specs.cpp_ast.Trees.{Tree};
 ghost use Rattle.cpp_types.specs.Typ.{Typ, typ_of};
-ghost use Rattle.cpp_tree.specs.Arena.{trees_of, tree_at as tree_in, Adds};
-ghost use Rattle.elab_ctx.specs.Ctx.{ctx_of, work_of};
-ghost use Rattle.elab_ctx.specs.Says.{Makes, Tells};
-ghost use Rattle.elab_rules.specs.Statements.{Body};
-ghost use Rattle.elab_rules.specs.Globals.{global_object as global_object_of, global_declared as global_declared_of, is_definition as is_definition_of};
-ghost use Rattle.elab_types.specs.Syntax.{syntax_of, trees_at};
+ghost use Rattle.elab_expr.specs.cpp_tree.Arena.{trees_of, tree_at as tree_in, Adds};
+ghost use Rattle.elab_expr.specs.elab_ctx.Ctx.{ctx_of, work_of};
+ghost use Rattle.elab_expr.specs.elab_ctx.Says.{Makes, Tells};
+ghost use Rattle.elab_expr.specs.elab_rules.Statements.{Body};
+ghost use Rattle.elab_expr.specs.elab_rules.Globals.{global_object as global_object_of, global_declared as global_declared_of, is_definition as is_definition_of};
+ghost use Rattle.elab_expr.specs.elab_types.Syntax.{syntax_of, trees_at};
 ghost use Rattle.elab_braces.specs.Forms.{object_by as object_by_of};
 ghost use Rattle.class_members.specs.Shown.{Answers, storage_of};
 ghost use Rattle.elab_decls.specs.Says.{definable as definable_of, celled as celled_of, global_made as global_made_of, state_of};
@@ -18,17 +18,13 @@ ghost use Rattle.elab_decls.specs.Says.{definable as definable_of, celled as cel
 use crate::declarations::{define_global, global_declarable, global_named, is_trivial_class};
 use crate::scratch::copy_types;
 use class_members::Storage;
-use cpp_ast::{NodeId, Nodes};
-use cpp_lex::Tokens;
-use cpp_tree::{ElabFault, IllRule, TKind, TNode, TNodeId, add_leaf};
 use cpp_types::{At, Cat, Ty, copy};
 use elab_braces::object_by;
-use elab_ctx::{Env, Work};
+use elab_expr::below::{
+    ElabFault, Env, IllRule, NodeId, Nodes, TKind, TNode, TNodeId, Tokens, Work, add_leaf,
+    class_number, element_type, first_kid, ill, is_complete_type,
+};
 use elab_globals::cells_of;
-use elab_init::{class_number, element_type};
-use elab_types::kids::first_kid;
-use elab_types::specifiers::ill;
-use elab_types::types::is_complete_type;
 use std::alloc::{AllocError, Global};
 
 // The object of a global.

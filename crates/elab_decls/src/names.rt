@@ -1,31 +1,29 @@
 // Names of types: aliases (C++14 7.1.3), and enums with their enumerators (7.2).
 
 ghost use Rattle.std.specs.Prelude.{◌≡◌, ◌<◌, List, map, length, true, Some, None, is_none, if◌then◌else◌, IfOk, OnOk, IfErr, Ok};
-ghost use Rattle.tx_ints.specs.Words.{word_of};
+ghost use Rattle.elab_expr.specs.tx_ints.Words.{word_of};
 ghost use Rattle.cpp_types.specs.Typ.{typ_of, enum};
-ghost use Rattle.cpp_names.specs.Names.{innermost_of};
-ghost use Rattle.cpp_names.specs.declared.entity.EntityKind.TheVariants as entities;
-ghost use Rattle.cpp_tree.specs.Notation.{plain};
-ghost use Rattle.elab_ctx.specs.Ctx.{Work, ctx_of, enumerator_of};
-ghost use Rattle.elab_ctx.specs.Says.{Faults, Tells};
-ghost use Rattle.elab_rules.specs.Values.{int_type as type_of_int};
-ghost use Rattle.elab_rules.specs.Types.{type_named as type_called};
-ghost use Rattle.elab_rules.specs.Expressions.{scope_name as name_in_scope};
-ghost use Rattle.elab_rules.specs.Statements.{Body};
-ghost use Rattle.elab_rules.specs.Globals.{type_agrees as agrees, with_type as with_type_of, alias_declared as alias, enumerator_made as enumerator, closed_enum, typed_from};
-ghost use Rattle.elab_types.specs.Shown.{Says};
+ghost use Rattle.elab_expr.specs.cpp_names.Names.{innermost_of};
+ghost use Rattle.elab_expr.specs.cpp_names.declared.entity.EntityKind.TheVariants as entities;
+ghost use Rattle.elab_expr.specs.cpp_tree.Notation.{plain};
+ghost use Rattle.elab_expr.specs.elab_ctx.Ctx.{Work, ctx_of, enumerator_of};
+ghost use Rattle.elab_expr.specs.elab_ctx.Says.{Faults, Tells};
+ghost use Rattle.elab_expr.specs.elab_rules.Values.{int_type as type_of_int};
+ghost use Rattle.elab_expr.specs.elab_rules.Types.{type_named as type_called};
+ghost use Rattle.elab_expr.specs.elab_rules.Expressions.{scope_name as name_in_scope};
+ghost use Rattle.elab_expr.specs.elab_rules.Statements.{Body};
+ghost use Rattle.elab_expr.specs.elab_rules.Globals.{type_agrees as agrees, with_type as with_type_of, alias_declared as alias, enumerator_made as enumerator, closed_enum, typed_from};
+ghost use Rattle.elab_expr.specs.elab_types.Shown.{Says};
 ghost use Rattle.elab_decls.specs.Says.{changed, counted, declared_as, is_fresh_type, more_enumerators, named_again, with_names, with_typ};
 
 use crate::declarations::declare;
-use cpp_names::{Entity, EntityKind};
-use cpp_tree::{ElabFault, IllRule};
 use cpp_types::{At, Shape, Ty, copy, equal_types};
-use elab_ctx::{EnumRec, Env, TypeName};
+use elab_expr::below::{
+    ElabFault, Entity, EntityKind, EnumRec, Env, IllRule, IntKind, TypeName, has_auto, ill,
+    type_named, word_of,
+};
 use elab_sizes::typ_sized;
-use elab_types::specifiers::ill;
-use elab_types::types::{has_auto, type_named};
 use std::alloc::{AllocError, Global};
-use tx_ints::{IntKind, word_of};
 
 // Tests that a name that stands for a type already stands for this one.
 fn type_agrees(env: &Env, at: At, name: &[u8], ty: &Ty) -> Result<bool, ElabFault>

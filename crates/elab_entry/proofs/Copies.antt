@@ -4,16 +4,16 @@ use Rattle.std.specs.declared.alloc.AllocError.{AllocError}
 use Rattle.cpp_types.specs.Typ.{Typ}
 use Rattle.cpp_types.specs.declared.classes.At.{At}
 use Rattle.cpp_types.specs.declared.ranks.Cat.{Cat}
-use Rattle.cpp_tree.specs.declared.kinds.TKind.{TKind}
-use Rattle.cpp_tree.specs.declared.kinds.TKind.TheVariants.{Literal}
-use Rattle.cpp_tree.specs.declared.arena.TNodeId.{TNodeId}
-use Rattle.cpp_tree.specs.Trees.{Tree, node, Trees, more, kind_of, typ_in, cat_of, kids_of}
-use Rattle.cpp_tree.specs.Arena.{tree_at, trees_at, Adds}
-use Rattle.elab_ctx.specs.Says.{place_in, AddsAll}
-use Rattle.elab_ctx.proofs.Looks.{grows_refl}
-use Rattle.elab_ctx.proofs.Making.{last_adds}
-use Rattle.elab_init.proofs.Listing.{Adding, adding_one, adding_done, drop_step, drop_past}
-use Rattle.elab_rules.specs.Functions.{void_at, untyped, all_untyped}
+use Rattle.elab_stmt.specs.cpp_tree.declared.kinds.TKind.{TKind}
+use Rattle.elab_stmt.specs.cpp_tree.declared.kinds.TKind.TheVariants.{Literal}
+use Rattle.elab_stmt.specs.cpp_tree.declared.arena.TNodeId.{TNodeId}
+use Rattle.elab_stmt.specs.cpp_tree.Trees.{Tree, node, Trees, more, kind_of, typ_in, cat_of, kids_of}
+use Rattle.elab_stmt.specs.cpp_tree.Arena.{tree_at, trees_at, Adds}
+use Rattle.elab_stmt.specs.elab_ctx.Says.{place_in, AddsAll}
+use Rattle.elab_stmt.proofs.elab_ctx.Looks.{grows_refl}
+use Rattle.elab_stmt.proofs.elab_ctx.Making.{last_adds}
+use Rattle.elab_stmt.proofs.elab_init.Listing.{Adding, adding_one, adding_done, drop_step, drop_past}
+use Rattle.elab_stmt.specs.elab_rules.Functions.{void_at, untyped, all_untyped}
 use Rattle.elab_entry.specs.Ends.{is_literal}
 
 node_is : (t : Tree) → t ≡ node (kind_of t) (typ_in t) (cat_of t) (place_in t) (kids_of t)

@@ -2,20 +2,20 @@
 use Rattle.std.proofs.Common.{◌≡◌, ℕ, List, [], map, take, sym, ap, ◌∙◌, Vec, Global}
 use Rattle.std.proofs.lemmas.List.{take-map}
 use Rattle.cpp_types.specs.Class.{Class}
-use Rattle.cpp_tree.specs.declared.arena.TNode.{TNode}
-use Rattle.cpp_tree.specs.declared.program.SlotRec.{SlotRec}
-use Rattle.cpp_tree.specs.declared.program.TGlobal.{TGlobal}
-use Rattle.cpp_tree.specs.Arena.{trees_of}
-use Rattle.cpp_tree.specs.Units.{Global as GlobalObject, global_of, SlotFunc, slot_of}
-use Rattle.elab_ctx.specs.declared.env.Traits.{Traits as TraitsRec}
-use Rattle.elab_ctx.specs.declared.env.DefaultInit.{DefaultInit}
-use Rattle.elab_ctx.specs.declared.env.FuncDecl.{FuncDecl}
-use Rattle.elab_ctx.specs.declared.env.Closure.{Closure as ClosureRec}
-use Rattle.elab_ctx.specs.Ctx.{Ctx, Traits, Default, Func, Closure, ctx_of, work_of, traits_of, default_of, func_of, closure_of}
-use Rattle.elab_rules.specs.Statements.{Body, State}
-use Rattle.elab_scopes.specs.declared.state.State.{State as StateRec}
-use Rattle.elab_scopes.specs.declared.state.Body.{Body as BodyRec}
-use Rattle.elab_scopes.specs.States.{body_of}
+use Rattle.elab_stmt.specs.cpp_tree.declared.arena.TNode.{TNode}
+use Rattle.elab_stmt.specs.cpp_tree.declared.program.SlotRec.{SlotRec}
+use Rattle.elab_stmt.specs.cpp_tree.declared.program.TGlobal.{TGlobal}
+use Rattle.elab_stmt.specs.cpp_tree.Arena.{trees_of}
+use Rattle.elab_stmt.specs.cpp_tree.Units.{Global as GlobalObject, global_of, SlotFunc, slot_of}
+use Rattle.elab_stmt.specs.elab_ctx.declared.env.Traits.{Traits as TraitsRec}
+use Rattle.elab_stmt.specs.elab_ctx.declared.env.DefaultInit.{DefaultInit}
+use Rattle.elab_stmt.specs.elab_ctx.declared.env.FuncDecl.{FuncDecl}
+use Rattle.elab_stmt.specs.elab_ctx.declared.env.Closure.{Closure as ClosureRec}
+use Rattle.elab_stmt.specs.elab_ctx.Ctx.{Ctx, Traits, Default, Func, Closure, ctx_of, work_of, traits_of, default_of, func_of, closure_of}
+use Rattle.elab_stmt.specs.elab_rules.Statements.{Body, State}
+use Rattle.elab_stmt.specs.elab_scopes.declared.state.State.{State as StateRec}
+use Rattle.elab_stmt.specs.elab_scopes.declared.state.Body.{Body as BodyRec}
+use Rattle.elab_stmt.specs.elab_scopes.States.{body_of}
 use Rattle.elab_entry.specs.declared.undoing.Checkpoint.{Checkpoint}
 use Rattle.elab_entry.specs.Undone.{undone}
 

@@ -4,19 +4,19 @@ use Rattle.std.specs.declared.alloc.AllocError.{AllocError}
 use Rattle.cpp_types.specs.Typ.{Typ, void}
 use Rattle.cpp_types.specs.declared.ranks.Cat.TheVariants.{Prvalue}
 use Rattle.cpp_types.specs.declared.classes.At.{At}
-use Rattle.cpp_tree.specs.declared.kinds.TKind.TheVariants as forms
-use Rattle.cpp_tree.specs.declared.arena.TNodeId.{TNodeId}
-use Rattle.cpp_tree.specs.Trees.{Tree, node, Trees, none, one, two}
-use Rattle.cpp_tree.specs.Notation.{plain}
-use Rattle.cpp_tree.specs.Typing.{is_void, is_class_typ, unqualified}
-use Rattle.cpp_tree.specs.Arena.{tree_at, trees_at, Adds}
-use Rattle.elab_ctx.specs.Ctx.{Ctx}
-use Rattle.elab_ctx.specs.Says.{are_within, AddsAll}
-use Rattle.elab_ctx.proofs.Looks.{grows_refl, grows_trans, at_grown}
-use Rattle.elab_ctx.proofs.Making.{adds_after, last_adds}
-use Rattle.elab_init.proofs.Listing.{adds_more, adds_one, followed_twice, followed_none}
-use Rattle.elab_rules.specs.Objects.{followed_by, zeros}
-use Rattle.elab_rules.specs.Functions.{void_at, untyped, result_zeroed, end_of}
+use Rattle.elab_stmt.specs.cpp_tree.declared.kinds.TKind.TheVariants as forms
+use Rattle.elab_stmt.specs.cpp_tree.declared.arena.TNodeId.{TNodeId}
+use Rattle.elab_stmt.specs.cpp_tree.Trees.{Tree, node, Trees, none, one, two}
+use Rattle.elab_stmt.specs.cpp_tree.Notation.{plain}
+use Rattle.elab_stmt.specs.cpp_tree.Typing.{is_void, is_class_typ, unqualified}
+use Rattle.elab_stmt.specs.cpp_tree.Arena.{tree_at, trees_at, Adds}
+use Rattle.elab_stmt.specs.elab_ctx.Ctx.{Ctx}
+use Rattle.elab_stmt.specs.elab_ctx.Says.{are_within, AddsAll}
+use Rattle.elab_stmt.proofs.elab_ctx.Looks.{grows_refl, grows_trans, at_grown}
+use Rattle.elab_stmt.proofs.elab_ctx.Making.{adds_after, last_adds}
+use Rattle.elab_stmt.proofs.elab_init.Listing.{adds_more, adds_one, followed_twice, followed_none}
+use Rattle.elab_stmt.specs.elab_rules.Objects.{followed_by, zeros}
+use Rattle.elab_stmt.specs.elab_rules.Functions.{void_at, untyped, result_zeroed, end_of}
 use Rattle.elab_entry.specs.Ends.{address_of, object_end, value_end}
 
 stand : (a : List Tree) (before : List TNodeId) → are_within (length a) before ≡ true → AddsAll a a before (trees_at a before)

@@ -1,9 +1,9 @@
 -- Into functions.
 use Rattle.std.proofs.Common.{◌≡◌, ◌++◌, ℕ, List, [], length, refl, ap, ◌∙◌, Option, Some, None}
 use Rattle.cpp_types.specs.Typ.{Typ}
-use Rattle.elab_ctx.specs.Ctx.{This, Returns, known, Lambda}
-use Rattle.elab_rules.specs.Statements.{State}
-use Rattle.elab_rules.specs.Functions.{result_items, this_items, this_at}
+use Rattle.elab_stmt.specs.elab_ctx.Ctx.{This, Returns, known, Lambda}
+use Rattle.elab_stmt.specs.elab_rules.Statements.{State}
+use Rattle.elab_stmt.specs.elab_rules.Functions.{result_items, this_items, this_at}
 use Rattle.elab_entry.specs.Round.{Round, round_function, round_lambda}
 use Rattle.elab_entry.specs.Bodies.{entered, entered_lambda, exchanged, object_at}
 

@@ -5,15 +5,15 @@ use Rattle.std.proofs.lemmas.Bool.Decides.{leb_tells}
 use Rattle.std.proofs.Math.Nat.{div-mul-le_self, le-div_iff_mul-le}
 use Rattle.cpp_types.specs.Typ.{Typ}
 use Rattle.cpp_types.specs.declared.classes.At.{At}
-use Rattle.cpp_tree.specs.declared.faults.ElabFault.TheVariants.{Limit}
-use Rattle.cpp_tree.specs.declared.faults.LimitKind.TheVariants.{Frame}
-use Rattle.elab_ctx.specs.Ctx.{Ctx}
-use Rattle.elab_rules.specs.Functions.{within_frame}
+use Rattle.elab_stmt.specs.cpp_tree.declared.faults.ElabFault.TheVariants.{Limit}
+use Rattle.elab_stmt.specs.cpp_tree.declared.faults.LimitKind.TheVariants.{Frame}
+use Rattle.elab_stmt.specs.elab_ctx.Ctx.{Ctx}
+use Rattle.elab_stmt.specs.elab_rules.Functions.{within_frame}
 use Rattle.cpp_types.specs.Typ.{typ_of}
 use Rattle.cpp_types.specs.Class.{Class}
 use Rattle.cpp_types.specs.declared.types.Ty.{Ty}
-use Rattle.cpp_layout.specs.Layout.{extent_of, end_from, next_multiple, frame_size}
-use Rattle.elab_init.proofs.Listing.{drop_step, drop_past}
+use Rattle.elab_stmt.specs.cpp_layout.Layout.{extent_of, end_from, next_multiple, frame_size}
+use Rattle.elab_stmt.proofs.elab_init.Listing.{drop_step, drop_past}
 
 pub end_next : (classes : List Class) (items : List Ty) (i end next total : ℕ) (item d : Ty) → end_from end (map (extent_of classes) (map typ_of (drop i items))) ≡ total → i < length items → item ≡ get_or items i d → next ≡ next_multiple end (extent_of classes (typ_of item)).align + (extent_of classes (typ_of item)).size → end_from next (map (extent_of classes) (map typ_of (drop (i + 1) items))) ≡ total
 end_next classes items i end next total item d h l e n =

@@ -1,12 +1,12 @@
 -- Scopes that are closed, and lists that are cut.
 use Rattle.std.proofs.Common.{◌≡◌, ℕ, suc, ◌-◌, ◌<◌, ◌≤◌, Bool, true, ◌↔◌, IsTrue, List, [], ◌∷◌, length, drop, refl, sym, ap, ◌∙◌, arith}
-use Rattle.cpp_names.specs.Names.{Names}
+use Rattle.elab_stmt.specs.cpp_names.Names.{Names}
 use Rattle.cpp_types.specs.Class.{Class, InOrder}
 use Rattle.cpp_types.specs.Order.{all_consistent}
 use Rattle.cpp_types.proofs.OrderTests.{order_is}
 use Rattle.cpp_types.specs.Typ.{Typ}
-use Rattle.elab_ctx.specs.Ctx.{Variable, Returns}
-use Rattle.elab_rules.specs.Statements.{State}
+use Rattle.elab_stmt.specs.elab_ctx.Ctx.{Variable, Returns}
+use Rattle.elab_stmt.specs.elab_rules.Statements.{State}
 use Rattle.elab_entry.specs.Round.{Round, scopes_by, variables_by, left_by}
 
 -- one more is closed

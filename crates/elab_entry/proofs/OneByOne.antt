@@ -1,23 +1,23 @@
 -- Parameters, one behind the other.
 use Rattle.std.proofs.Common.{◌≡◌, ℕ, ◌+◌, ◌<◌, ◌≤◌, Bool, List, ◌∷◌, length, map, drop, get_or, refl, sym, ap, ◌∙◌, Result, Ok, Err}
 use Rattle.cpp_types.specs.Class.{held}
-use Rattle.cpp_lex.specs.Tokens.{Lexeme}
-use Rattle.cpp_tree.specs.declared.faults.ElabFault.{ElabFault}
-use Rattle.cpp_tree.specs.declared.faults.IllRule.TheVariants.{Incomplete}
-use Rattle.elab_ctx.specs.Steps.{and_then, check}
-use Rattle.elab_ctx.specs.Says.{Faults}
-use Rattle.elab_ctx.proofs.Making.{faults_in, faults_same}
-use Rattle.elab_init.proofs.Listing.{drop_step, drop_past}
-use Rattle.elab_rules.specs.Operators.{is_complete}
-use Rattle.elab_rules.specs.Statements.{State}
-use Rattle.elab_rules.specs.Types.{Parameter}
-use Rattle.elab_rules.specs.Functions.{parameter_named, with_parameters}
-use Rattle.elab_types.specs.declared.records.Parameter.{Parameter as ParameterRec}
-use Rattle.elab_types.specs.Shown.{parameter_of}
-use Rattle.elab_scopes.specs.declared.state.State.{State as StateRec}
-use Rattle.elab_scopes.specs.States.{state_of, Grown}
-use Rattle.elab_scopes.specs.Says.{Changed}
-use Rattle.elab_scopes.proofs.Standing.{grown_refl, grown_trans}
+use Rattle.elab_stmt.specs.cpp_lex.Tokens.{Lexeme}
+use Rattle.elab_stmt.specs.cpp_tree.declared.faults.ElabFault.{ElabFault}
+use Rattle.elab_stmt.specs.cpp_tree.declared.faults.IllRule.TheVariants.{Incomplete}
+use Rattle.elab_stmt.specs.elab_ctx.Steps.{and_then, check}
+use Rattle.elab_stmt.specs.elab_ctx.Says.{Faults}
+use Rattle.elab_stmt.proofs.elab_ctx.Making.{faults_in, faults_same}
+use Rattle.elab_stmt.proofs.elab_init.Listing.{drop_step, drop_past}
+use Rattle.elab_stmt.specs.elab_rules.Operators.{is_complete}
+use Rattle.elab_stmt.specs.elab_rules.Statements.{State}
+use Rattle.elab_stmt.specs.elab_rules.Types.{Parameter}
+use Rattle.elab_stmt.specs.elab_rules.Functions.{parameter_named, with_parameters}
+use Rattle.elab_stmt.specs.elab_types.declared.records.Parameter.{Parameter as ParameterRec}
+use Rattle.elab_stmt.specs.elab_types.Shown.{parameter_of}
+use Rattle.elab_stmt.specs.elab_scopes.declared.state.State.{State as StateRec}
+use Rattle.elab_stmt.specs.elab_scopes.States.{state_of, Grown}
+use Rattle.elab_stmt.specs.elab_scopes.Says.{Changed}
+use Rattle.elab_stmt.proofs.elab_scopes.Standing.{grown_refl, grown_trans}
 use Rattle.elab_entry.specs.Parameters.{one_parameter}
 
 -- of steps `rest` is left, where the whole gives `x`

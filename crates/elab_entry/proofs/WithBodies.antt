@@ -3,32 +3,32 @@ use Rattle.std.proofs.Common.{◌≡◌, ℕ, Bool, true, false, List, [], refl,
 use Rattle.cpp_types.specs.Typ.{Typ}
 use Rattle.cpp_types.specs.Class.{held}
 use Rattle.cpp_types.specs.declared.classes.At.{At}
-use Rattle.cpp_lex.specs.Tokens.{Lexeme}
-use Rattle.cpp_ast.specs.Trees as syntax
-use Rattle.cpp_ast.specs.declared.arena.At.{At as SyntaxAt}
-use Rattle.cpp_ast.specs.declared.kinds.NodeKind.{NodeKind}
-use Rattle.cpp_tree.specs.declared.faults.ElabFault.{ElabFault}
-use Rattle.cpp_tree.specs.declared.faults.ElabFault.TheVariants.{Ill}
-use Rattle.cpp_tree.specs.declared.faults.IllRule.TheVariants.{Incomplete}
-use Rattle.cpp_tree.specs.declared.kinds.TKind.TheVariants as forms
-use Rattle.cpp_tree.specs.declared.arena.TNodeId.{TNodeId}
-use Rattle.cpp_tree.specs.Trees.{Tree, one}
-use Rattle.cpp_tree.specs.Arena.{tree_at, trees_at, Grows, Adds}
-use Rattle.elab_ctx.specs.Steps.{and_then, check, at_of}
-use Rattle.elab_ctx.specs.Says.{Faults}
-use Rattle.elab_ctx.proofs.Looks.{grows_refl}
-use Rattle.elab_ctx.proofs.Making.{faults_in, faults_same}
-use Rattle.elab_rules.specs.Objects.{followed_by}
-use Rattle.elab_rules.specs.Initialising.{signature_result}
-use Rattle.elab_rules.specs.Operators.{is_complete}
-use Rattle.elab_rules.specs.Statements.{State, Done, done, Lambdas, statements_of, statement, block, the_tree}
-use Rattle.elab_rules.specs.Types.{Parameter}
-use Rattle.elab_rules.specs.Functions.{Header, with_parameters, end_of}
-use Rattle.elab_scopes.specs.declared.state.State.{State as StateRec}
-use Rattle.elab_scopes.specs.States.{state_of, made, Grown}
-use Rattle.elab_scopes.specs.Says.{Changed, Changes, OneDone, AllDone, behind}
-use Rattle.elab_scopes.proofs.Standing.{grown_trans, grown_by, changes_after, one_after}
-use Rattle.elab_scopes.proofs.Behind.{behind_none}
+use Rattle.elab_stmt.specs.cpp_lex.Tokens.{Lexeme}
+use Rattle.elab_stmt.specs.cpp_ast.Trees as syntax
+use Rattle.elab_stmt.specs.cpp_ast.declared.arena.At.{At as SyntaxAt}
+use Rattle.elab_stmt.specs.cpp_ast.declared.kinds.NodeKind.{NodeKind}
+use Rattle.elab_stmt.specs.cpp_tree.declared.faults.ElabFault.{ElabFault}
+use Rattle.elab_stmt.specs.cpp_tree.declared.faults.ElabFault.TheVariants.{Ill}
+use Rattle.elab_stmt.specs.cpp_tree.declared.faults.IllRule.TheVariants.{Incomplete}
+use Rattle.elab_stmt.specs.cpp_tree.declared.kinds.TKind.TheVariants as forms
+use Rattle.elab_stmt.specs.cpp_tree.declared.arena.TNodeId.{TNodeId}
+use Rattle.elab_stmt.specs.cpp_tree.Trees.{Tree, one}
+use Rattle.elab_stmt.specs.cpp_tree.Arena.{tree_at, trees_at, Grows, Adds}
+use Rattle.elab_stmt.specs.elab_ctx.Steps.{and_then, check, at_of}
+use Rattle.elab_stmt.specs.elab_ctx.Says.{Faults}
+use Rattle.elab_stmt.proofs.elab_ctx.Looks.{grows_refl}
+use Rattle.elab_stmt.proofs.elab_ctx.Making.{faults_in, faults_same}
+use Rattle.elab_stmt.specs.elab_rules.Objects.{followed_by}
+use Rattle.elab_stmt.specs.elab_rules.Initialising.{signature_result}
+use Rattle.elab_stmt.specs.elab_rules.Operators.{is_complete}
+use Rattle.elab_stmt.specs.elab_rules.Statements.{State, Done, done, Lambdas, statements_of, statement, block, the_tree}
+use Rattle.elab_stmt.specs.elab_rules.Types.{Parameter}
+use Rattle.elab_stmt.specs.elab_rules.Functions.{Header, with_parameters, end_of}
+use Rattle.elab_stmt.specs.elab_scopes.declared.state.State.{State as StateRec}
+use Rattle.elab_stmt.specs.elab_scopes.States.{state_of, made, Grown}
+use Rattle.elab_stmt.specs.elab_scopes.Says.{Changed, Changes, OneDone, AllDone, behind}
+use Rattle.elab_stmt.proofs.elab_scopes.Standing.{grown_trans, grown_by, changes_after, one_after}
+use Rattle.elab_stmt.proofs.elab_scopes.Behind.{behind_none}
 use Rattle.elab_entry.specs.Round.{Round, round_function, left_by}
 use Rattle.elab_entry.specs.Says.{Listed}
 use Rattle.elab_entry.specs.Bodies.{entered, statements_in, body_kept, body_made, body_inside, function_body}

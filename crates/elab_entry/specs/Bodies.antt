@@ -3,21 +3,21 @@ use Rattle.std.specs.Prelude.{ℕ, false, List, [], ◌∷◌, ◌++◌, length,
 use Rattle.cpp_types.specs.Typ.{Typ, void, ptr}
 use Rattle.cpp_types.specs.Class.{held}
 use Rattle.cpp_types.specs.declared.classes.At.{At}
-use Rattle.cpp_lex.specs.Tokens.{Lexeme}
-use Rattle.cpp_ast.specs.Trees as syntax
-use Rattle.cpp_tree.specs.declared.kinds.TKind.TheVariants as forms
-use Rattle.cpp_tree.specs.declared.faults.ElabFault.{ElabFault}
-use Rattle.cpp_tree.specs.declared.faults.IllRule.TheVariants.{Incomplete}
-use Rattle.cpp_tree.specs.Trees.{Tree, one}
-use Rattle.cpp_tree.specs.Notation.{plain}
-use Rattle.elab_ctx.specs.declared.env.Label.TheVariants.{Outside}
-use Rattle.elab_ctx.specs.Ctx.{This, Returns, known, Lambda}
-use Rattle.elab_ctx.specs.Steps.{and_then, check, at_of}
-use Rattle.elab_rules.specs.Objects.{followed_by}
-use Rattle.elab_rules.specs.Initialising.{signature_result}
-use Rattle.elab_rules.specs.Operators.{is_complete}
-use Rattle.elab_rules.specs.Statements.{State, Done, done, Lambdas, statements_of, statement, no_labels}
-use Rattle.elab_rules.specs.Functions.{Header, result_items, this_items, this_at, with_parameters, end_of, within_frame}
+use Rattle.elab_stmt.specs.cpp_lex.Tokens.{Lexeme}
+use Rattle.elab_stmt.specs.cpp_ast.Trees as syntax
+use Rattle.elab_stmt.specs.cpp_tree.declared.kinds.TKind.TheVariants as forms
+use Rattle.elab_stmt.specs.cpp_tree.declared.faults.ElabFault.{ElabFault}
+use Rattle.elab_stmt.specs.cpp_tree.declared.faults.IllRule.TheVariants.{Incomplete}
+use Rattle.elab_stmt.specs.cpp_tree.Trees.{Tree, one}
+use Rattle.elab_stmt.specs.cpp_tree.Notation.{plain}
+use Rattle.elab_stmt.specs.elab_ctx.declared.env.Label.TheVariants.{Outside}
+use Rattle.elab_stmt.specs.elab_ctx.Ctx.{This, Returns, known, Lambda}
+use Rattle.elab_stmt.specs.elab_ctx.Steps.{and_then, check, at_of}
+use Rattle.elab_stmt.specs.elab_rules.Objects.{followed_by}
+use Rattle.elab_stmt.specs.elab_rules.Initialising.{signature_result}
+use Rattle.elab_stmt.specs.elab_rules.Operators.{is_complete}
+use Rattle.elab_stmt.specs.elab_rules.Statements.{State, Done, done, Lambdas, statements_of, statement, no_labels}
+use Rattle.elab_stmt.specs.elab_rules.Functions.{Header, result_items, this_items, this_at, with_parameters, end_of, within_frame}
 use Rattle.elab_entry.specs.Round.{Round, round_function, left_by}
 
 abbrev pub object_at : Option Typ → ℕ → Option This

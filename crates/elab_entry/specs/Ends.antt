@@ -1,15 +1,15 @@
 -- The end of a body, part by part.
 use Rattle.std.specs.Prelude.{Bool, true, false}
-use Rattle.tx_ints.specs.declared.kinds.IntKind.TheVariants.{ULong}
+use Rattle.elab_stmt.specs.tx_ints.declared.kinds.IntKind.TheVariants.{ULong}
 use Rattle.cpp_types.specs.Typ.{Typ, ptr}
 use Rattle.cpp_types.specs.declared.classes.At.{At}
 use Rattle.cpp_types.specs.declared.ranks.Cat.TheVariants.{Lvalue}
-use Rattle.cpp_tree.specs.declared.kinds.TKind.{TKind}
-use Rattle.cpp_tree.specs.declared.kinds.TKind.TheVariants as forms
-use Rattle.cpp_tree.specs.Notation.{plain}
-use Rattle.cpp_tree.specs.Trees.{Tree, node, Trees, none, one, two}
-use Rattle.elab_ctx.specs.Ctx.{Ctx}
-use Rattle.elab_rules.specs.Functions.{void_at, zero_result, result_zeroed}
+use Rattle.elab_stmt.specs.cpp_tree.declared.kinds.TKind.{TKind}
+use Rattle.elab_stmt.specs.cpp_tree.declared.kinds.TKind.TheVariants as forms
+use Rattle.elab_stmt.specs.cpp_tree.Notation.{plain}
+use Rattle.elab_stmt.specs.cpp_tree.Trees.{Tree, node, Trees, none, one, two}
+use Rattle.elab_stmt.specs.elab_ctx.Ctx.{Ctx}
+use Rattle.elab_stmt.specs.elab_rules.Functions.{void_at, zero_result, result_zeroed}
 
 abbrev pub is_literal : TKind → Bool
 is_literal (forms.Literal w) = true

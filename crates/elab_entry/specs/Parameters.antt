@@ -3,14 +3,14 @@ use Rattle.std.specs.Prelude.{ℕ, List, Result, Ok}
 use Rattle.cpp_types.specs.Typ.{Typ}
 use Rattle.cpp_types.specs.Class.{held}
 use Rattle.cpp_types.specs.declared.classes.At.{At}
-use Rattle.cpp_lex.specs.Tokens.{Lexeme}
-use Rattle.cpp_tree.specs.declared.faults.ElabFault.{ElabFault}
-use Rattle.cpp_tree.specs.declared.faults.IllRule.TheVariants.{Redeclared, Incomplete}
-use Rattle.elab_ctx.specs.Steps.{and_then, check, spelling}
-use Rattle.elab_rules.specs.Operators.{is_complete}
-use Rattle.elab_rules.specs.Statements.{State, is_fresh}
-use Rattle.elab_rules.specs.Types.{Parameter}
-use Rattle.elab_rules.specs.Functions.{with_parameter, parameter_named}
+use Rattle.elab_stmt.specs.cpp_lex.Tokens.{Lexeme}
+use Rattle.elab_stmt.specs.cpp_tree.declared.faults.ElabFault.{ElabFault}
+use Rattle.elab_stmt.specs.cpp_tree.declared.faults.IllRule.TheVariants.{Redeclared, Incomplete}
+use Rattle.elab_stmt.specs.elab_ctx.Steps.{and_then, check, spelling}
+use Rattle.elab_stmt.specs.elab_rules.Operators.{is_complete}
+use Rattle.elab_stmt.specs.elab_rules.Statements.{State, is_fresh}
+use Rattle.elab_stmt.specs.elab_rules.Types.{Parameter}
+use Rattle.elab_stmt.specs.elab_rules.Functions.{with_parameter, parameter_named}
 
 -- a parameter with the name that a token spells
 abbrev pub named_parameter : List Lexeme → State → At → Typ → ℕ → Result State ElabFault

@@ -1,12 +1,12 @@
 -- What is known round a function while it is read, and what stands behind it.
 use Rattle.std.specs.Prelude.{ℕ, ◌-◌, Bool, List, length, take, drop, Option, Some, None, map, option_map}
 use Rattle.cpp_types.specs.Typ.{Typ, typ_of}
-use Rattle.cpp_names.specs.Names.{Names}
-use Rattle.cpp_tree.specs.Trees.{Tree}
-use Rattle.cpp_tree.specs.Arena.{trees_of}
-use Rattle.elab_ctx.specs.declared.env.Label.{Label}
-use Rattle.elab_ctx.specs.Ctx.{Variable, This, Returns, Labels, Lambda, Closure, variable_of, this_of, returns_of, labels_of, lambda_of, closure_of}
-use Rattle.elab_rules.specs.Statements.{State}
+use Rattle.elab_stmt.specs.cpp_names.Names.{Names}
+use Rattle.elab_stmt.specs.cpp_tree.Trees.{Tree}
+use Rattle.elab_stmt.specs.cpp_tree.Arena.{trees_of}
+use Rattle.elab_stmt.specs.elab_ctx.declared.env.Label.{Label}
+use Rattle.elab_stmt.specs.elab_ctx.Ctx.{Variable, This, Returns, Labels, Lambda, Closure, variable_of, this_of, returns_of, labels_of, lambda_of, closure_of}
+use Rattle.elab_stmt.specs.elab_rules.Statements.{State}
 use Rattle.elab_entry.specs.declared.around.Around.{Around}
 
 -- what is known round a function

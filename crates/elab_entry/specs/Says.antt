@@ -1,13 +1,13 @@
 -- What an answer with a list of trees says.
 use Rattle.std.specs.Prelude.{◌≡◌, true, Vec, List, length, Result, Ok, Err}
 use Rattle.std.specs.declared.alloc.Global.{Global}
-use Rattle.cpp_tree.specs.declared.faults.ElabFault.{ElabFault}
-use Rattle.cpp_tree.specs.declared.arena.TNodeId.{TNodeId}
-use Rattle.cpp_tree.specs.Arena.{trees_at}
-use Rattle.elab_ctx.specs.Says.{Faults, are_within}
-use Rattle.elab_rules.specs.Statements.{Done, done}
-use Rattle.elab_scopes.specs.declared.state.State.{State as StateRec}
-use Rattle.elab_scopes.specs.States.{state_of, made, Grown}
+use Rattle.elab_stmt.specs.cpp_tree.declared.faults.ElabFault.{ElabFault}
+use Rattle.elab_stmt.specs.cpp_tree.declared.arena.TNodeId.{TNodeId}
+use Rattle.elab_stmt.specs.cpp_tree.Arena.{trees_at}
+use Rattle.elab_stmt.specs.elab_ctx.Says.{Faults, are_within}
+use Rattle.elab_stmt.specs.elab_rules.Statements.{Done, done}
+use Rattle.elab_stmt.specs.elab_scopes.declared.state.State.{State as StateRec}
+use Rattle.elab_stmt.specs.elab_scopes.States.{state_of, made, Grown}
 
 -- the trees of a list were made, and the state stands behind them
 pub record Listed (old new : StateRec) (ids : List TNodeId) (x : Result Done ElabFault) : Type 0 where

@@ -1,10 +1,10 @@
 -- What is made and not kept.
 use Rattle.std.specs.Prelude.{[], length, map, take}
-use Rattle.cpp_tree.specs.Arena.{trees_of}
-use Rattle.elab_ctx.specs.Ctx.{ctx_of, work_of, default_of}
-use Rattle.elab_rules.specs.Statements.{State}
-use Rattle.elab_scopes.specs.declared.state.State.{State as StateRec}
-use Rattle.elab_scopes.specs.States.{state_of}
+use Rattle.elab_stmt.specs.cpp_tree.Arena.{trees_of}
+use Rattle.elab_stmt.specs.elab_ctx.Ctx.{ctx_of, work_of, default_of}
+use Rattle.elab_stmt.specs.elab_rules.Statements.{State}
+use Rattle.elab_stmt.specs.elab_scopes.declared.state.State.{State as StateRec}
+use Rattle.elab_stmt.specs.elab_scopes.States.{state_of}
 use Rattle.elab_entry.specs.declared.undoing.Checkpoint.{Checkpoint}
 
 -- how much is known and made

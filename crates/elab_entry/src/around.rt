@@ -2,22 +2,20 @@
 
 ghost use Rattle.std.specs.Prelude.{◌≡◌, [], map, option_map, IfOk, OnOk};
 ghost use Rattle.cpp_types.specs.Typ.{void, typ_of};
-ghost use Rattle.cpp_tree.specs.Notation.{plain};
-ghost use Rattle.cpp_tree.specs.Arena.{trees_of};
-ghost use Rattle.elab_ctx.specs.Ctx.{variable_of, this_of, returns_of, labels_of, lambda_of};
-ghost use Rattle.elab_rules.specs.Functions.{result_items};
-ghost use Rattle.elab_rules.specs.Statements.{no_labels as no_labels_of};
-ghost use Rattle.elab_scopes.specs.States.{state_of, made};
+ghost use Rattle.elab_stmt.specs.cpp_tree.Notation.{plain};
+ghost use Rattle.elab_stmt.specs.cpp_tree.Arena.{trees_of};
+ghost use Rattle.elab_stmt.specs.elab_ctx.Ctx.{variable_of, this_of, returns_of, labels_of, lambda_of};
+ghost use Rattle.elab_stmt.specs.elab_rules.Functions.{result_items};
+ghost use Rattle.elab_stmt.specs.elab_rules.Statements.{no_labels as no_labels_of};
+ghost use Rattle.elab_stmt.specs.elab_scopes.States.{state_of, made};
 ghost use Rattle.elab_entry.specs.Round.{round_of, trees_round, round_function, round_lambda, scopes_by, variables_by, left_by};
 ghost use Rattle.elab_entry.specs.Bodies.{entered, entered_lambda, exchanged as exchanged_of, object_at as object_at_of};
 
 use crate::items::{first_items, this_place};
-use cpp_names::Scopes;
-use cpp_tree::TNode;
 use cpp_types::{Shape, Ty, copy};
-use elab_ctx::{Closure, Env, Label, Labels, Lambda, Returns, This, Variable};
-use elab_names::parts::plain_type;
-use elab_scopes::State;
+use elab_stmt::below::{
+    Closure, Env, Label, Labels, Lambda, Returns, Scopes, State, TNode, This, Variable, plain_type,
+};
 use std::alloc::{AllocError, Global};
 use std::mem;
 

@@ -3,19 +3,19 @@
 ghost use Rattle.std.specs.Prelude.{◌≡◌, ◌<◌, ◌+◌, ◌++◌, ◌∷◌, [], length, map, option_map, true, IfOk, OnOk};
 ghost use Rattle.cpp_types.specs.Typ.{typ_of};
 ghost use Rattle.cpp_types.specs.Class.{classes_of};
-ghost use Rattle.cpp_lex.specs.Tokens.{lexemes_of};
-ghost use Rattle.cpp_layout.specs.Layout.{extent_of, end_from, next_multiple};
-ghost use Rattle.cpp_tree.specs.Arena.{trees_of, tree_at, trees_at, Adds};
-ghost use Rattle.elab_ctx.specs.Ctx.{ctx_of};
-ghost use Rattle.elab_ctx.specs.Says.{Tells, are_within};
-ghost use Rattle.elab_rules.specs.Objects.{followed_by};
-ghost use Rattle.elab_rules.specs.Statements.{block as block_of};
-ghost use Rattle.elab_types.specs.Syntax.{syntax_of, tree_at as syntax_at};
-ghost use Rattle.elab_rules.specs.Initialising.{signature_result};
-ghost use Rattle.elab_rules.specs.Functions.{within_frame as within_frame_of, end_of as end_of_typ};
+ghost use Rattle.elab_stmt.specs.cpp_lex.Tokens.{lexemes_of};
+ghost use Rattle.elab_stmt.specs.cpp_layout.Layout.{extent_of, end_from, next_multiple};
+ghost use Rattle.elab_stmt.specs.cpp_tree.Arena.{trees_of, tree_at, trees_at, Adds};
+ghost use Rattle.elab_stmt.specs.elab_ctx.Ctx.{ctx_of};
+ghost use Rattle.elab_stmt.specs.elab_ctx.Says.{Tells, are_within};
+ghost use Rattle.elab_stmt.specs.elab_rules.Objects.{followed_by};
+ghost use Rattle.elab_stmt.specs.elab_rules.Statements.{block as block_of};
+ghost use Rattle.elab_stmt.specs.elab_types.Syntax.{syntax_of, tree_at as syntax_at};
+ghost use Rattle.elab_stmt.specs.elab_rules.Initialising.{signature_result};
+ghost use Rattle.elab_stmt.specs.elab_rules.Functions.{within_frame as within_frame_of, end_of as end_of_typ};
 ghost use Rattle.class_members.specs.Shown.{header_of};
-ghost use Rattle.elab_scopes.specs.States.{state_of, made, body_of};
-ghost use Rattle.elab_scopes.specs.Says.{Changes, Does};
+ghost use Rattle.elab_stmt.specs.elab_scopes.States.{state_of, made, body_of};
+ghost use Rattle.elab_stmt.specs.elab_scopes.Says.{Changes, Does};
 ghost use Rattle.elab_entry.specs.Says.{Lists};
 ghost use Rattle.elab_entry.specs.Bodies.{statements_in, body_kept, body_inside as body_inside_of, function_body as function_body_of};
 
@@ -24,17 +24,12 @@ use crate::copying::copy_tree;
 use crate::ends::end_of;
 use crate::parameters::with_parameters;
 use class_members::Header;
-use cpp_ast::{NodeId, Nodes};
-use cpp_lex::Tokens;
-use cpp_tree::{ElabFault, IllRule, LimitKind, TNodeId};
 use cpp_types::{At, Ty};
-use elab_ctx::{Env, extent};
-use elab_scopes::nodes::block;
-use elab_scopes::{Body, MakeLambdas, State};
+use elab_stmt::below::{
+    Body, ElabFault, Env, IllRule, LimitKind, MakeLambdas, NodeId, Nodes, State, TNodeId, Tokens,
+    block, elab_types_node_at as node_at, extent, ill, is_complete_type, place,
+};
 use elab_stmt::statements;
-use elab_types::specifiers::ill;
-use elab_types::syntax::{node_at, place};
-use elab_types::types::is_complete_type;
 use std::alloc::{AllocError, Global};
 
 /// The greatest size of a frame, in bytes.

@@ -1,15 +1,13 @@
 // Trees in another list of nodes.
 
 ghost use Rattle.std.specs.Prelude.{◌≡◌, ◌<◌, true, length, IfOk};
-ghost use Rattle.cpp_tree.specs.Arena.{trees_of, tree_at, trees_at, are_below, Adds};
+ghost use Rattle.elab_stmt.specs.cpp_tree.Arena.{trees_of, tree_at, trees_at, are_below, Adds};
 ghost use Rattle.cpp_types.specs.Typ.{typ_of};
-ghost use Rattle.cpp_tree.specs.Trees.{node as node_of};
-ghost use Rattle.elab_ctx.specs.Says.{are_within, AddsAll};
+ghost use Rattle.elab_stmt.specs.cpp_tree.Trees.{node as node_of};
+ghost use Rattle.elab_stmt.specs.elab_ctx.Says.{are_within, AddsAll};
 
-use cpp_tree::{TNode, TNodeId, add_node};
 use cpp_types::copy;
-use elab_ctx::{kids_at, node_at};
-use elab_init::keep;
+use elab_stmt::below::{TNode, TNodeId, add_node, keep, kids_at, node_at};
 use std::alloc::{AllocError, Global};
 
 // A node with other kids.

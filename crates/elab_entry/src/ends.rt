@@ -4,29 +4,26 @@ ghost use Rattle.std.specs.Prelude.{◌≡◌, ◌<◌, true, length, IfOk, OnOk
 ghost use Rattle.cpp_types.specs.Class.{classes_of};
 ghost use Rattle.cpp_types.specs.Typ.{ptr, typ_of};
 ghost use Rattle.cpp_types.specs.declared.ranks.Cat.TheVariants.{Lvalue};
-ghost use Rattle.tx_ints.specs.declared.kinds.IntKind.TheVariants.{ULong};
-ghost use Rattle.cpp_tree.specs.declared.kinds.TKind.TheVariants.{Local, Load};
-ghost use Rattle.cpp_tree.specs.Notation.{plain};
-ghost use Rattle.cpp_tree.specs.Trees.{node, none, one};
-ghost use Rattle.cpp_tree.specs.Arena.{trees_of, tree_at, trees_at, are_below, Adds};
-ghost use Rattle.elab_ctx.specs.Ctx.{ctx_of};
-ghost use Rattle.elab_ctx.specs.Says.{are_within, AddsAll};
-ghost use Rattle.cpp_tree.specs.Typing.{is_void as is_void_of, unqualified};
-ghost use Rattle.elab_rules.specs.Objects.{zeros as zeros_of, followed_by};
-ghost use Rattle.elab_rules.specs.Functions.{void_at, untyped as untyped_of, all_untyped as all_untyped_of, zero_result as zero_result_of, result_zeroed as result_zeroed_of, end_of as end_of_typ};
+ghost use Rattle.elab_stmt.specs.tx_ints.declared.kinds.IntKind.TheVariants.{ULong};
+ghost use Rattle.elab_stmt.specs.cpp_tree.declared.kinds.TKind.TheVariants.{Local, Load};
+ghost use Rattle.elab_stmt.specs.cpp_tree.Notation.{plain};
+ghost use Rattle.elab_stmt.specs.cpp_tree.Trees.{node, none, one};
+ghost use Rattle.elab_stmt.specs.cpp_tree.Arena.{trees_of, tree_at, trees_at, are_below, Adds};
+ghost use Rattle.elab_stmt.specs.elab_ctx.Ctx.{ctx_of};
+ghost use Rattle.elab_stmt.specs.elab_ctx.Says.{are_within, AddsAll};
+ghost use Rattle.elab_stmt.specs.cpp_tree.Typing.{is_void as is_void_of, unqualified};
+ghost use Rattle.elab_stmt.specs.elab_rules.Objects.{zeros as zeros_of, followed_by};
+ghost use Rattle.elab_stmt.specs.elab_rules.Functions.{void_at, untyped as untyped_of, all_untyped as all_untyped_of, zero_result as zero_result_of, result_zeroed as result_zeroed_of, end_of as end_of_typ};
 ghost use Rattle.elab_entry.specs.Ends.{is_literal as is_literal_of, address_of, object_end, value_end};
 
 use crate::copying::copy_tree;
-use cpp_tree::{TKind, TNode, TNodeId, add_binary, add_leaf, add_node, add_unary};
 use cpp_types::{At, Cat, Shape, Ty};
-use elab_conv::types::{pointer_to, unqualified_type};
-use elab_ctx::{Env, kids_at, node_at};
-use elab_init::{is_class_type, keep, zeros};
-use elab_names::parts::plain_type;
-use elab_ops::arithmetic::number;
-use elab_scopes::nodes::{leaf_statement, unary_statement};
+use elab_stmt::below::{
+    Env, IntKind, TKind, TNode, TNodeId, add_binary, add_leaf, add_node, add_unary, is_class_type,
+    keep, kids_at, leaf_statement, node_at, number, plain_type, pointer_to, unary_statement,
+    unqualified_type, zeros,
+};
 use std::alloc::{AllocError, Global};
-use tx_ints::IntKind;
 
 // A node without the type of an object.
 fn untyped_node(

@@ -2,11 +2,10 @@
 
 ghost use Rattle.std.specs.Prelude.{◌≡◌, ◌++◌, length, map, IfOk, OnOk, option_map};
 ghost use Rattle.cpp_types.specs.Typ.{typ_of};
-ghost use Rattle.elab_rules.specs.Functions.{word_item as word_item_of, result_items, this_items};
+ghost use Rattle.elab_stmt.specs.elab_rules.Functions.{word_item as word_item_of, result_items, this_items};
 
 use cpp_types::{Ty, copy};
-use elab_conv::types::{pointer_to, unqualified_type};
-use elab_init::is_class_type;
+use elab_stmt::below::{is_class_type, pointer_to, unqualified_type};
 use std::alloc::{AllocError, Global};
 
 /// The item of a parameter: a pointer to an object of class type.

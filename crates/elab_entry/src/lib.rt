@@ -2,6 +2,7 @@
 #![tactic(auto)]
 
 pub mod around;
+pub mod below;
 pub mod bodies;
 pub mod copying;
 pub mod ends;

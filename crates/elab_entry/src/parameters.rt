@@ -2,24 +2,19 @@
 
 ghost use Rattle.std.specs.Prelude.{◌≡◌, map, OnOk};
 ghost use Rattle.cpp_types.specs.Typ.{typ_of};
-ghost use Rattle.cpp_lex.specs.Tokens.{lexemes_of};
-ghost use Rattle.elab_rules.specs.Functions.{unnamed_parameter, with_parameters as with_parameters_of};
-ghost use Rattle.elab_types.specs.Shown.{parameter_of};
-ghost use Rattle.elab_scopes.specs.States.{state_of, made};
-ghost use Rattle.elab_scopes.specs.Says.{Changes};
+ghost use Rattle.elab_stmt.specs.cpp_lex.Tokens.{lexemes_of};
+ghost use Rattle.elab_stmt.specs.elab_rules.Functions.{unnamed_parameter, with_parameters as with_parameters_of};
+ghost use Rattle.elab_stmt.specs.elab_types.Shown.{parameter_of};
+ghost use Rattle.elab_stmt.specs.elab_scopes.States.{state_of, made};
+ghost use Rattle.elab_stmt.specs.elab_scopes.Says.{Changes};
 ghost use Rattle.elab_entry.specs.Parameters.{named_parameter, one_parameter};
 
 use crate::items::word_item;
-use cpp_lex::Tokens;
-use cpp_tree::{ElabFault, IllRule};
 use cpp_types::{Ty, copy};
-use elab_ctx::{Variable, add_item};
-use elab_scopes::State;
-use elab_scopes::scopes::declare;
-use elab_types::Parameter;
-use elab_types::specifiers::ill;
-use elab_types::syntax::spelling;
-use elab_types::types::is_complete_type;
+use elab_stmt::below::{
+    ElabFault, IllRule, Parameter, State, Tokens, Variable, add_item, declare, ill,
+    is_complete_type, spelling,
+};
 use std::alloc::{AllocError, Global};
 
 // A parameter without a name.

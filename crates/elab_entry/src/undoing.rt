@@ -1,13 +1,12 @@
 // What is made and not kept.
 
 ghost use Rattle.std.specs.Prelude.{◌≡◌, take, OnOk};
-ghost use Rattle.elab_ctx.specs.Ctx.{ctx_of};
-ghost use Rattle.elab_scopes.specs.States.{state_of, made};
+ghost use Rattle.elab_stmt.specs.elab_ctx.Ctx.{ctx_of};
+ghost use Rattle.elab_stmt.specs.elab_scopes.States.{state_of, made};
 ghost use Rattle.elab_entry.specs.Undone.{checkpoint_in, undone};
 
 use cpp_types::is_in_order;
-use elab_ctx::Env;
-use elab_scopes::State;
+use elab_stmt::below::{Env, State};
 use std::alloc::AllocError;
 
 /// How much is known and made.

@@ -1,29 +1,29 @@
 -- Specifiers, declarators and parameters, one behind the other.
 use Rattle.std.proofs.Common.{◌≡◌, ◌≢◌, ℕ, Bool, true, false, List, [], ◌∷◌, ◌++◌, Option, Some, None, Result, Ok, Err, refl, sym, ap, ◌∙◌, subst, append_assoc, append-nil}
-use Rattle.cpp_lex.specs.Tokens.{Lexeme}
-use Rattle.cpp_types.specs.Typ.{Typ}
-use Rattle.cpp_types.specs.declared.classes.At.{At}
-use Rattle.cpp_ast.specs.declared.kinds.NodeKind.{NodeKind}
-use Rattle.cpp_ast.specs.declared.kinds.NodeKind.TheVariants as k
-use Rattle.cpp_ast.specs.declared.arena.At.{At as SyntaxAt}
-use Rattle.cpp_ast.specs.declared.arena.NodeId.{NodeId}
-use Rattle.cpp_ast.specs.Trees.{Tree, node, Trees, none, more, kind_of}
-use Rattle.cpp_tree.specs.declared.faults.ElabFault.{ElabFault}
-use Rattle.cpp_tree.specs.declared.faults.ElabFault.TheVariants.{Ill}
-use Rattle.cpp_tree.specs.declared.faults.IllRule.TheVariants.{OutOfProfile}
-use Rattle.elab_ctx.specs.Ctx.{Ctx, Work, Closure}
-use Rattle.elab_ctx.specs.Steps.{and_then, at_of, spelling}
-use Rattle.elab_ctx.specs.Says.{Faults}
-use Rattle.elab_ctx.proofs.Making.{faults_same}
-use Rattle.elab_rules.specs.Types.{Parameter, Declared, Specifiers, Qualifiers, declared_name, owner_token, no_specifiers, specified_type, pointer_to, reference_to, open_array, function_of, with_function, is_declared_safe, qualifiers_of, is_name}
-use Rattle.elab_rules.specs.Expressions.{specified_with, all_specified_with, specifiers_with, type_id_with, declared_with, pointed_with, parameter_with, parameters_with, parameters_in_with, bounded, expression_with, chosen_operand}
-use Rattle.elab_ctx.specs.Steps.{Typed}
-use Rattle.elab_types.specs.Specified.{with_exception, parameter_declared, pointer_qualified}
-use Rattle.elab_types.specs.Syntax.{trees_at, tree_at}
-use Rattle.elab_types.specs.Shown.{Says}
-use Rattle.cpp_tree.specs.Trees.{Tree as TypedTree}
-use Rattle.elab_ctx.specs.Operands.{operand_in}
-use Rattle.elab_ctx.specs.declared.operand.Operand.{Operand as OperandRec}
+use Rattle.elab_rows.specs.cpp_lex.Tokens.{Lexeme}
+use Rattle.elab_rows.specs.cpp_types.Typ.{Typ}
+use Rattle.elab_rows.specs.cpp_types.declared.classes.At.{At}
+use Rattle.elab_rows.specs.cpp_ast.declared.kinds.NodeKind.{NodeKind}
+use Rattle.elab_rows.specs.cpp_ast.declared.kinds.NodeKind.TheVariants as k
+use Rattle.elab_rows.specs.cpp_ast.declared.arena.At.{At as SyntaxAt}
+use Rattle.elab_rows.specs.cpp_ast.declared.arena.NodeId.{NodeId}
+use Rattle.elab_rows.specs.cpp_ast.Trees.{Tree, node, Trees, none, more, kind_of}
+use Rattle.elab_rows.specs.cpp_tree.declared.faults.ElabFault.{ElabFault}
+use Rattle.elab_rows.specs.cpp_tree.declared.faults.ElabFault.TheVariants.{Ill}
+use Rattle.elab_rows.specs.cpp_tree.declared.faults.IllRule.TheVariants.{OutOfProfile}
+use Rattle.elab_rows.specs.elab_ctx.Ctx.{Ctx, Work, Closure}
+use Rattle.elab_rows.specs.elab_ctx.Steps.{and_then, at_of, spelling}
+use Rattle.elab_rows.specs.elab_ctx.Says.{Faults}
+use Rattle.elab_rows.proofs.elab_ctx.Making.{faults_same}
+use Rattle.elab_rows.specs.elab_rules.Types.{Parameter, Declared, Specifiers, Qualifiers, declared_name, owner_token, no_specifiers, specified_type, pointer_to, reference_to, open_array, function_of, with_function, is_declared_safe, qualifiers_of, is_name}
+use Rattle.elab_rows.specs.elab_rules.Expressions.{specified_with, all_specified_with, specifiers_with, type_id_with, declared_with, pointed_with, parameter_with, parameters_with, parameters_in_with, bounded, expression_with, chosen_operand}
+use Rattle.elab_rows.specs.elab_ctx.Steps.{Typed}
+use Rattle.elab_rows.specs.elab_types.Specified.{with_exception, parameter_declared, pointer_qualified}
+use Rattle.elab_rows.specs.elab_types.Syntax.{trees_at, tree_at}
+use Rattle.elab_rows.specs.elab_types.Shown.{Says}
+use Rattle.elab_rows.specs.cpp_tree.Trees.{Tree as TypedTree}
+use Rattle.elab_rows.specs.elab_ctx.Operands.{operand_in}
+use Rattle.elab_rows.specs.elab_ctx.declared.operand.Operand.{Operand as OperandRec}
 use Rattle.elab_rows.specs.Typed.{TypedAt}
 use Rattle.elab_expr.specs.Forms.{is_exception, are_qualifiers, all_qualified}
 use Rattle.elab_expr.proofs.FormRows.{kind_is}

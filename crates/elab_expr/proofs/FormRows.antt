@@ -1,24 +1,24 @@
 -- What expressions are, by the forms that the code tells apart.
 use Rattle.std.proofs.Common.{◌≡◌, ◌≢◌, ℕ, true, List, [], ◌∷◌, Option, Some, None, Result, Ok, Err, refl, sym, ap, ◌∙◌}
-use Rattle.cpp_lex.specs.Tokens.{Lexeme}
-use Rattle.cpp_types.specs.Typ.{Typ}
-use Rattle.cpp_types.specs.declared.classes.At.{At}
-use Rattle.cpp_ast.specs.declared.arena.At.{At as SyntaxAt}
-use Rattle.cpp_ast.specs.declared.arena.NodeId.{NodeId}
-use Rattle.cpp_ast.specs.declared.kinds.NodeKind.{NodeKind}
-use Rattle.cpp_ast.specs.declared.kinds.NodeKind.TheVariants as k
-use Rattle.cpp_ast.specs.Trees.{Tree, node, Trees, none, more, kind_of}
-use Rattle.cpp_tree.specs.declared.faults.ElabFault.{ElabFault}
-use Rattle.cpp_tree.specs.declared.faults.ElabFault.TheVariants.{Ill}
-use Rattle.cpp_tree.specs.declared.faults.IllRule.TheVariants.{OutOfProfile}
-use Rattle.cpp_tree.specs.Trees.{typ_in}
-use Rattle.elab_ctx.specs.Ctx.{Ctx, Work, Closure}
-use Rattle.elab_ctx.specs.Steps.{and_then, at_of, spelling, Typed, TypedAll}
-use Rattle.elab_rules.specs.Calls.{call}
-use Rattle.elab_rules.specs.Casts.{cast, functional, size_literal}
-use Rattle.elab_rules.specs.Types.{Specifiers, no_specifiers, specified_type}
-use Rattle.elab_rules.specs.Expressions.{expression_with, operands_with, specified_with, type_id_with, chosen_operand, an_operand, a_tree, leaf_or_row, row_of, closure_object, qualified_name}
-use Rattle.elab_types.specs.Syntax.{trees_at}
+use Rattle.elab_rows.specs.cpp_lex.Tokens.{Lexeme}
+use Rattle.elab_rows.specs.cpp_types.Typ.{Typ}
+use Rattle.elab_rows.specs.cpp_types.declared.classes.At.{At}
+use Rattle.elab_rows.specs.cpp_ast.declared.arena.At.{At as SyntaxAt}
+use Rattle.elab_rows.specs.cpp_ast.declared.arena.NodeId.{NodeId}
+use Rattle.elab_rows.specs.cpp_ast.declared.kinds.NodeKind.{NodeKind}
+use Rattle.elab_rows.specs.cpp_ast.declared.kinds.NodeKind.TheVariants as k
+use Rattle.elab_rows.specs.cpp_ast.Trees.{Tree, node, Trees, none, more, kind_of}
+use Rattle.elab_rows.specs.cpp_tree.declared.faults.ElabFault.{ElabFault}
+use Rattle.elab_rows.specs.cpp_tree.declared.faults.ElabFault.TheVariants.{Ill}
+use Rattle.elab_rows.specs.cpp_tree.declared.faults.IllRule.TheVariants.{OutOfProfile}
+use Rattle.elab_rows.specs.cpp_tree.Trees.{typ_in}
+use Rattle.elab_rows.specs.elab_ctx.Ctx.{Ctx, Work, Closure}
+use Rattle.elab_rows.specs.elab_ctx.Steps.{and_then, at_of, spelling, Typed, TypedAll}
+use Rattle.elab_rows.specs.elab_rules.Calls.{call}
+use Rattle.elab_rows.specs.elab_rules.Casts.{cast, functional, size_literal}
+use Rattle.elab_rows.specs.elab_rules.Types.{Specifiers, no_specifiers, specified_type}
+use Rattle.elab_rows.specs.elab_rules.Expressions.{expression_with, operands_with, specified_with, type_id_with, chosen_operand, an_operand, a_tree, leaf_or_row, row_of, closure_object, qualified_name}
+use Rattle.elab_rows.specs.elab_types.Syntax.{trees_at}
 use Rattle.elab_expr.specs.Forms.{is_over_operands, is_cast}
 
 -- the kind of a tree is that of its node

@@ -1,28 +1,28 @@
 -- A bound that is an integer literal is the same whatever was made before.
 use Rattle.std.proofs.Common.{◌≡◌, ◌==◌, ℕ, true, List, Option, Some, None, Result, Ok, Err, refl, sym, ap, ◌∙◌}
-use Rattle.tx_ints.specs.declared.kinds.IntKind.{IntKind}
-use Rattle.cpp_lex.specs.Tokens.{Lexeme}
-use Rattle.cpp_lex.specs.Ints.{int_type_of}
-use Rattle.cpp_types.specs.Typ.{Typ, int}
-use Rattle.cpp_types.specs.declared.classes.At.{At}
-use Rattle.cpp_types.specs.declared.ranks.Cat.TheVariants.{Prvalue}
-use Rattle.cpp_ast.specs.declared.arena.At.{At as SyntaxAt}
-use Rattle.cpp_ast.specs.declared.kinds.NodeKind.{NodeKind}
-use Rattle.cpp_ast.specs.declared.kinds.NodeKind.TheVariants as k
-use Rattle.cpp_ast.specs.Trees.{Tree, node, Trees, none, kind_of}
-use Rattle.cpp_tree.specs.declared.faults.ElabFault.{ElabFault}
-use Rattle.cpp_tree.specs.declared.faults.IllRule.TheVariants.{OutOfProfile}
-use Rattle.cpp_tree.specs.declared.kinds.TKind.TheVariants.{Literal}
-use Rattle.cpp_tree.specs.Notation.{plain}
-use Rattle.cpp_tree.specs.Trees.{Tree as TypedTree, node as typed, none as no_trees}
-use Rattle.elab_ctx.specs.Ctx.{Ctx, Work, Closure}
-use Rattle.elab_ctx.specs.Steps.{and_then, expect, at_of, spelling, value_at, Typed}
-use Rattle.elab_ctx.specs.Operands.{operand_in}
-use Rattle.elab_ctx.specs.declared.operand.Operand.{Operand as OperandRec}
-use Rattle.elab_ctx.specs.Says.{Faults}
-use Rattle.elab_ctx.proofs.Making.{faults_in, faults_same}
-use Rattle.elab_rules.specs.Expressions.{expression_with, chosen_operand, bounded, leaf_or_row}
-use Rattle.elab_types.specs.Shown.{Says}
+use Rattle.elab_rows.specs.tx_ints.declared.kinds.IntKind.{IntKind}
+use Rattle.elab_rows.specs.cpp_lex.Tokens.{Lexeme}
+use Rattle.elab_rows.specs.cpp_lex.Ints.{int_type_of}
+use Rattle.elab_rows.specs.cpp_types.Typ.{Typ, int}
+use Rattle.elab_rows.specs.cpp_types.declared.classes.At.{At}
+use Rattle.elab_rows.specs.cpp_types.declared.ranks.Cat.TheVariants.{Prvalue}
+use Rattle.elab_rows.specs.cpp_ast.declared.arena.At.{At as SyntaxAt}
+use Rattle.elab_rows.specs.cpp_ast.declared.kinds.NodeKind.{NodeKind}
+use Rattle.elab_rows.specs.cpp_ast.declared.kinds.NodeKind.TheVariants as k
+use Rattle.elab_rows.specs.cpp_ast.Trees.{Tree, node, Trees, none, kind_of}
+use Rattle.elab_rows.specs.cpp_tree.declared.faults.ElabFault.{ElabFault}
+use Rattle.elab_rows.specs.cpp_tree.declared.faults.IllRule.TheVariants.{OutOfProfile}
+use Rattle.elab_rows.specs.cpp_tree.declared.kinds.TKind.TheVariants.{Literal}
+use Rattle.elab_rows.specs.cpp_tree.Notation.{plain}
+use Rattle.elab_rows.specs.cpp_tree.Trees.{Tree as TypedTree, node as typed, none as no_trees}
+use Rattle.elab_rows.specs.elab_ctx.Ctx.{Ctx, Work, Closure}
+use Rattle.elab_rows.specs.elab_ctx.Steps.{and_then, expect, at_of, spelling, value_at, Typed}
+use Rattle.elab_rows.specs.elab_ctx.Operands.{operand_in}
+use Rattle.elab_rows.specs.elab_ctx.declared.operand.Operand.{Operand as OperandRec}
+use Rattle.elab_rows.specs.elab_ctx.Says.{Faults}
+use Rattle.elab_rows.proofs.elab_ctx.Making.{faults_in, faults_same}
+use Rattle.elab_rows.specs.elab_rules.Expressions.{expression_with, chosen_operand, bounded, leaf_or_row}
+use Rattle.elab_rows.specs.elab_types.Shown.{Says}
 use Rattle.elab_rows.specs.Typed.{TypedAt}
 use Rattle.elab_expr.specs.Forms.{is_integer_literal}
 use Rattle.elab_expr.proofs.Declaring.{says_same, then_known, bound_of}

@@ -1,23 +1,23 @@
 -- Several operands, one behind the other.
 use Rattle.std.proofs.Common.{◌-◌, subst, Vec, Global, vec_len, rules, true≢false, ◌≡◌, ◌≢◌, ◌==◌, ◌<◌, ◌+◌, ◌≤◌, ℕ, zero, suc, arith, true, false, nat_lt, lt-ltb, List, [], ◌∷◌, ◌++◌, length, drop, take, get_or, Result, Ok, Err, refl, sym, ap, ◌∙◌, append_assoc, append-nil}
 use Rattle.std.proofs.lemmas.Bool.{and_parts, ltb-true, eqb-true}
-use Rattle.cpp_ast.specs.Orders.{are_below}
-use Rattle.cpp_lex.specs.Tokens.{Lexeme}
-use Rattle.cpp_ast.specs.Trees as syntax
-use Rattle.cpp_ast.specs.declared.arena.NodeId.{NodeId}
-use Rattle.cpp_tree.specs.declared.faults.ElabFault.{ElabFault}
-use Rattle.cpp_tree.specs.Trees.{Tree}
-use Rattle.cpp_tree.specs.Arena.{Grows}
-use Rattle.elab_ctx.specs.Ctx.{Ctx, Work, Closure}
-use Rattle.elab_ctx.specs.Steps.{and_then, Operand, Typed, TypedAll}
-use Rattle.elab_ctx.specs.Operands.{operand_in, operands_in, are_in}
-use Rattle.elab_ctx.specs.Says.{Faults}
-use Rattle.elab_ctx.specs.declared.operand.Operand.{Operand as OperandRec}
-use Rattle.elab_ctx.proofs.Looks.{grows_refl, grows_trans}
-use Rattle.elab_ctx.proofs.Making.{faults_in, faults_same}
-use Rattle.elab_init.proofs.Listing.{drop_step, drop_past}
-use Rattle.elab_rules.specs.Expressions.{expression_with, operands_with, chosen_operand}
-use Rattle.elab_types.specs.Syntax.{trees_at, tree_at as syntax_at}
+use Rattle.elab_rows.specs.cpp_ast.Orders.{are_below}
+use Rattle.elab_rows.specs.cpp_lex.Tokens.{Lexeme}
+use Rattle.elab_rows.specs.cpp_ast.Trees as syntax
+use Rattle.elab_rows.specs.cpp_ast.declared.arena.NodeId.{NodeId}
+use Rattle.elab_rows.specs.cpp_tree.declared.faults.ElabFault.{ElabFault}
+use Rattle.elab_rows.specs.cpp_tree.Trees.{Tree}
+use Rattle.elab_rows.specs.cpp_tree.Arena.{Grows}
+use Rattle.elab_rows.specs.elab_ctx.Ctx.{Ctx, Work, Closure}
+use Rattle.elab_rows.specs.elab_ctx.Steps.{and_then, Operand, Typed, TypedAll}
+use Rattle.elab_rows.specs.elab_ctx.Operands.{operand_in, operands_in, are_in}
+use Rattle.elab_rows.specs.elab_ctx.Says.{Faults}
+use Rattle.elab_rows.specs.elab_ctx.declared.operand.Operand.{Operand as OperandRec}
+use Rattle.elab_rows.proofs.elab_ctx.Looks.{grows_refl, grows_trans}
+use Rattle.elab_rows.proofs.elab_ctx.Making.{faults_in, faults_same}
+use Rattle.elab_rows.proofs.elab_init.Listing.{drop_step, drop_past}
+use Rattle.elab_rows.specs.elab_rules.Expressions.{expression_with, operands_with, chosen_operand}
+use Rattle.elab_rows.specs.elab_types.Syntax.{trees_at, tree_at as syntax_at}
 use Rattle.elab_rows.specs.Typed.{TypedAt, AllTyped}
 use Rattle.elab_expr.proofs.Stages.{operands_kept, are_in_grown}
 

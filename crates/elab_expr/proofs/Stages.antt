@@ -3,25 +3,25 @@ use Rattle.std.proofs.Common.{◌≡◌, ◌<◌, ℕ, true, nat_lt, lt-ltb, Lis
 use Rattle.std.proofs.lemmas.Bool.{and_parts, ltb-true}
 use Rattle.std.specs.Prelude.{Vec}
 use Rattle.std.specs.declared.alloc.Global.{Global}
-use Rattle.cpp_lex.specs.Tokens.{Lexeme}
-use Rattle.cpp_types.specs.Typ.{Typ}
-use Rattle.cpp_types.specs.declared.classes.At.{At}
-use Rattle.cpp_ast.specs.declared.kinds.NodeKind.{NodeKind}
-use Rattle.cpp_ast.specs.Trees as syntax
-use Rattle.cpp_tree.specs.declared.faults.ElabFault.{ElabFault}
-use Rattle.cpp_tree.specs.Trees.{Tree, typ_in}
-use Rattle.cpp_tree.specs.Arena.{tree_at, Grows}
-use Rattle.elab_ctx.specs.Ctx.{Ctx, Work, Closure}
-use Rattle.elab_ctx.specs.Steps.{and_then, Operand, Typed, TypedAll}
-use Rattle.elab_ctx.specs.Operands.{operand_in, operands_in, are_in}
-use Rattle.elab_ctx.specs.Says.{Faults}
-use Rattle.elab_ctx.specs.declared.operand.Operand.{Operand as OperandRec}
-use Rattle.elab_ctx.proofs.Looks.{grows_trans, at_grown, within_grown}
-use Rattle.elab_ctx.proofs.Making.{faults_in, faults_same}
-use Rattle.elab_rules.specs.Calls.{call}
-use Rattle.elab_rules.specs.Casts.{cast, functional, size_literal}
-use Rattle.elab_rules.specs.Types.{Specifiers, no_specifiers, specified_type}
-use Rattle.elab_rules.specs.Expressions.{expression_with, operands_with, specified_with, type_id_with, chosen_operand, an_operand, a_tree, row_of}
+use Rattle.elab_rows.specs.cpp_lex.Tokens.{Lexeme}
+use Rattle.elab_rows.specs.cpp_types.Typ.{Typ}
+use Rattle.elab_rows.specs.cpp_types.declared.classes.At.{At}
+use Rattle.elab_rows.specs.cpp_ast.declared.kinds.NodeKind.{NodeKind}
+use Rattle.elab_rows.specs.cpp_ast.Trees as syntax
+use Rattle.elab_rows.specs.cpp_tree.declared.faults.ElabFault.{ElabFault}
+use Rattle.elab_rows.specs.cpp_tree.Trees.{Tree, typ_in}
+use Rattle.elab_rows.specs.cpp_tree.Arena.{tree_at, Grows}
+use Rattle.elab_rows.specs.elab_ctx.Ctx.{Ctx, Work, Closure}
+use Rattle.elab_rows.specs.elab_ctx.Steps.{and_then, Operand, Typed, TypedAll}
+use Rattle.elab_rows.specs.elab_ctx.Operands.{operand_in, operands_in, are_in}
+use Rattle.elab_rows.specs.elab_ctx.Says.{Faults}
+use Rattle.elab_rows.specs.elab_ctx.declared.operand.Operand.{Operand as OperandRec}
+use Rattle.elab_rows.proofs.elab_ctx.Looks.{grows_trans, at_grown, within_grown}
+use Rattle.elab_rows.proofs.elab_ctx.Making.{faults_in, faults_same}
+use Rattle.elab_rows.specs.elab_rules.Calls.{call}
+use Rattle.elab_rows.specs.elab_rules.Casts.{cast, functional, size_literal}
+use Rattle.elab_rows.specs.elab_rules.Types.{Specifiers, no_specifiers, specified_type}
+use Rattle.elab_rows.specs.elab_rules.Expressions.{expression_with, operands_with, specified_with, type_id_with, chosen_operand, an_operand, a_tree, row_of}
 use Rattle.elab_rows.specs.Typed.{TypedAt, Types, AllTyped, TypesAll}
 use Rattle.elab_expr.proofs.FormRows.{over_row, wrapped, call_row_of, values_row, functional_row_of, value_row, cast_row_of, size_row, type_row}
 

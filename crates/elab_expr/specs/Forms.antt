@@ -1,12 +1,12 @@
 -- The forms of nodes as the code tells them apart.
 use Rattle.std.specs.Prelude.{Bool, true, false, ◌&&◌, List, Some, None, is_some}
-use Rattle.cpp_lex.specs.Tokens.{Lexeme}
-use Rattle.cpp_ast.specs.declared.kinds.NodeKind.{NodeKind}
-use Rattle.cpp_ast.specs.declared.kinds.NodeKind.TheVariants as k
-use Rattle.cpp_ast.specs.Trees as syntax
-use Rattle.cpp_types.specs.Typ.{Typ}
-use Rattle.elab_ctx.specs.Steps.{spelling}
-use Rattle.elab_types.specs.Specified.{pointer_qualified}
+use Rattle.elab_rows.specs.cpp_lex.Tokens.{Lexeme}
+use Rattle.elab_rows.specs.cpp_ast.declared.kinds.NodeKind.{NodeKind}
+use Rattle.elab_rows.specs.cpp_ast.declared.kinds.NodeKind.TheVariants as k
+use Rattle.elab_rows.specs.cpp_ast.Trees as syntax
+use Rattle.elab_rows.specs.cpp_types.Typ.{Typ}
+use Rattle.elab_rows.specs.elab_ctx.Steps.{spelling}
+use Rattle.elab_rows.specs.elab_types.Specified.{pointer_qualified}
 
 -- a leaf, or a form whose kids are all operands
 abbrev pub is_over_operands : NodeKind → Bool

@@ -1,15 +1,15 @@
 // Types as they are written: specifiers, declarators, parameters (C++14 7.1.6, 8.1 to 8.3).
 
 ghost use Rattle.std.specs.Prelude.{◌≡◌, ◌<◌, length, map, true, false};
-ghost use Rattle.cpp_lex.specs.Tokens.{lexemes_of};
-ghost use Rattle.cpp_types.specs.Typ.{typ_of};
-ghost use Rattle.cpp_ast.specs.Trees.{kind_of};
-ghost use Rattle.cpp_ast.specs.declared.kinds.NodeKind.TheVariants as syntax;
-ghost use Rattle.elab_ctx.specs.Ctx.{ctx_of, work_of, closure_of};
-ghost use Rattle.elab_ctx.specs.Steps.{and_then, Typed};
-ghost use Rattle.elab_rules.specs.Expressions.{expression_with, chosen_operand, bounded as bounded_of, specified_with, specifiers_with, type_id_with, declared_with, parameters_in_with, parameter_with};
-ghost use Rattle.elab_types.specs.Syntax.{syntax_of, tree_at};
-ghost use Rattle.elab_types.specs.Shown.{Says, specifiers_of, declared_of, parameter_of as parameter_shown};
+ghost use Rattle.elab_rows.specs.cpp_lex.Tokens.{lexemes_of};
+ghost use Rattle.elab_rows.specs.cpp_types.Typ.{typ_of};
+ghost use Rattle.elab_rows.specs.cpp_ast.Trees.{kind_of};
+ghost use Rattle.elab_rows.specs.cpp_ast.declared.kinds.NodeKind.TheVariants as syntax;
+ghost use Rattle.elab_rows.specs.elab_ctx.Ctx.{ctx_of, work_of, closure_of};
+ghost use Rattle.elab_rows.specs.elab_ctx.Steps.{and_then, Typed};
+ghost use Rattle.elab_rows.specs.elab_rules.Expressions.{expression_with, chosen_operand, bounded as bounded_of, specified_with, specifiers_with, type_id_with, declared_with, parameters_in_with, parameter_with};
+ghost use Rattle.elab_rows.specs.elab_types.Syntax.{syntax_of, tree_at};
+ghost use Rattle.elab_rows.specs.elab_types.Shown.{Says, specifiers_of, declared_of, parameter_of as parameter_shown};
 ghost use Rattle.elab_rows.specs.Typed.{parameters_of};
 ghost use Rattle.elab_expr.specs.Forms.{is_exception as is_exception_of};
 
@@ -17,23 +17,15 @@ use crate::expressions::chosen_expression;
 use crate::forms::{all_qualified, is_exception, is_integer_literal, keep_parameter};
 use crate::literals::literal_bound;
 use crate::scratch::copy_work;
-use cpp_ast::{NodeId, NodeKind, Nodes};
-use cpp_lex::Tokens;
-use cpp_tree::{ElabFault, IllRule};
-use cpp_types::{At, Ty};
-use elab_ctx::{Closure, Env, Work};
+use elab_rows::below::{
+    At, Closure, Declared, ElabFault, Env, IllRule, Kids, NodeId, NodeKind, Nodes, Parameter,
+    Specifiers, Tokens, Ty, Work, elab_types_is_name as is_name, elab_types_node_at as node_at,
+    elab_types_pointer_to as pointer_to, function_of, ill, is_declared_safe, kids_of, last_kid,
+    name_declared, named_by, no_specifiers, open_array, owner_token, parameter_of, place,
+    qualifiers_of, reference_to, specified_type, with_exception, with_function,
+    with_qualifier_word, with_word,
+};
 use elab_rows::bounded;
-use elab_types::declarators::{
-    function_of, is_declared_safe, name_declared, open_array, parameter_of, pointer_to,
-    reference_to, with_function,
-};
-use elab_types::kids::{Kids, kids_of, last_kid};
-use elab_types::parts::{is_name, owner_token, qualifiers_of};
-use elab_types::specifiers::{
-    ill, named_by, no_specifiers, specified_type, with_exception, with_qualifier_word, with_word,
-};
-use elab_types::syntax::{node_at, place};
-use elab_types::{Declared, Parameter, Specifiers};
 use std::alloc::Global;
 
 /// The specifiers with one more.

@@ -1,33 +1,30 @@
 // Expressions, type-ids and declarators: what stands in a form first, from left to right, then the form itself.
 
 ghost use Rattle.std.specs.Prelude.{◌≡◌, ◌<◌, length, map, true};
-ghost use Rattle.cpp_lex.specs.Tokens.{lexemes_of};
-ghost use Rattle.cpp_ast.specs.Orders.{are_below};
-ghost use Rattle.cpp_ast.specs.Trees.{kind_of};
-ghost use Rattle.cpp_ast.specs.declared.kinds.NodeKind.TheVariants as syntax;
-ghost use Rattle.cpp_tree.specs.Arena.{trees_of};
-ghost use Rattle.elab_ctx.specs.Ctx.{ctx_of, work_of, closure_of};
-ghost use Rattle.elab_ctx.specs.Steps.{and_then};
-ghost use Rattle.elab_rules.specs.Expressions.{expression_with, operands_with, chosen_operand};
-ghost use Rattle.elab_types.specs.Syntax.{syntax_of, tree_at, trees_at};
+ghost use Rattle.elab_rows.specs.cpp_lex.Tokens.{lexemes_of};
+ghost use Rattle.elab_rows.specs.cpp_ast.Orders.{are_below};
+ghost use Rattle.elab_rows.specs.cpp_ast.Trees.{kind_of};
+ghost use Rattle.elab_rows.specs.cpp_ast.declared.kinds.NodeKind.TheVariants as syntax;
+ghost use Rattle.elab_rows.specs.cpp_tree.Arena.{trees_of};
+ghost use Rattle.elab_rows.specs.elab_ctx.Ctx.{ctx_of, work_of, closure_of};
+ghost use Rattle.elab_rows.specs.elab_ctx.Steps.{and_then};
+ghost use Rattle.elab_rows.specs.elab_rules.Expressions.{expression_with, operands_with, chosen_operand};
+ghost use Rattle.elab_rows.specs.elab_types.Syntax.{syntax_of, tree_at, trees_at};
 ghost use Rattle.elab_rows.specs.Typed.{Types, TypesAll};
 ghost use Rattle.elab_expr.specs.Forms.{is_over_operands as is_over_operands_of, is_cast};
 
 use crate::declarators::{specified, type_id};
 use crate::forms::{is_over_operands, keep_operand};
 use crate::scratch::copy_work;
-use cpp_ast::{NodeId, NodeKind, Nodes};
-use cpp_lex::Tokens;
-use cpp_tree::{ElabFault, IllRule};
-use elab_ctx::nodes::node_at as typed_node_at;
-use elab_ctx::{Closure, Env, Operand, Work};
+use elab_rows::below::{
+    Closure, ElabFault, Env, IllRule, Kids, NodeId, NodeKind, Nodes, Operand, Tokens, Work,
+    elab_types_node_at as node_at, first_kid, ill, kids_of, no_specifiers,
+    node_at as typed_node_at, place, specified_type, spelling,
+};
 use elab_rows::{
     call_row, cast_row, chosen_row, closure_row, functional_row, leaf_row, qualified_row, row,
     sized_row,
 };
-use elab_types::kids::{Kids, first_kid, kids_of};
-use elab_types::specifiers::{ill, no_specifiers, specified_type};
-use elab_types::syntax::{node_at, place, spelling};
 use std::alloc::Global;
 
 /// The typed form of an expression.

@@ -1,19 +1,16 @@
 // Forms of nodes, and the qualifiers of a pointer.
 
 ghost use Rattle.std.specs.Prelude.{◌≡◌, ◌<◌, ◌++◌, ◌∷◌, [], length, true, IfOk, OnOk};
-ghost use Rattle.cpp_lex.specs.Tokens.{lexemes_of};
-ghost use Rattle.cpp_ast.specs.Orders.{are_below};
-ghost use Rattle.cpp_types.specs.Typ.{typ_of};
-ghost use Rattle.elab_types.specs.Syntax.{syntax_of, trees_at};
+ghost use Rattle.elab_rows.specs.cpp_lex.Tokens.{lexemes_of};
+ghost use Rattle.elab_rows.specs.cpp_ast.Orders.{are_below};
+ghost use Rattle.elab_rows.specs.cpp_types.Typ.{typ_of};
+ghost use Rattle.elab_rows.specs.elab_types.Syntax.{syntax_of, trees_at};
 ghost use Rattle.elab_expr.specs.Forms.{is_over_operands as is_over_operands_of, is_exception as is_exception_of, is_integer_literal as is_integer_literal_of, is_qualifier as is_qualifier_of, are_qualifiers, all_qualified as all_qualified_of};
 
-use cpp_ast::{NodeId, NodeKind, Nodes};
-use cpp_lex::Tokens;
-use cpp_types::Ty;
-use elab_ctx::Operand;
-use elab_types::Parameter;
-use elab_types::parts::pointer_qualified;
-use elab_types::syntax::node_at;
+use elab_rows::below::{
+    NodeId, NodeKind, Nodes, Operand, Parameter, Tokens, Ty, elab_types_node_at as node_at,
+    pointer_qualified,
+};
 use std::alloc::{AllocError, Global};
 
 /// Whether a kind is that of a leaf, or of a form whose kids are all operands.

@@ -1,6 +1,7 @@
 //! The recursion over expressions, type-ids and declarators.
 #![tactic(auto)]
 
+pub mod below;
 pub mod declarators;
 pub mod expressions;
 mod forms;

@@ -1,24 +1,21 @@
 // Bounds that are integer literals, which need nothing of what was made before.
 
 ghost use Rattle.std.specs.Prelude.{◌≡◌, ◌<◌, List, length, true};
-ghost use Rattle.cpp_lex.specs.Tokens.{lexemes_of};
-ghost use Rattle.cpp_types.specs.Typ.{typ_of};
-ghost use Rattle.cpp_ast.specs.Trees.{kind_of};
-ghost use Rattle.elab_ctx.specs.Ctx.{Closure, ctx_of, work_of};
-ghost use Rattle.elab_ctx.specs.Steps.{and_then, Typed};
-ghost use Rattle.elab_rules.specs.Expressions.{expression_with, chosen_operand, bounded as bounded_of};
-ghost use Rattle.elab_types.specs.Shown.{Says};
-ghost use Rattle.elab_types.specs.Syntax.{syntax_of, tree_at};
+ghost use Rattle.elab_rows.specs.cpp_lex.Tokens.{lexemes_of};
+ghost use Rattle.elab_rows.specs.cpp_types.Typ.{typ_of};
+ghost use Rattle.elab_rows.specs.cpp_ast.Trees.{kind_of};
+ghost use Rattle.elab_rows.specs.elab_ctx.Ctx.{Closure, ctx_of, work_of};
+ghost use Rattle.elab_rows.specs.elab_ctx.Steps.{and_then, Typed};
+ghost use Rattle.elab_rows.specs.elab_rules.Expressions.{expression_with, chosen_operand, bounded as bounded_of};
+ghost use Rattle.elab_rows.specs.elab_types.Shown.{Says};
+ghost use Rattle.elab_rows.specs.elab_types.Syntax.{syntax_of, tree_at};
 ghost use Rattle.elab_expr.specs.Forms.{is_integer_literal as is_integer_literal_of};
 
 use crate::scratch::no_work;
-use cpp_ast::{NodeId, Nodes};
-use cpp_lex::Tokens;
-use cpp_tree::ElabFault;
-use cpp_types::{At, Ty};
-use elab_ctx::{Env, Work};
+use elab_rows::below::{
+    At, ElabFault, Env, NodeId, Nodes, Tokens, Ty, Work, elab_types_node_at as node_at, place,
+};
 use elab_rows::{bounded, leaf_row};
-use elab_types::syntax::{node_at, place};
 use std::alloc::Global;
 
 /// An array of a type, whose bound is an integer literal.

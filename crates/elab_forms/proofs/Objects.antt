@@ -1,21 +1,21 @@
 -- `? :` on two objects of a class, and assignments, in several steps.
 use Rattle.std.proofs.Common.{◌≡◌, ◌<◌, ◌∙◌, true, List, length, is_some, Result, Ok, sym, ap, subst}
-use Rattle.cpp_types.specs.Typ.{Typ}
-use Rattle.cpp_types.specs.declared.classes.At.{At}
-use Rattle.cpp_types.specs.declared.ranks.Cat.TheVariants.{Prvalue}
-use Rattle.cpp_tree.specs.declared.faults.ElabFault.{ElabFault}
-use Rattle.cpp_tree.specs.declared.arena.TNodeId.{TNodeId}
-use Rattle.cpp_tree.specs.Trees.{Tree, typ_in}
-use Rattle.cpp_tree.specs.Arena.{tree_at, Adds}
-use Rattle.cpp_tree.specs.Typing.{form_in, kind_in, unqualified}
-use Rattle.elab_ctx.specs.Ctx.{Ctx, Work}
-use Rattle.elab_ctx.specs.Steps.{Made, Operand}
-use Rattle.elab_ctx.specs.Says.{Gives, MadeAt, Makes}
-use Rattle.elab_ctx.specs.Operands.{operand_in}
-use Rattle.elab_ctx.specs.declared.operand.Operand.{Operand as OperandRec}
-use Rattle.elab_ctx.proofs.Looks.{grows_trans, at_grown, within_grown}
-use Rattle.elab_rules.specs.Initialising.{initial, class_from}
-use Rattle.elab_rules.specs.Operators.{assigned, conditional_node, two_objects}
+use Rattle.elab_make.specs.cpp_types.Typ.{Typ}
+use Rattle.elab_make.specs.cpp_types.declared.classes.At.{At}
+use Rattle.elab_make.specs.cpp_types.declared.ranks.Cat.TheVariants.{Prvalue}
+use Rattle.elab_make.specs.cpp_tree.declared.faults.ElabFault.{ElabFault}
+use Rattle.elab_make.specs.cpp_tree.declared.arena.TNodeId.{TNodeId}
+use Rattle.elab_make.specs.cpp_tree.Trees.{Tree, typ_in}
+use Rattle.elab_make.specs.cpp_tree.Arena.{tree_at, Adds}
+use Rattle.elab_make.specs.cpp_tree.Typing.{form_in, kind_in, unqualified}
+use Rattle.elab_make.specs.elab_ctx.Ctx.{Ctx, Work}
+use Rattle.elab_make.specs.elab_ctx.Steps.{Made, Operand}
+use Rattle.elab_make.specs.elab_ctx.Says.{Gives, MadeAt, Makes}
+use Rattle.elab_make.specs.elab_ctx.Operands.{operand_in}
+use Rattle.elab_make.specs.elab_ctx.declared.operand.Operand.{Operand as OperandRec}
+use Rattle.elab_make.proofs.elab_ctx.Looks.{grows_trans, at_grown, within_grown}
+use Rattle.elab_make.specs.elab_rules.Initialising.{initial, class_from}
+use Rattle.elab_make.specs.elab_rules.Operators.{assigned, conditional_node, two_objects}
 use Rattle.elab_forms.specs.Rows.{scalar_assigned}
 use Rattle.elab_forms.proofs.Steps.{at_operand, then_gives}
 

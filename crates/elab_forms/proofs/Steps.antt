@@ -1,21 +1,21 @@
 -- Steps that make trees, one behind the other.
 use Rattle.std.proofs.Common.{◌≡◌, ◌<◌, ◌∙◌, List, length, Result, Ok, Err, IfOk, refl, sym, ap, subst}
 use Rattle.std.specs.declared.alloc.AllocError.{AllocError}
-use Rattle.cpp_tree.specs.declared.arena.TNodeId.{TNodeId}
-use Rattle.cpp_tree.specs.Trees.{Tree, typ_in}
-use Rattle.cpp_tree.specs.Arena.{tree_at, Grows, Adds}
-use Rattle.cpp_tree.specs.declared.faults.ElabFault.{ElabFault}
-use Rattle.elab_ctx.specs.Ctx.{Ctx, Work}
-use Rattle.elab_ctx.specs.Steps.{and_then, Made, Operand}
-use Rattle.elab_ctx.specs.Says.{Given, Gives, MadeAt, Makes}
-use Rattle.elab_ctx.proofs.Looks.{grows_trans, at_grown, within_grown}
-use Rattle.elab_ctx.proofs.Making.{faults_in, faults_same}
-use Rattle.elab_rules.specs.Initialising.{with_tree}
-use Rattle.elab_rules.specs.Operators.{branches}
-use Rattle.cpp_types.specs.declared.classes.At.{At}
-use Rattle.cpp_types.specs.Typ.{Typ}
-use Rattle.elab_ctx.specs.Operands.{operand_in}
-use Rattle.elab_ctx.specs.declared.operand.Operand.{Operand as OperandRec}
+use Rattle.elab_make.specs.cpp_tree.declared.arena.TNodeId.{TNodeId}
+use Rattle.elab_make.specs.cpp_tree.Trees.{Tree, typ_in}
+use Rattle.elab_make.specs.cpp_tree.Arena.{tree_at, Grows, Adds}
+use Rattle.elab_make.specs.cpp_tree.declared.faults.ElabFault.{ElabFault}
+use Rattle.elab_make.specs.elab_ctx.Ctx.{Ctx, Work}
+use Rattle.elab_make.specs.elab_ctx.Steps.{and_then, Made, Operand}
+use Rattle.elab_make.specs.elab_ctx.Says.{Given, Gives, MadeAt, Makes}
+use Rattle.elab_make.proofs.elab_ctx.Looks.{grows_trans, at_grown, within_grown}
+use Rattle.elab_make.proofs.elab_ctx.Making.{faults_in, faults_same}
+use Rattle.elab_make.specs.elab_rules.Initialising.{with_tree}
+use Rattle.elab_make.specs.elab_rules.Operators.{branches}
+use Rattle.elab_make.specs.cpp_types.declared.classes.At.{At}
+use Rattle.elab_make.specs.cpp_types.Typ.{Typ}
+use Rattle.elab_make.specs.elab_ctx.Operands.{operand_in}
+use Rattle.elab_make.specs.elab_ctx.declared.operand.Operand.{Operand as OperandRec}
 
 -- a node over a tree that stood there and two that are made
 pub three_made : (n0 n1 n2 n3 : List Tree) (s b x y r : TNodeId) (f : Tree → Tree → Tree → Tree) (g : Tree → Tree) (t : Tree) → s.0 < length n0 → b.0 < length n0 → Adds n0 n1 x t → Adds n1 n2 y (g (tree_at n1 b)) → Adds n2 n3 r (f (tree_at n2 s) (tree_at n2 x) (tree_at n2 y)) → Adds n0 n3 r (f (tree_at n0 s) t (g (tree_at n0 b)))

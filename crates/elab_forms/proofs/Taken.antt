@@ -1,16 +1,16 @@
 -- Trees that a row takes apart.
 use Rattle.std.proofs.Common.{◌≡◌, ◌≢◌, ◌∙◌, Bool, false, List, [], ◌∷◌, length, Result, Ok, Err, IfOk, refl, sym, ap}
 use Rattle.std.specs.declared.alloc.AllocError.{AllocError}
-use Rattle.cpp_types.specs.Typ.{Typ}
-use Rattle.cpp_types.specs.declared.classes.At.{At}
-use Rattle.cpp_types.specs.declared.ranks.Cat.{Cat}
-use Rattle.cpp_types.specs.declared.ranks.Cat.TheVariants.{Lvalue, Prvalue}
-use Rattle.cpp_tree.specs.declared.kinds.TKind.{TKind}
-use Rattle.cpp_tree.specs.declared.kinds.TKind.TheVariants.{Local, Global, Load, Retype, Binary}
-use Rattle.cpp_tree.specs.Trees.{Tree, node, Trees, none, more, kind_of, cat_of, kids_of}
-use Rattle.cpp_tree.specs.declared.arena.TNodeId.{TNodeId}
-use Rattle.cpp_tree.specs.Arena.{trees_at}
-use Rattle.elab_rules.specs.Operators.{is_read_when_dropped}
+use Rattle.elab_make.specs.cpp_types.Typ.{Typ}
+use Rattle.elab_make.specs.cpp_types.declared.classes.At.{At}
+use Rattle.elab_make.specs.cpp_types.declared.ranks.Cat.{Cat}
+use Rattle.elab_make.specs.cpp_types.declared.ranks.Cat.TheVariants.{Lvalue, Prvalue}
+use Rattle.elab_make.specs.cpp_tree.declared.kinds.TKind.{TKind}
+use Rattle.elab_make.specs.cpp_tree.declared.kinds.TKind.TheVariants.{Local, Global, Load, Retype, Binary}
+use Rattle.elab_make.specs.cpp_tree.Trees.{Tree, node, Trees, none, more, kind_of, cat_of, kids_of}
+use Rattle.elab_make.specs.cpp_tree.declared.arena.TNodeId.{TNodeId}
+use Rattle.elab_make.specs.cpp_tree.Arena.{trees_at}
+use Rattle.elab_make.specs.elab_rules.Operators.{is_read_when_dropped}
 use Rattle.elab_forms.specs.Parts.{is_one_prvalue, is_read_lvalue, is_read_by}
 
 lvalue_read : (kind : TKind) (t : Typ) (at : At) (kids : Trees) → is_read_when_dropped (node kind t Lvalue at kids) ≡ is_read_lvalue kind kids

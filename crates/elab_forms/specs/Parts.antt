@@ -1,11 +1,11 @@
 -- Trees that a row takes apart, by their kind, type, category and kids.
 use Rattle.std.specs.Prelude.{Bool, true, false}
-use Rattle.cpp_types.specs.declared.ranks.Cat.{Cat}
-use Rattle.cpp_types.specs.declared.ranks.Cat.TheVariants.{Lvalue, Prvalue}
-use Rattle.cpp_tree.specs.declared.kinds.TKind.{TKind}
-use Rattle.cpp_tree.specs.declared.kinds.TKind.TheVariants.{Local, Global, Load, Retype, Binary}
-use Rattle.cpp_tree.specs.Trees.{Trees, none, more, cat_of}
-use Rattle.cpp_tree.specs.Typing.{is_prvalue}
+use Rattle.elab_make.specs.cpp_types.declared.ranks.Cat.{Cat}
+use Rattle.elab_make.specs.cpp_types.declared.ranks.Cat.TheVariants.{Lvalue, Prvalue}
+use Rattle.elab_make.specs.cpp_tree.declared.kinds.TKind.{TKind}
+use Rattle.elab_make.specs.cpp_tree.declared.kinds.TKind.TheVariants.{Local, Global, Load, Retype, Binary}
+use Rattle.elab_make.specs.cpp_tree.Trees.{Trees, none, more, cat_of}
+use Rattle.elab_make.specs.cpp_tree.Typing.{is_prvalue}
 
 abbrev pub is_one_prvalue : Trees → Bool
 is_one_prvalue (more e none) = is_prvalue (cat_of e)

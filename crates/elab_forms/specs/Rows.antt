@@ -1,19 +1,19 @@
 -- Parts of rows, as functions of what they read.
 use Rattle.std.specs.Prelude.{Bool, ◌&&◌, ◌||◌, Option, Some, None, is_some, Result, Ok, if◌then◌else◌, ℕ}
-use Rattle.cpp_types.specs.Typ.{Typ, Form, ptr}
-use Rattle.cpp_types.specs.Equal.{form_eq}
-use Rattle.cpp_types.specs.declared.classes.At.{At}
-use Rattle.cpp_types.specs.declared.ranks.Cat.TheVariants.{Prvalue}
-use Rattle.cpp_tree.specs.declared.faults.ElabFault.{ElabFault}
-use Rattle.cpp_tree.specs.declared.faults.IllRule.TheVariants.{BadOperand}
-use Rattle.cpp_tree.specs.Trees.{Tree, kind_of, typ_in}
-use Rattle.cpp_tree.specs.Notation.{plain}
-use Rattle.cpp_tree.specs.Typing.{form_in, unqualified, is_void, kind_in}
-use Rattle.elab_ctx.specs.Ctx.{Ctx, Work}
-use Rattle.elab_ctx.specs.Steps.{and_then, check, Operand, Made}
-use Rattle.elab_rules.specs.Values.{bool_type}
-use Rattle.elab_rules.specs.Initialising.{initial, as_source}
-use Rattle.elab_rules.specs.Operators.{value, arithmetic, as_pointer, is_null, assigned, is_throw, same_lvalues, conditional_node, two_numbers, branches}
+use Rattle.elab_make.specs.cpp_types.Typ.{Typ, Form, ptr}
+use Rattle.elab_make.specs.cpp_types.Equal.{form_eq}
+use Rattle.elab_make.specs.cpp_types.declared.classes.At.{At}
+use Rattle.elab_make.specs.cpp_types.declared.ranks.Cat.TheVariants.{Prvalue}
+use Rattle.elab_make.specs.cpp_tree.declared.faults.ElabFault.{ElabFault}
+use Rattle.elab_make.specs.cpp_tree.declared.faults.IllRule.TheVariants.{BadOperand}
+use Rattle.elab_make.specs.cpp_tree.Trees.{Tree, kind_of, typ_in}
+use Rattle.elab_make.specs.cpp_tree.Notation.{plain}
+use Rattle.elab_make.specs.cpp_tree.Typing.{form_in, unqualified, is_void, kind_in}
+use Rattle.elab_make.specs.elab_ctx.Ctx.{Ctx, Work}
+use Rattle.elab_make.specs.elab_ctx.Steps.{and_then, check, Operand, Made}
+use Rattle.elab_make.specs.elab_rules.Values.{bool_type}
+use Rattle.elab_make.specs.elab_rules.Initialising.{initial, as_source}
+use Rattle.elab_make.specs.elab_rules.Operators.{value, arithmetic, as_pointer, is_null, assigned, is_throw, same_lvalues, conditional_node, two_numbers, branches}
 use Rattle.elab_ops.specs.Forms.{value_initial}
 
 -- Assignments

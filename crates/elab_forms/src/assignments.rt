@@ -1,25 +1,25 @@
 // Assignments (C++14 5.17).
 
 ghost use Rattle.std.specs.Prelude.{◌≡◌, ◌<◌, length, is_some, IfOk};
-ghost use Rattle.cpp_types.specs.Typ.{typ_of, class as class_form, tx_ex};
-ghost use Rattle.cpp_types.specs.Equal.{form_eq};
-ghost use Rattle.cpp_types.specs.declared.ranks.Cat.TheVariants.{Lvalue};
-ghost use Rattle.cpp_tree.specs.declared.kinds.TKind.TheVariants.{CopyAssign};
-ghost use Rattle.cpp_tree.specs.Trees.{node, three, typ_in};
-ghost use Rattle.cpp_tree.specs.Arena.{trees_of, tree_at, Adds};
-ghost use Rattle.cpp_tree.specs.Typing.{form_in, kind_in};
-ghost use Rattle.elab_ctx.specs.Ctx.{ctx_of, work_of};
-ghost use Rattle.elab_ctx.specs.Operands.{operand_in};
-ghost use Rattle.elab_ctx.specs.Says.{Gives, Makes};
-ghost use Rattle.elab_rules.specs.Objects.{copies};
-ghost use Rattle.elab_rules.specs.Operators.{assigned, class_assigned_in, class_assigned, copy_assigned, assignment};
+ghost use Rattle.elab_make.specs.cpp_types.Typ.{typ_of, class as class_form, tx_ex};
+ghost use Rattle.elab_make.specs.cpp_types.Equal.{form_eq};
+ghost use Rattle.elab_make.specs.cpp_types.declared.ranks.Cat.TheVariants.{Lvalue};
+ghost use Rattle.elab_make.specs.cpp_tree.declared.kinds.TKind.TheVariants.{CopyAssign};
+ghost use Rattle.elab_make.specs.cpp_tree.Trees.{node, three, typ_in};
+ghost use Rattle.elab_make.specs.cpp_tree.Arena.{trees_of, tree_at, Adds};
+ghost use Rattle.elab_make.specs.cpp_tree.Typing.{form_in, kind_in};
+ghost use Rattle.elab_make.specs.elab_ctx.Ctx.{ctx_of, work_of};
+ghost use Rattle.elab_make.specs.elab_ctx.Operands.{operand_in};
+ghost use Rattle.elab_make.specs.elab_ctx.Says.{Gives, Makes};
+ghost use Rattle.elab_make.specs.elab_rules.Objects.{copies};
+ghost use Rattle.elab_make.specs.elab_rules.Operators.{assigned, class_assigned_in, class_assigned, copy_assigned, assignment};
 ghost use Rattle.elab_forms.specs.Rows.{scalar_assigned, as_object};
 
-use cpp_tree::{ElabFault, IllRule, TKind, TNode, TNodeId, add_binary};
-use cpp_types::{At, Cat, Shape, Ty, copy, equal_types};
-use elab_conv::types::{kind_of, unqualified_type};
-use elab_ctx::{Env, Operand, Work, node_at};
-use elab_init::{as_source, class_number, copies, is_class_type, is_same_or_base, traits_at};
+use elab_make::below::{
+    At, Cat, ElabFault, Env, IllRule, Operand, Shape, TKind, TNode, TNodeId, Ty, Work, add_binary,
+    as_source, class_number, copies, copy, equal_types, is_class_type, is_same_or_base, kind_of,
+    node_at, traits_at, unqualified_type,
+};
 use elab_make::{initial, object_of};
 use elab_ops::ill;
 use elab_ops::truth::add_three;

@@ -1,31 +1,30 @@
 // `? :` (C++14 5.16).
 
 ghost use Rattle.std.specs.Prelude.{◌≡◌, ◌<◌, length, IfOk, None};
-ghost use Rattle.cpp_types.specs.Typ.{typ_of, void, ptr, int};
-ghost use Rattle.cpp_types.specs.declared.ranks.Cat.TheVariants.{Prvalue};
-ghost use Rattle.cpp_tree.specs.Trees.{typ_in, cat_of};
-ghost use Rattle.cpp_tree.specs.Notation.{plain};
-ghost use Rattle.cpp_tree.specs.Arena.{trees_of, tree_at, Adds};
-ghost use Rattle.cpp_tree.specs.Typing.{form_in, is_void};
-ghost use Rattle.elab_ctx.specs.Ctx.{ctx_of, work_of};
-ghost use Rattle.elab_ctx.specs.Operands.{operand_in};
-ghost use Rattle.elab_ctx.specs.Says.{Gives, Makes};
-ghost use Rattle.elab_rules.specs.Operators.{value, as_kind, as_pointer, pointed, conditional_node, same_lvalues, both_of_class, two_numbers, two_values, two_objects, branches, conditional};
+ghost use Rattle.elab_make.specs.cpp_types.Typ.{typ_of, void, ptr, int};
+ghost use Rattle.elab_make.specs.cpp_types.declared.ranks.Cat.TheVariants.{Prvalue};
+ghost use Rattle.elab_make.specs.cpp_tree.Trees.{typ_in, cat_of};
+ghost use Rattle.elab_make.specs.cpp_tree.Notation.{plain};
+ghost use Rattle.elab_make.specs.cpp_tree.Arena.{trees_of, tree_at, Adds};
+ghost use Rattle.elab_make.specs.cpp_tree.Typing.{form_in, is_void};
+ghost use Rattle.elab_make.specs.elab_ctx.Ctx.{ctx_of, work_of};
+ghost use Rattle.elab_make.specs.elab_ctx.Operands.{operand_in};
+ghost use Rattle.elab_make.specs.elab_ctx.Says.{Gives, Makes};
+ghost use Rattle.elab_make.specs.elab_rules.Operators.{value, as_kind, as_pointer, pointed, conditional_node, same_lvalues, both_of_class, two_numbers, two_values, two_objects, branches, conditional};
 ghost use Rattle.elab_forms.specs.Rows.{both_throw, both_stay, value_or_null, null_or_value, same_scalars, two_scalars, conditional_by};
 
 use crate::drops::is_throw;
-use cpp_tree::{ElabFault, IllRule, TKind, TNode, TNodeId};
-use cpp_types::{At, Cat, Shape, Ty, copy, equal_shapes, equal_types};
-use elab_conv::types::{kind_of, pointer_to, unqualified_type};
-use elab_ctx::{Env, Operand, Work, node_at};
-use elab_init::is_class_type;
+use elab_make::below::{
+    At, Cat, ElabFault, Env, IllRule, IntKind, Operand, Shape, TKind, TNode, TNodeId, Ty, Work,
+    copy, equal_shapes, equal_types, is_class_type, kind_of, node_at, pointer_to, unqualified_type,
+    usual,
+};
 use elab_make::class_from;
 use elab_ops::operands::{arithmetic, as_kind, as_pointer, int_type, is_null, pointed, value_type};
 use elab_ops::pointers::is_lvalue;
 use elab_ops::truth::{add_three, bool_value};
 use elab_ops::{ill, value};
 use std::alloc::{AllocError, Global};
-use tx_ints::{IntKind, usual};
 
 // A node of a test and two expressions.
 fn conditional_node(

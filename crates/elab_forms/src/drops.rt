@@ -1,19 +1,19 @@
 // Values that are dropped (C++14 clause 5 p11), and `,` (5.18).
 
 ghost use Rattle.std.specs.Prelude.{◌≡◌, ◌<◌, length, IfOk};
-ghost use Rattle.cpp_types.specs.Typ.{typ_of};
-ghost use Rattle.cpp_tree.specs.Trees.{kind_of as kind_in_tree, kids_of};
-ghost use Rattle.cpp_tree.specs.Arena.{trees_of, tree_at};
-ghost use Rattle.elab_ctx.specs.Ctx.{ctx_of, work_of};
-ghost use Rattle.elab_ctx.specs.Operands.{operand_in};
-ghost use Rattle.elab_ctx.specs.Says.{Puts};
-ghost use Rattle.elab_rules.specs.Operators.{dropped, comma, is_throw, is_volatile_scalar, is_read_when_dropped};
+ghost use Rattle.elab_make.specs.cpp_types.Typ.{typ_of};
+ghost use Rattle.elab_make.specs.cpp_tree.Trees.{kind_of as kind_in_tree, kids_of};
+ghost use Rattle.elab_make.specs.cpp_tree.Arena.{trees_of, tree_at};
+ghost use Rattle.elab_make.specs.elab_ctx.Ctx.{ctx_of, work_of};
+ghost use Rattle.elab_make.specs.elab_ctx.Operands.{operand_in};
+ghost use Rattle.elab_make.specs.elab_ctx.Says.{Puts};
+ghost use Rattle.elab_make.specs.elab_rules.Operators.{dropped, comma, is_throw, is_volatile_scalar, is_read_when_dropped};
 ghost use Rattle.elab_forms.specs.Parts.{is_one_prvalue, is_read_lvalue, is_read_by};
 
-use cpp_tree::{TKind, TNode, TNodeId, add_binary};
-use cpp_types::{At, Cat, Ty, copy};
-use elab_conv::types::kind_of;
-use elab_ctx::{Env, Operand, Work, kids_at, node_at};
+use elab_make::below::{
+    At, Cat, Env, Operand, TKind, TNode, TNodeId, Ty, Work, add_binary, copy, kids_at, kind_of,
+    node_at,
+};
 use elab_make::object_of;
 use elab_ops::value;
 use std::alloc::{AllocError, Global};

@@ -2,6 +2,7 @@
 #![tactic(auto)]
 
 pub mod assignments;
+pub mod below;
 pub mod conditionals;
 pub mod drops;
 

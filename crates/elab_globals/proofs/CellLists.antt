@@ -2,24 +2,24 @@
 use Rattle.std.proofs.Common.{◌≡◌, ℕ, suc, ◌+◌, ◌<◌, ◌≤◌, Bool, List, [], ◌∷◌, ◌++◌, length, drop, get_or, Result, Ok, Err, refl, sym, ◌∙◌, ap, append_assoc, append-nil, subst, ◌≢◌}
 use Rattle.std.specs.Prelude.{Vec}
 use Rattle.std.specs.declared.alloc.Global.{Global as Heap}
-use Rattle.tx_ints.specs.declared.kinds.IntKind.{IntKind}
+use Rattle.elab_rules.specs.tx_ints.declared.kinds.IntKind.{IntKind}
 use Rattle.cpp_types.specs.declared.classes.At.{At}
-use Rattle.cpp_tree.specs.declared.kinds.TKind.{TKind}
-use Rattle.cpp_tree.specs.declared.faults.ElabFault.TheVariants.{Ill}
-use Rattle.cpp_tree.specs.declared.faults.IllRule.TheVariants.{NotConstant}
+use Rattle.elab_rules.specs.cpp_tree.declared.kinds.TKind.{TKind}
+use Rattle.elab_rules.specs.cpp_tree.declared.faults.ElabFault.TheVariants.{Ill}
+use Rattle.elab_rules.specs.cpp_tree.declared.faults.IllRule.TheVariants.{NotConstant}
 use Rattle.elab_types.specs.Shown.{Says}
 use Rattle.elab_globals.specs.Says.{cells_shown}
-use Rattle.cpp_tree.specs.declared.kinds.TKind.TheVariants.{Store, Pieces, Piece, Elements}
-use Rattle.cpp_tree.specs.declared.faults.ElabFault.{ElabFault}
-use Rattle.cpp_tree.specs.declared.arena.TNodeId.{TNodeId}
-use Rattle.cpp_tree.specs.declared.program.InitCell.{InitCell}
-use Rattle.cpp_tree.specs.Trees.{Tree, node, Trees, none, more, kind_of, kids_of}
-use Rattle.cpp_tree.specs.Arena.{tree_at, trees_at}
-use Rattle.cpp_tree.specs.Units.{Cell}
-use Rattle.elab_ctx.specs.Ctx.{Ctx, Work}
-use Rattle.elab_ctx.specs.Says.{Faults, place_in}
-use Rattle.elab_ctx.specs.Steps.{and_then}
-use Rattle.elab_ctx.proofs.Making.{faults_in, faults_same}
+use Rattle.elab_rules.specs.cpp_tree.declared.kinds.TKind.TheVariants.{Store, Pieces, Piece, Elements}
+use Rattle.elab_rules.specs.cpp_tree.declared.faults.ElabFault.{ElabFault}
+use Rattle.elab_rules.specs.cpp_tree.declared.arena.TNodeId.{TNodeId}
+use Rattle.elab_rules.specs.cpp_tree.declared.program.InitCell.{InitCell}
+use Rattle.elab_rules.specs.cpp_tree.Trees.{Tree, node, Trees, none, more, kind_of, kids_of}
+use Rattle.elab_rules.specs.cpp_tree.Arena.{tree_at, trees_at}
+use Rattle.elab_rules.specs.cpp_tree.Units.{Cell}
+use Rattle.elab_rules.specs.elab_ctx.Ctx.{Ctx, Work}
+use Rattle.elab_rules.specs.elab_ctx.Says.{Faults, place_in}
+use Rattle.elab_rules.specs.elab_ctx.Steps.{and_then}
+use Rattle.elab_rules.proofs.elab_ctx.Making.{faults_in, faults_same}
 use Rattle.elab_sizes.proofs.Dropped.{drop_past, drop_step}
 use Rattle.elab_rules.specs.Globals.{cells_of, cells_of_all, moved_cells, repeated_cells}
 use Rattle.elab_globals.specs.Cells.{cells_by, stored_cells}

@@ -1,15 +1,15 @@
 -- The cells of an initialiser by its kind, its place and its kids.
 use Rattle.std.specs.Prelude.{List, Result, Ok, Err}
 use Rattle.cpp_types.specs.declared.classes.At.{At}
-use Rattle.cpp_tree.specs.declared.kinds.TKind.{TKind}
-use Rattle.cpp_tree.specs.declared.kinds.TKind.TheVariants.{Store, Pieces, Piece, Elements}
-use Rattle.cpp_tree.specs.declared.faults.ElabFault.{ElabFault}
-use Rattle.cpp_tree.specs.declared.faults.ElabFault.TheVariants.{Ill}
-use Rattle.cpp_tree.specs.declared.faults.IllRule.TheVariants.{NotConstant}
-use Rattle.cpp_tree.specs.Trees.{Trees, none, more}
-use Rattle.cpp_tree.specs.Units.{Cell}
-use Rattle.elab_ctx.specs.Ctx.{Ctx, Work}
-use Rattle.elab_ctx.specs.Steps.{and_then}
+use Rattle.elab_rules.specs.cpp_tree.declared.kinds.TKind.{TKind}
+use Rattle.elab_rules.specs.cpp_tree.declared.kinds.TKind.TheVariants.{Store, Pieces, Piece, Elements}
+use Rattle.elab_rules.specs.cpp_tree.declared.faults.ElabFault.{ElabFault}
+use Rattle.elab_rules.specs.cpp_tree.declared.faults.ElabFault.TheVariants.{Ill}
+use Rattle.elab_rules.specs.cpp_tree.declared.faults.IllRule.TheVariants.{NotConstant}
+use Rattle.elab_rules.specs.cpp_tree.Trees.{Trees, none, more}
+use Rattle.elab_rules.specs.cpp_tree.Units.{Cell}
+use Rattle.elab_rules.specs.elab_ctx.Ctx.{Ctx, Work}
+use Rattle.elab_rules.specs.elab_ctx.Steps.{and_then}
 use Rattle.elab_rules.specs.Braces.{tree_place}
 use Rattle.elab_rules.specs.Constants.{constant, address}
 use Rattle.elab_rules.specs.Globals.{scalar_cells, cells_of, cells_of_all, moved_cells, element_cells}

@@ -1,12 +1,12 @@
 // The first bytes of globals (C++14 3.6.2): a cell for each scalar that is not zero.
 
 ghost use Rattle.std.specs.Prelude.{◌≡◌, ◌<◌, ◌+◌, ◌++◌, ◌%◌, ◌^◌, ◌*◌, ◌∷◌, [], length, map, slice_get, true, Ok, IfOk, OnOk, option_map};
-ghost use Rattle.cpp_layout.specs.Layout.{kind_size};
-ghost use Rattle.cpp_tree.specs.Trees.{kids_of as kids_in};
-ghost use Rattle.cpp_tree.specs.Arena.{trees_of, tree_at, trees_at, are_below};
-ghost use Rattle.cpp_tree.specs.Units.{cell_of, global_of};
-ghost use Rattle.elab_ctx.specs.Ctx.{ctx_of, work_of};
-ghost use Rattle.elab_ctx.specs.Says.{are_within, place_in};
+ghost use Rattle.elab_rules.specs.cpp_layout.Layout.{kind_size};
+ghost use Rattle.elab_rules.specs.cpp_tree.Trees.{kids_of as kids_in};
+ghost use Rattle.elab_rules.specs.cpp_tree.Arena.{trees_of, tree_at, trees_at, are_below};
+ghost use Rattle.elab_rules.specs.cpp_tree.Units.{cell_of, global_of};
+ghost use Rattle.elab_rules.specs.elab_ctx.Ctx.{ctx_of, work_of};
+ghost use Rattle.elab_rules.specs.elab_ctx.Says.{are_within, place_in};
 ghost use Rattle.elab_types.specs.Shown.{Says};
 ghost use Rattle.elab_consts.specs.Shown.{address_of};
 ghost use Rattle.elab_rules.specs.Globals.{number_cell, global_symbol, address_cell, scalar_cells, moved_cells, repeated_cells, element_cells, cells_of, cells_of_all};
@@ -14,13 +14,14 @@ ghost use Rattle.elab_globals.specs.Says.{cells_shown};
 ghost use Rattle.elab_globals.specs.Cells.{stored_cells, piece_cells, cells_by};
 
 use crate::symbols::symbol_of;
-use cpp_tree::{CellKind, ElabFault, IllRule, InitCell, TGlobal, TKind, TNodeId};
 use cpp_types::At;
 use elab_consts::{AddressOf, address, constant};
-use elab_ctx::{Env, Work, function_at, kids_at, node_at};
+use elab_rules::below::{
+    CellKind, ElabFault, Env, IllRule, InitCell, IntKind, TGlobal, TKind, TNodeId, Work,
+    function_at, kids_at, node_at,
+};
 use elab_types::specifiers::ill;
 use std::alloc::{AllocError, Global};
-use tx_ints::IntKind;
 
 // The size of a number of a kind, in bytes.
 fn kind_size(kind: IntKind) -> u8

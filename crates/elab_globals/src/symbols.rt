@@ -4,13 +4,12 @@ ghost use Rattle.std.specs.Prelude.{◌≡◌, ◌++◌, false, IfOk, OnOk};
 ghost use Rattle.cpp_types.specs.Typ.{typ_of, typs_of};
 ghost use Rattle.cpp_types.specs.Class.{classes_of, function_of};
 ghost use Rattle.cpp_types.specs.Spelling.{spelling, where_set, listed};
-ghost use Rattle.elab_ctx.specs.Ctx.{func_of};
+ghost use Rattle.elab_rules.specs.elab_ctx.Ctx.{func_of};
 ghost use Rattle.elab_rules.specs.Initialising.{signature_parameters};
 ghost use Rattle.elab_rules.specs.Globals.{const_mark, class_prefix, closure_spelling, symbol_behind, symbol_by, symbol_of};
 
-use cpp_tree::FuncKind;
 use cpp_types::{ClassRec, FuncRec, Shape, Ty, spell};
-use elab_ctx::FuncDecl;
+use elab_rules::below::{FuncDecl, FuncKind};
 use std::alloc::{AllocError, Global};
 
 fn write_type(

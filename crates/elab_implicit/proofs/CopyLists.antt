@@ -5,33 +5,33 @@ use Rattle.cpp_types.specs.Typ.{Typ, typ, void, int, enum, null, ptr, ref, array
 use Rattle.cpp_types.specs.Class.{Class, Member, classes_of}
 use Rattle.cpp_types.specs.Conversion.{referred}
 use Rattle.cpp_types.specs.declared.classes.At.{At}
-use Rattle.cpp_tree.specs.declared.faults.ElabFault.{ElabFault}
-use Rattle.cpp_tree.specs.declared.arena.TNodeId.{TNodeId}
-use Rattle.cpp_tree.specs.declared.kinds.TKind.TheVariants as forms
+use Rattle.elab_entry.specs.cpp_tree.declared.faults.ElabFault.{ElabFault}
+use Rattle.elab_entry.specs.cpp_tree.declared.arena.TNodeId.{TNodeId}
+use Rattle.elab_entry.specs.cpp_tree.declared.kinds.TKind.TheVariants as forms
 use Rattle.cpp_types.specs.declared.ranks.Cat.TheVariants.{Prvalue}
-use Rattle.cpp_tree.specs.Trees.{Tree, node, Trees, one, two}
-use Rattle.cpp_tree.specs.Arena.{tree_at, trees_at, Adds, Grows}
-use Rattle.cpp_tree.specs.Notation.{plain}
-use Rattle.cpp_tree.specs.Typing.{is_class_typ, qualified}
-use Rattle.elab_ctx.specs.Ctx.{Ctx, Work, Closure, ctx_of, work_of}
-use Rattle.elab_ctx.specs.Steps.{and_then, Made, Operand}
-use Rattle.elab_ctx.specs.Says.{Faults, MadeAt, Makes, are_within}
-use Rattle.elab_ctx.proofs.Looks.{at_grown, grows_refl, grows_trans}
-use Rattle.elab_ctx.proofs.Making.{faults_in, faults_same, last_adds}
-use Rattle.elab_init.proofs.Listing.{followed_twice, drop_step, drop_past, within_one}
-use Rattle.elab_rules.specs.Values.{part_at, stored, valued}
-use Rattle.elab_rules.specs.Objects.{followed_by, is_array}
-use Rattle.elab_rules.specs.Names.{held_by, members_in, offset_at}
-use Rattle.elab_rules.specs.Calls.{pointer_offset, base_of_class}
-use Rattle.elab_rules.specs.Statements.{State, Done, done, joined, with_work}
-use Rattle.elab_rules.specs.Initialising.{class_from, closure_part}
-use Rattle.elab_rules.specs.Members.{as_base_of, member_type, pointer_stored}
-use Rattle.elab_rules.specs.Implicit.{source_object, source_const, own_operand, part_copied, part_of_source, members_copied, base_copied, parts_copied}
-use Rattle.elab_scopes.specs.declared.state.State.{State as StateRec}
-use Rattle.elab_scopes.specs.States.{state_of, made}
-use Rattle.elab_scopes.specs.Says.{OneDone, AllDone, behind}
-use Rattle.elab_scopes.proofs.Standing.{grown_trans, grown_by}
-use Rattle.elab_scopes.proofs.Behind.{SoFar, so_far_more, so_far_done, so_far_fault, all_one, behind_fault}
+use Rattle.elab_entry.specs.cpp_tree.Trees.{Tree, node, Trees, one, two}
+use Rattle.elab_entry.specs.cpp_tree.Arena.{tree_at, trees_at, Adds, Grows}
+use Rattle.elab_entry.specs.cpp_tree.Notation.{plain}
+use Rattle.elab_entry.specs.cpp_tree.Typing.{is_class_typ, qualified}
+use Rattle.elab_entry.specs.elab_ctx.Ctx.{Ctx, Work, Closure, ctx_of, work_of}
+use Rattle.elab_entry.specs.elab_ctx.Steps.{and_then, Made, Operand}
+use Rattle.elab_entry.specs.elab_ctx.Says.{Faults, MadeAt, Makes, are_within}
+use Rattle.elab_entry.proofs.elab_ctx.Looks.{at_grown, grows_refl, grows_trans}
+use Rattle.elab_entry.proofs.elab_ctx.Making.{faults_in, faults_same, last_adds}
+use Rattle.elab_entry.proofs.elab_init.Listing.{followed_twice, drop_step, drop_past, within_one}
+use Rattle.elab_entry.specs.elab_rules.Values.{part_at, stored, valued}
+use Rattle.elab_entry.specs.elab_rules.Objects.{followed_by, is_array}
+use Rattle.elab_entry.specs.elab_rules.Names.{held_by, members_in, offset_at}
+use Rattle.elab_entry.specs.elab_rules.Calls.{pointer_offset, base_of_class}
+use Rattle.elab_entry.specs.elab_rules.Statements.{State, Done, done, joined, with_work}
+use Rattle.elab_entry.specs.elab_rules.Initialising.{class_from, closure_part}
+use Rattle.elab_entry.specs.elab_rules.Members.{as_base_of, member_type, pointer_stored}
+use Rattle.elab_entry.specs.elab_rules.Implicit.{source_object, source_const, own_operand, part_copied, part_of_source, members_copied, base_copied, parts_copied}
+use Rattle.elab_entry.specs.elab_scopes.declared.state.State.{State as StateRec}
+use Rattle.elab_entry.specs.elab_scopes.States.{state_of, made}
+use Rattle.elab_entry.specs.elab_scopes.Says.{OneDone, AllDone, behind}
+use Rattle.elab_entry.proofs.elab_scopes.Standing.{grown_trans, grown_by}
+use Rattle.elab_entry.proofs.elab_scopes.Behind.{SoFar, so_far_more, so_far_done, so_far_fault, all_one, behind_fault}
 use Rattle.elab_entry.specs.Says.{Listed, Lists}
 use Rattle.elab_implicit.specs.Building.{base_init, member_init}
 use Rattle.elab_implicit.specs.Copying.{array_copied, part_from, member_from, member_done, base_from, first_copied}

@@ -4,21 +4,21 @@ use Rattle.std.specs.declared.alloc.AllocError.{AllocError}
 use Rattle.cpp_types.specs.Typ.{Typ, class}
 use Rattle.cpp_types.specs.Class.{Member}
 use Rattle.cpp_types.specs.declared.classes.At.{At}
-use Rattle.cpp_tree.specs.declared.arena.TNodeId.{TNodeId}
-use Rattle.cpp_tree.specs.declared.kinds.TKind.TheVariants.{Defer, Block}
-use Rattle.cpp_tree.specs.Trees.{Tree, Trees, none, more, one}
-use Rattle.cpp_tree.specs.Arena.{tree_at, trees_at, Adds}
-use Rattle.cpp_tree.specs.Notation.{plain}
-use Rattle.elab_ctx.specs.Ctx.{Ctx}
-use Rattle.elab_ctx.specs.Says.{AddsAll, are_within}
-use Rattle.elab_ctx.proofs.Looks.{at_grown, grows_trans}
-use Rattle.elab_ctx.proofs.Making.{last_adds}
-use Rattle.elab_init.proofs.Listing.{Adding, adding_all, adding_done, adds_more, trees_append, trees_grown, all_within_grown, followed_twice, drop_step, drop_past}
-use Rattle.elab_rules.specs.Objects.{followed_by, destroys}
-use Rattle.elab_rules.specs.Calls.{pointer_offset, base_of_class}
-use Rattle.elab_rules.specs.Names.{members_in, offset_at}
-use Rattle.elab_rules.specs.Statements.{statement, block}
-use Rattle.elab_rules.specs.Members.{deferred_if, base_deferred, members_deferred, member_type, pointer_stored, destructor_tree}
+use Rattle.elab_entry.specs.cpp_tree.declared.arena.TNodeId.{TNodeId}
+use Rattle.elab_entry.specs.cpp_tree.declared.kinds.TKind.TheVariants.{Defer, Block}
+use Rattle.elab_entry.specs.cpp_tree.Trees.{Tree, Trees, none, more, one}
+use Rattle.elab_entry.specs.cpp_tree.Arena.{tree_at, trees_at, Adds}
+use Rattle.elab_entry.specs.cpp_tree.Notation.{plain}
+use Rattle.elab_entry.specs.elab_ctx.Ctx.{Ctx}
+use Rattle.elab_entry.specs.elab_ctx.Says.{AddsAll, are_within}
+use Rattle.elab_entry.proofs.elab_ctx.Looks.{at_grown, grows_trans}
+use Rattle.elab_entry.proofs.elab_ctx.Making.{last_adds}
+use Rattle.elab_entry.proofs.elab_init.Listing.{Adding, adding_all, adding_done, adds_more, trees_append, trees_grown, all_within_grown, followed_twice, drop_step, drop_past}
+use Rattle.elab_entry.specs.elab_rules.Objects.{followed_by, destroys}
+use Rattle.elab_entry.specs.elab_rules.Calls.{pointer_offset, base_of_class}
+use Rattle.elab_entry.specs.elab_rules.Names.{members_in, offset_at}
+use Rattle.elab_entry.specs.elab_rules.Statements.{statement, block}
+use Rattle.elab_entry.specs.elab_rules.Members.{deferred_if, base_deferred, members_deferred, member_type, pointer_stored, destructor_tree}
 use Rattle.elab_implicit.specs.Ending.{deferred, part_tree, member_deferred, parts_ended}
 use Rattle.elab_implicit.proofs.ObjectParts.{one_listed}
 use Rattle.elab_implicit.proofs.MemberSteps.{type_of_member}

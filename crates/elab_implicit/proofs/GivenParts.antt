@@ -1,13 +1,13 @@
 -- What is written for parts, as trees of nodes that grow; a class that is marked and marked back.
 use Rattle.std.proofs.Common.{◌≡◌, ◌<◌, ◌∙◌, ℕ, zero, suc, Bool, true, false, nat_lt, ◌&&◌, List, [], ◌∷◌, length, map, Option, Some, None, option_map, if◌then◌else◌, slice_get, slice_set, refl, sym, ap}
 use Rattle.std.proofs.lemmas.Bool.{and_parts, ltb-true}
-use Rattle.cpp_tree.specs.Trees.{Tree}
-use Rattle.cpp_tree.specs.Arena.{tree_at, Grows}
-use Rattle.elab_ctx.specs.Ctx.{Ctx, Traits}
-use Rattle.elab_ctx.proofs.Looks.{at_grown, within_grown}
+use Rattle.elab_entry.specs.cpp_tree.Trees.{Tree}
+use Rattle.elab_entry.specs.cpp_tree.Arena.{tree_at, Grows}
+use Rattle.elab_entry.specs.elab_ctx.Ctx.{Ctx, Traits}
+use Rattle.elab_entry.proofs.elab_ctx.Looks.{at_grown, within_grown}
 use Rattle.std.proofs.lemmas.Bool.{lt-ltb}
-use Rattle.elab_rules.specs.Names.{same_variable}
-use Rattle.elab_rules.specs.Members.{Given, same_part, given_for}
+use Rattle.elab_entry.specs.elab_rules.Names.{same_variable}
+use Rattle.elab_entry.specs.elab_rules.Members.{Given, same_part, given_for}
 use Rattle.elab_implicit.specs.declared.given.Given.{Given as GivenRec}
 use Rattle.elab_implicit.specs.Written.{given_in, found_for, are_there, traits_in, marked_abstract, was_abstract, with_abstract}
 

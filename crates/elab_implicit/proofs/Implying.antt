@@ -3,27 +3,27 @@ use Rattle.std.proofs.Common.{◌≡◌, ◌<◌, ◌≤◌, ◌∙◌, ℕ, zer
 use Rattle.std.specs.List.{list_any}
 use Rattle.cpp_types.specs.Typ.{Typ}
 use Rattle.cpp_types.specs.declared.classes.At.{At}
-use Rattle.cpp_tree.specs.declared.program.FuncKind.{FuncKind}
-use Rattle.cpp_tree.specs.declared.faults.ElabFault.{ElabFault}
-use Rattle.cpp_tree.specs.declared.arena.TNodeId.{TNodeId}
-use Rattle.cpp_tree.specs.Trees.{Tree, Trees, none, one}
-use Rattle.cpp_tree.specs.Units.{SlotFunc}
-use Rattle.cpp_tree.specs.Arena.{tree_at, trees_at, Grows, Adds}
-use Rattle.elab_ctx.specs.Ctx.{Ctx, Func, ctx_of}
-use Rattle.elab_ctx.specs.Steps.{and_then}
-use Rattle.elab_ctx.specs.Says.{Faults}
-use Rattle.elab_ctx.proofs.Looks.{grows_refl}
-use Rattle.elab_ctx.proofs.Making.{faults_in, faults_same}
-use Rattle.elab_rules.specs.Initialising.{func_at, no_function, same_number, signature_parameters}
-use Rattle.elab_rules.specs.Functions.{within_frame}
-use Rattle.elab_rules.specs.Statements.{Body, State, Done, done, the_tree}
-use Rattle.elab_rules.specs.Members.{constructor_tree}
-use Rattle.elab_rules.specs.Implicit.{is_in_slot, index_of, is_referred, refers}
-use Rattle.elab_rules.specs.Calls.{index_in_class}
-use Rattle.elab_scopes.specs.declared.state.State.{State as StateRec}
-use Rattle.elab_scopes.specs.States.{state_of, made, Grown}
-use Rattle.elab_scopes.specs.Says.{Changed, Changes, OneDone}
-use Rattle.elab_scopes.proofs.Standing.{grown_by, grown_refl, grown_trans, changes_after}
+use Rattle.elab_entry.specs.cpp_tree.declared.program.FuncKind.{FuncKind}
+use Rattle.elab_entry.specs.cpp_tree.declared.faults.ElabFault.{ElabFault}
+use Rattle.elab_entry.specs.cpp_tree.declared.arena.TNodeId.{TNodeId}
+use Rattle.elab_entry.specs.cpp_tree.Trees.{Tree, Trees, none, one}
+use Rattle.elab_entry.specs.cpp_tree.Units.{SlotFunc}
+use Rattle.elab_entry.specs.cpp_tree.Arena.{tree_at, trees_at, Grows, Adds}
+use Rattle.elab_entry.specs.elab_ctx.Ctx.{Ctx, Func, ctx_of}
+use Rattle.elab_entry.specs.elab_ctx.Steps.{and_then}
+use Rattle.elab_entry.specs.elab_ctx.Says.{Faults}
+use Rattle.elab_entry.proofs.elab_ctx.Looks.{grows_refl}
+use Rattle.elab_entry.proofs.elab_ctx.Making.{faults_in, faults_same}
+use Rattle.elab_entry.specs.elab_rules.Initialising.{func_at, no_function, same_number, signature_parameters}
+use Rattle.elab_entry.specs.elab_rules.Functions.{within_frame}
+use Rattle.elab_entry.specs.elab_rules.Statements.{Body, State, Done, done, the_tree}
+use Rattle.elab_entry.specs.elab_rules.Members.{constructor_tree}
+use Rattle.elab_entry.specs.elab_rules.Implicit.{is_in_slot, index_of, is_referred, refers}
+use Rattle.elab_entry.specs.elab_rules.Calls.{index_in_class}
+use Rattle.elab_entry.specs.elab_scopes.declared.state.State.{State as StateRec}
+use Rattle.elab_entry.specs.elab_scopes.States.{state_of, made, Grown}
+use Rattle.elab_entry.specs.elab_scopes.Says.{Changed, Changes, OneDone}
+use Rattle.elab_entry.proofs.elab_scopes.Standing.{grown_by, grown_refl, grown_trans, changes_after}
 use Rattle.elab_entry.specs.Round.{Round, round_function, left_by}
 use Rattle.elab_entry.specs.Bodies.{body_kept, body_made}
 use Rattle.elab_entry.specs.Says.{Listed}

@@ -3,20 +3,20 @@ use Rattle.std.proofs.Common.{◌≡◌, ◌∙◌, ℕ, suc, Bool, List, [], �
 use Rattle.cpp_types.specs.Typ.{Typ, class}
 use Rattle.cpp_types.specs.Class.{Member}
 use Rattle.cpp_types.specs.declared.classes.At.{At}
-use Rattle.cpp_tree.specs.declared.faults.ElabFault.{ElabFault}
-use Rattle.cpp_tree.specs.declared.program.FuncKind.{FuncKind}
-use Rattle.cpp_tree.specs.declared.program.FuncKind.TheVariants.{Plain, Constructor, Destructor, ClosureCall}
-use Rattle.cpp_tree.specs.Trees.{Tree, Trees, none, more, one}
-use Rattle.cpp_tree.specs.Notation.{plain}
-use Rattle.elab_ctx.specs.Steps.{and_then, Made}
-use Rattle.elab_rules.specs.Objects.{followed_by}
-use Rattle.elab_rules.specs.Names.{members_in, offset_at}
-use Rattle.elab_rules.specs.Calls.{pointer_offset, base_of_class}
-use Rattle.elab_rules.specs.Braces.{default_at}
-use Rattle.elab_rules.specs.Initialising.{class_from}
-use Rattle.elab_rules.specs.Statements.{Body, State, Done, done, with_work}
-use Rattle.elab_rules.specs.Members.{Given, as_base_of, own_part, own_base, part_init, given_for, pointer_stored, default_built, base_built, member_built, members_built, parts_built, constructor_tree}
-use Rattle.elab_rules.specs.Implicit.{source_object, source_const, own_operand, part_copied, part_of_source, part_done, members_copied, base_copied, parts_copied, with_source}
+use Rattle.elab_entry.specs.cpp_tree.declared.faults.ElabFault.{ElabFault}
+use Rattle.elab_entry.specs.cpp_tree.declared.program.FuncKind.{FuncKind}
+use Rattle.elab_entry.specs.cpp_tree.declared.program.FuncKind.TheVariants.{Plain, Constructor, Destructor, ClosureCall}
+use Rattle.elab_entry.specs.cpp_tree.Trees.{Tree, Trees, none, more, one}
+use Rattle.elab_entry.specs.cpp_tree.Notation.{plain}
+use Rattle.elab_entry.specs.elab_ctx.Steps.{and_then, Made}
+use Rattle.elab_entry.specs.elab_rules.Objects.{followed_by}
+use Rattle.elab_entry.specs.elab_rules.Names.{members_in, offset_at}
+use Rattle.elab_entry.specs.elab_rules.Calls.{pointer_offset, base_of_class}
+use Rattle.elab_entry.specs.elab_rules.Braces.{default_at}
+use Rattle.elab_entry.specs.elab_rules.Initialising.{class_from}
+use Rattle.elab_entry.specs.elab_rules.Statements.{Body, State, Done, done, with_work}
+use Rattle.elab_entry.specs.elab_rules.Members.{Given, as_base_of, own_part, own_base, part_init, given_for, pointer_stored, default_built, base_built, member_built, members_built, parts_built, constructor_tree}
+use Rattle.elab_entry.specs.elab_rules.Implicit.{source_object, source_const, own_operand, part_copied, part_of_source, part_done, members_copied, base_copied, parts_copied, with_source}
 use Rattle.elab_implicit.specs.Implied.{constructor_parts, constructor_inside, inside_implied}
 
 -- the bodies that are done are these

@@ -1,3 +1,4 @@
+pub use Rattle.elab_entry.proofs.elab_types as elab_types
 pub mod CopyLists
 pub mod Deferring
 pub mod GivenParts

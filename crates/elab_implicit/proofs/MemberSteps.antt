@@ -2,10 +2,10 @@
 use Rattle.std.proofs.Common.{◌≡◌, ◌<◌, ◌≤◌, ◌∙◌, Bool, slice_set, ℕ, zero, suc, List, [], ◌∷◌, length, map, get_or, slice_get, refl, sym, ap, arith}
 use Rattle.cpp_types.specs.Typ.{Typ}
 use Rattle.cpp_types.specs.Class.{Member}
-use Rattle.elab_ctx.specs.Ctx.{Traits, traits_of}
-use Rattle.elab_ctx.specs.declared.env.Traits.{Traits as TraitsRec}
-use Rattle.elab_rules.specs.Objects.{no_traits}
-use Rattle.elab_rules.specs.Members.{member_type}
+use Rattle.elab_entry.specs.elab_ctx.Ctx.{Traits, traits_of}
+use Rattle.elab_entry.specs.elab_ctx.declared.env.Traits.{Traits as TraitsRec}
+use Rattle.elab_entry.specs.elab_rules.Objects.{no_traits}
+use Rattle.elab_entry.specs.elab_rules.Members.{member_type}
 use Rattle.elab_implicit.specs.Written.{traits_in, marked_abstract}
 
 pub type_of_member : (ms : List Member) (i : ℕ) (d : Member) → i < length ms → (get_or ms i d).typ ≡ member_type (slice_get ms i)

@@ -3,19 +3,19 @@ use Rattle.std.proofs.Common.{◌≡◌, ◌<◌, ◌∙◌, List, [], ◌∷◌
 use Rattle.std.specs.declared.alloc.AllocError.{AllocError}
 use Rattle.cpp_types.specs.Typ.{Typ}
 use Rattle.cpp_types.specs.declared.classes.At.{At}
-use Rattle.cpp_tree.specs.declared.arena.TNodeId.{TNodeId}
-use Rattle.cpp_tree.specs.declared.kinds.TKind.TheVariants.{Init, Block}
-use Rattle.cpp_tree.specs.Trees.{Tree, Trees, more, one}
-use Rattle.cpp_tree.specs.Arena.{tree_at, trees_at, Adds}
-use Rattle.elab_ctx.specs.Ctx.{Ctx}
-use Rattle.elab_ctx.specs.Says.{AddsAll, are_within}
-use Rattle.elab_ctx.proofs.Looks.{at_grown, grows_trans}
-use Rattle.elab_ctx.proofs.Making.{last_adds}
-use Rattle.elab_init.proofs.Listing.{adds_one, trees_append, trees_grown}
-use Rattle.elab_rules.specs.Values.{size_type, part_at}
-use Rattle.elab_rules.specs.Objects.{followed_by}
-use Rattle.elab_rules.specs.Statements.{statement, block}
-use Rattle.elab_rules.specs.Members.{part_init, constructor_tree}
+use Rattle.elab_entry.specs.cpp_tree.declared.arena.TNodeId.{TNodeId}
+use Rattle.elab_entry.specs.cpp_tree.declared.kinds.TKind.TheVariants.{Init, Block}
+use Rattle.elab_entry.specs.cpp_tree.Trees.{Tree, Trees, more, one}
+use Rattle.elab_entry.specs.cpp_tree.Arena.{tree_at, trees_at, Adds}
+use Rattle.elab_entry.specs.elab_ctx.Ctx.{Ctx}
+use Rattle.elab_entry.specs.elab_ctx.Says.{AddsAll, are_within}
+use Rattle.elab_entry.proofs.elab_ctx.Looks.{at_grown, grows_trans}
+use Rattle.elab_entry.proofs.elab_ctx.Making.{last_adds}
+use Rattle.elab_entry.proofs.elab_init.Listing.{adds_one, trees_append, trees_grown}
+use Rattle.elab_entry.specs.elab_rules.Values.{size_type, part_at}
+use Rattle.elab_entry.specs.elab_rules.Objects.{followed_by}
+use Rattle.elab_entry.specs.elab_rules.Statements.{statement, block}
+use Rattle.elab_entry.specs.elab_rules.Members.{part_init, constructor_tree}
 use Rattle.elab_implicit.specs.Building.{assigned}
 
 pub part_made : (a b d : List Tree) (object init : TNodeId) (ends kids : List TNodeId) (ts : Trees) (at : At) (r : Result TNodeId AllocError) → object.0 < length a → init.0 < length a → AddsAll a b ends ts → kids ≡ object ∷ init ∷ ends → IfOk r (λ (id : TNodeId). Adds b d id (statement Init at (trees_at b kids))) → IfOk r (λ (id : TNodeId). Adds a d id (statement Init at (more (tree_at a object) (more (tree_at a init) ts))))

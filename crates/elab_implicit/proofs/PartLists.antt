@@ -5,29 +5,29 @@ use Rattle.std.specs.declared.alloc.AllocError.{AllocError}
 use Rattle.cpp_types.specs.Typ.{Typ, class}
 use Rattle.cpp_types.specs.Class.{Class, Member, classes_of}
 use Rattle.cpp_types.specs.declared.classes.At.{At}
-use Rattle.cpp_tree.specs.declared.faults.ElabFault.{ElabFault}
-use Rattle.cpp_tree.specs.declared.arena.TNodeId.{TNodeId}
-use Rattle.cpp_tree.specs.Trees.{Tree, Trees, none, one}
-use Rattle.cpp_tree.specs.Arena.{tree_at, trees_at, Adds, Grows}
-use Rattle.cpp_tree.specs.Notation.{plain}
-use Rattle.elab_ctx.specs.Ctx.{Ctx, Work, Default, ctx_of, work_of}
-use Rattle.elab_ctx.specs.Steps.{and_then, Made}
-use Rattle.elab_ctx.specs.Says.{Faults, Given as GivenTree, Gives, AddsAll, MadeAt, are_within}
-use Rattle.elab_ctx.proofs.Looks.{grows_refl, grows_trans}
-use Rattle.elab_ctx.proofs.Making.{faults_in, faults_same}
-use Rattle.elab_init.proofs.Listing.{adds_more, followed_twice, drop_step, drop_past, trees_append, trees_grown, all_within_grown, within_both, within_one}
-use Rattle.elab_rules.specs.Objects.{followed_by}
-use Rattle.elab_rules.specs.Names.{this_pointer, members_in}
-use Rattle.elab_rules.specs.Calls.{pointer_offset, base_of_class}
-use Rattle.elab_rules.specs.Braces.{default_at, default_whole}
-use Rattle.elab_rules.specs.Statements.{State, Done, done, joined, with_work, default_object}
-use Rattle.elab_rules.specs.Members.{Given, as_base_of, own_this, part_init, own_base, given_for, member_type, default_built, base_built, member_built, members_built, parts_built, pointer_stored}
-use Rattle.elab_rules.specs.Implicit.{part_copied, part_of_source, members_copied, base_copied, parts_copied}
-use Rattle.elab_scopes.specs.declared.state.State.{State as StateRec}
-use Rattle.elab_scopes.specs.States.{state_of, made, Grown}
-use Rattle.elab_scopes.specs.Says.{OneDone, AllDone, DoesAll, behind}
-use Rattle.elab_scopes.proofs.Standing.{grown_trans, grown_by}
-use Rattle.elab_scopes.proofs.Behind.{SoFar, so_far_more, so_far_done, so_far_fault, all_one, behind_fault}
+use Rattle.elab_entry.specs.cpp_tree.declared.faults.ElabFault.{ElabFault}
+use Rattle.elab_entry.specs.cpp_tree.declared.arena.TNodeId.{TNodeId}
+use Rattle.elab_entry.specs.cpp_tree.Trees.{Tree, Trees, none, one}
+use Rattle.elab_entry.specs.cpp_tree.Arena.{tree_at, trees_at, Adds, Grows}
+use Rattle.elab_entry.specs.cpp_tree.Notation.{plain}
+use Rattle.elab_entry.specs.elab_ctx.Ctx.{Ctx, Work, Default, ctx_of, work_of}
+use Rattle.elab_entry.specs.elab_ctx.Steps.{and_then, Made}
+use Rattle.elab_entry.specs.elab_ctx.Says.{Faults, Given as GivenTree, Gives, AddsAll, MadeAt, are_within}
+use Rattle.elab_entry.proofs.elab_ctx.Looks.{grows_refl, grows_trans}
+use Rattle.elab_entry.proofs.elab_ctx.Making.{faults_in, faults_same}
+use Rattle.elab_entry.proofs.elab_init.Listing.{adds_more, followed_twice, drop_step, drop_past, trees_append, trees_grown, all_within_grown, within_both, within_one}
+use Rattle.elab_entry.specs.elab_rules.Objects.{followed_by}
+use Rattle.elab_entry.specs.elab_rules.Names.{this_pointer, members_in}
+use Rattle.elab_entry.specs.elab_rules.Calls.{pointer_offset, base_of_class}
+use Rattle.elab_entry.specs.elab_rules.Braces.{default_at, default_whole}
+use Rattle.elab_entry.specs.elab_rules.Statements.{State, Done, done, joined, with_work, default_object}
+use Rattle.elab_entry.specs.elab_rules.Members.{Given, as_base_of, own_this, part_init, own_base, given_for, member_type, default_built, base_built, member_built, members_built, parts_built, pointer_stored}
+use Rattle.elab_entry.specs.elab_rules.Implicit.{part_copied, part_of_source, members_copied, base_copied, parts_copied}
+use Rattle.elab_entry.specs.elab_scopes.declared.state.State.{State as StateRec}
+use Rattle.elab_entry.specs.elab_scopes.States.{state_of, made, Grown}
+use Rattle.elab_entry.specs.elab_scopes.Says.{OneDone, AllDone, DoesAll, behind}
+use Rattle.elab_entry.proofs.elab_scopes.Standing.{grown_trans, grown_by}
+use Rattle.elab_entry.proofs.elab_scopes.Behind.{SoFar, so_far_more, so_far_done, so_far_fault, all_one, behind_fault}
 use Rattle.elab_entry.specs.Says.{Listed, Lists}
 use Rattle.elab_implicit.specs.declared.given.Given.{Given as GivenRec}
 use Rattle.elab_implicit.specs.Says.{AllGiven}

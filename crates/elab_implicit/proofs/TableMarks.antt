@@ -3,11 +3,11 @@ use Rattle.std.proofs.Common.{◌≡◌, ◌<◌, ◌∙◌, ◌==◌, ℕ, zero
 use Rattle.std.proofs.lemmas.Bool.{eqb-true, eq-eqb}
 use Rattle.std.specs.List.{list_any}
 use Rattle.cpp_types.specs.Typ.{Typ}
-use Rattle.cpp_tree.specs.declared.kinds.TKind.{TKind}
-use Rattle.cpp_tree.specs.declared.kinds.TKind.TheVariants as forms
-use Rattle.cpp_tree.specs.Trees.{Tree, node, Trees, none, more}
-use Rattle.elab_rules.specs.Statements.{Body}
-use Rattle.elab_rules.specs.Implicit.{names_function, refers, any_refers}
+use Rattle.elab_entry.specs.cpp_tree.declared.kinds.TKind.{TKind}
+use Rattle.elab_entry.specs.cpp_tree.declared.kinds.TKind.TheVariants as forms
+use Rattle.elab_entry.specs.cpp_tree.Trees.{Tree, node, Trees, none, more}
+use Rattle.elab_entry.specs.elab_rules.Statements.{Body}
+use Rattle.elab_entry.specs.elab_rules.Implicit.{names_function, refers, any_refers}
 use Rattle.elab_implicit.specs.Marks.{marked_kind, marked, all_marked, with_marks, body_marks, table_of}
 
 or_false : (a : Bool) → (a || false) ≡ a

@@ -2,21 +2,21 @@
 use Rattle.std.specs.Prelude.{ℕ, false, Option, Some, None, Result, Ok, slice_get}
 use Rattle.cpp_types.specs.Typ.{Typ, class}
 use Rattle.cpp_types.specs.declared.classes.At.{At}
-use Rattle.cpp_tree.specs.declared.faults.ElabFault.{ElabFault}
-use Rattle.cpp_tree.specs.Trees.{Tree, node, Trees, none, one, two}
-use Rattle.cpp_tree.specs.declared.kinds.TKind.TheVariants as forms
+use Rattle.elab_entry.specs.cpp_tree.declared.faults.ElabFault.{ElabFault}
+use Rattle.elab_entry.specs.cpp_tree.Trees.{Tree, node, Trees, none, one, two}
+use Rattle.elab_entry.specs.cpp_tree.declared.kinds.TKind.TheVariants as forms
 use Rattle.cpp_types.specs.declared.ranks.Cat.TheVariants.{Lvalue, Prvalue}
-use Rattle.tx_ints.specs.declared.kinds.IntKind.TheVariants.{ULong}
-use Rattle.elab_rules.specs.Values.{size_type, part_at}
-use Rattle.cpp_tree.specs.Notation.{plain}
-use Rattle.elab_ctx.specs.Ctx.{Ctx, Work, Default}
-use Rattle.elab_ctx.specs.Steps.{and_then, Made}
-use Rattle.elab_rules.specs.Names.{this_pointer, offset_at}
-use Rattle.elab_rules.specs.Objects.{followed_by}
-use Rattle.elab_rules.specs.Calls.{pointer_offset, base_of_class}
-use Rattle.elab_rules.specs.Braces.{default_at, default_whole}
-use Rattle.elab_rules.specs.Statements.{default_object}
-use Rattle.elab_rules.specs.Members.{Given, as_base_of, own_this, own_part, own_base, part_init, pointer_stored}
+use Rattle.elab_entry.specs.tx_ints.declared.kinds.IntKind.TheVariants.{ULong}
+use Rattle.elab_entry.specs.elab_rules.Values.{size_type, part_at}
+use Rattle.elab_entry.specs.cpp_tree.Notation.{plain}
+use Rattle.elab_entry.specs.elab_ctx.Ctx.{Ctx, Work, Default}
+use Rattle.elab_entry.specs.elab_ctx.Steps.{and_then, Made}
+use Rattle.elab_entry.specs.elab_rules.Names.{this_pointer, offset_at}
+use Rattle.elab_entry.specs.elab_rules.Objects.{followed_by}
+use Rattle.elab_entry.specs.elab_rules.Calls.{pointer_offset, base_of_class}
+use Rattle.elab_entry.specs.elab_rules.Braces.{default_at, default_whole}
+use Rattle.elab_entry.specs.elab_rules.Statements.{default_object}
+use Rattle.elab_entry.specs.elab_rules.Members.{Given, as_base_of, own_this, own_part, own_base, part_init, pointer_stored}
 
 -- the table of a class
 abbrev pub table_tree : At → ℕ → Tree

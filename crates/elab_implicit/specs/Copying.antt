@@ -4,20 +4,20 @@ use Rattle.cpp_types.specs.Typ.{Typ, class}
 use Rattle.cpp_types.specs.Class.{Member}
 use Rattle.cpp_types.specs.declared.classes.At.{At}
 use Rattle.cpp_types.specs.declared.ranks.Cat.TheVariants.{Prvalue}
-use Rattle.cpp_tree.specs.declared.faults.ElabFault.{ElabFault}
-use Rattle.cpp_tree.specs.declared.kinds.TKind.TheVariants as forms
-use Rattle.cpp_tree.specs.Trees.{Tree, node, Trees, none, one, two}
-use Rattle.cpp_tree.specs.Notation.{plain}
-use Rattle.cpp_tree.specs.Typing.{is_class_typ}
-use Rattle.elab_ctx.specs.Ctx.{Ctx, Work}
-use Rattle.elab_ctx.specs.Steps.{and_then, Made}
-use Rattle.elab_rules.specs.Values.{stored, valued}
-use Rattle.elab_rules.specs.Objects.{is_array, followed_by}
-use Rattle.elab_rules.specs.Initialising.{class_from, closure_part}
-use Rattle.elab_rules.specs.Calls.{pointer_offset, base_of_class}
-use Rattle.elab_rules.specs.Statements.{State, Done, done, with_work}
-use Rattle.elab_rules.specs.Members.{as_base_of, pointer_stored}
-use Rattle.elab_rules.specs.Implicit.{own_operand, part_of_source, part_copied, base_copied}
+use Rattle.elab_entry.specs.cpp_tree.declared.faults.ElabFault.{ElabFault}
+use Rattle.elab_entry.specs.cpp_tree.declared.kinds.TKind.TheVariants as forms
+use Rattle.elab_entry.specs.cpp_tree.Trees.{Tree, node, Trees, none, one, two}
+use Rattle.elab_entry.specs.cpp_tree.Notation.{plain}
+use Rattle.elab_entry.specs.cpp_tree.Typing.{is_class_typ}
+use Rattle.elab_entry.specs.elab_ctx.Ctx.{Ctx, Work}
+use Rattle.elab_entry.specs.elab_ctx.Steps.{and_then, Made}
+use Rattle.elab_entry.specs.elab_rules.Values.{stored, valued}
+use Rattle.elab_entry.specs.elab_rules.Objects.{is_array, followed_by}
+use Rattle.elab_entry.specs.elab_rules.Initialising.{class_from, closure_part}
+use Rattle.elab_entry.specs.elab_rules.Calls.{pointer_offset, base_of_class}
+use Rattle.elab_entry.specs.elab_rules.Statements.{State, Done, done, with_work}
+use Rattle.elab_entry.specs.elab_rules.Members.{as_base_of, pointer_stored}
+use Rattle.elab_entry.specs.elab_rules.Implicit.{own_operand, part_of_source, part_copied, base_copied}
 use Rattle.elab_implicit.specs.Building.{base_init, member_init}
 
 -- an array from the source at hand

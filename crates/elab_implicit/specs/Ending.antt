@@ -2,15 +2,15 @@
 use Rattle.std.specs.Prelude.{ℕ, slice_get}
 use Rattle.cpp_types.specs.Typ.{Typ}
 use Rattle.cpp_types.specs.declared.classes.At.{At}
-use Rattle.cpp_tree.specs.declared.kinds.TKind.TheVariants as forms
-use Rattle.cpp_tree.specs.Trees.{Tree, Trees, more, one}
-use Rattle.elab_ctx.specs.Ctx.{Ctx}
-use Rattle.elab_rules.specs.Values.{part_at}
-use Rattle.elab_rules.specs.Names.{this_pointer, members_in, offset_at}
-use Rattle.elab_rules.specs.Objects.{destroys, followed_by}
-use Rattle.elab_rules.specs.Calls.{pointer_offset, base_of_class}
-use Rattle.elab_rules.specs.Statements.{statement}
-use Rattle.elab_rules.specs.Members.{own_this, own_part, deferred_if, base_deferred, members_deferred, pointer_stored}
+use Rattle.elab_entry.specs.cpp_tree.declared.kinds.TKind.TheVariants as forms
+use Rattle.elab_entry.specs.cpp_tree.Trees.{Tree, Trees, more, one}
+use Rattle.elab_entry.specs.elab_ctx.Ctx.{Ctx}
+use Rattle.elab_entry.specs.elab_rules.Values.{part_at}
+use Rattle.elab_entry.specs.elab_rules.Names.{this_pointer, members_in, offset_at}
+use Rattle.elab_entry.specs.elab_rules.Objects.{destroys, followed_by}
+use Rattle.elab_entry.specs.elab_rules.Calls.{pointer_offset, base_of_class}
+use Rattle.elab_entry.specs.elab_rules.Statements.{statement}
+use Rattle.elab_entry.specs.elab_rules.Members.{own_this, own_part, deferred_if, base_deferred, members_deferred, pointer_stored}
 
 -- a part with its destructions
 abbrev pub deferred : At → Tree → Trees → Trees

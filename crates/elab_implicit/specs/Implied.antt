@@ -2,19 +2,19 @@
 use Rattle.std.specs.Prelude.{◌≡◌, ℕ, zero, suc, Bool, ◌&&◌, List, [], length, Option, Some, None, Result, Ok, if◌then◌else◌}
 use Rattle.cpp_types.specs.Typ.{Typ, void, class, Typs, none as no_typs, more as and_typ}
 use Rattle.cpp_types.specs.declared.classes.At.{At}
-use Rattle.cpp_tree.specs.declared.program.FuncKind.{FuncKind}
-use Rattle.cpp_tree.specs.declared.program.FuncKind.TheVariants.{Destructor}
-use Rattle.cpp_tree.specs.declared.faults.ElabFault.{ElabFault}
-use Rattle.cpp_tree.specs.Trees.{none, one}
-use Rattle.cpp_tree.specs.Notation.{plain}
-use Rattle.elab_ctx.specs.Ctx.{Ctx, Func}
-use Rattle.elab_ctx.specs.Steps.{and_then}
-use Rattle.elab_rules.specs.Initialising.{func_at, signature_parameters}
-use Rattle.elab_rules.specs.Statements.{State, Done, done, the_tree}
-use Rattle.elab_rules.specs.Members.{parts_built, constructor_tree, destructor_tree}
-use Rattle.elab_rules.specs.Implicit.{is_in_slot, index_of, is_referred, source_object, source_const, parts_copied, with_source}
-use Rattle.elab_scopes.specs.declared.state.State.{State as StateRec}
-use Rattle.elab_scopes.specs.States.{state_of}
+use Rattle.elab_entry.specs.cpp_tree.declared.program.FuncKind.{FuncKind}
+use Rattle.elab_entry.specs.cpp_tree.declared.program.FuncKind.TheVariants.{Destructor}
+use Rattle.elab_entry.specs.cpp_tree.declared.faults.ElabFault.{ElabFault}
+use Rattle.elab_entry.specs.cpp_tree.Trees.{none, one}
+use Rattle.elab_entry.specs.cpp_tree.Notation.{plain}
+use Rattle.elab_entry.specs.elab_ctx.Ctx.{Ctx, Func}
+use Rattle.elab_entry.specs.elab_ctx.Steps.{and_then}
+use Rattle.elab_entry.specs.elab_rules.Initialising.{func_at, signature_parameters}
+use Rattle.elab_entry.specs.elab_rules.Statements.{State, Done, done, the_tree}
+use Rattle.elab_entry.specs.elab_rules.Members.{parts_built, constructor_tree, destructor_tree}
+use Rattle.elab_entry.specs.elab_rules.Implicit.{is_in_slot, index_of, is_referred, source_object, source_const, parts_copied, with_source}
+use Rattle.elab_entry.specs.elab_scopes.declared.state.State.{State as StateRec}
+use Rattle.elab_entry.specs.elab_scopes.States.{state_of}
 use Rattle.elab_entry.specs.Round.{round_function}
 use Rattle.elab_entry.specs.Bodies.{entered, body_made}
 use Rattle.elab_implicit.specs.Marks.{table_of}

@@ -1,9 +1,9 @@
 -- A table of the functions that trees name.
 use Rattle.std.specs.Prelude.{ℕ, Bool, true, false, List, fold, slice_set, replicate}
-use Rattle.cpp_tree.specs.declared.kinds.TKind.{TKind}
-use Rattle.cpp_tree.specs.declared.kinds.TKind.TheVariants as forms
-use Rattle.cpp_tree.specs.Trees.{Tree, node, Trees, none, more}
-use Rattle.elab_rules.specs.Statements.{Body}
+use Rattle.elab_entry.specs.cpp_tree.declared.kinds.TKind.{TKind}
+use Rattle.elab_entry.specs.cpp_tree.declared.kinds.TKind.TheVariants as forms
+use Rattle.elab_entry.specs.cpp_tree.Trees.{Tree, node, Trees, none, more}
+use Rattle.elab_entry.specs.elab_rules.Statements.{Body}
 
 -- the function that a node names is marked
 abbrev pub marked_kind : TKind → List Bool → List Bool

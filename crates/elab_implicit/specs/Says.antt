@@ -1,11 +1,11 @@
 -- What answers with several trees say, where nothing is made beside them.
 use Rattle.std.specs.Prelude.{◌≡◌, true, Vec, List, length, Result, Ok, Err}
 use Rattle.std.specs.declared.alloc.Global.{Global}
-use Rattle.cpp_tree.specs.declared.faults.ElabFault.{ElabFault}
-use Rattle.cpp_tree.specs.declared.arena.TNodeId.{TNodeId}
-use Rattle.cpp_tree.specs.Trees.{Tree, Trees}
-use Rattle.cpp_tree.specs.Arena.{trees_at, Grows}
-use Rattle.elab_ctx.specs.Says.{Faults, are_within}
+use Rattle.elab_entry.specs.cpp_tree.declared.faults.ElabFault.{ElabFault}
+use Rattle.elab_entry.specs.cpp_tree.declared.arena.TNodeId.{TNodeId}
+use Rattle.elab_entry.specs.cpp_tree.Trees.{Tree, Trees}
+use Rattle.elab_entry.specs.cpp_tree.Arena.{trees_at, Grows}
+use Rattle.elab_entry.specs.elab_ctx.Says.{Faults, are_within}
 
 -- the trees that are to be answered were added
 pub record AllGiven (old new : List Tree) (ids : List TNodeId) (x : Result Trees ElabFault) : Type 0 where

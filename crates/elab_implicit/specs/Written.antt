@@ -1,12 +1,12 @@
 -- What is written for parts of an object, and a class while it is made as a base.
 use Rattle.std.specs.Prelude.{ℕ, Bool, false, nat_lt, List, [], ◌∷◌, Option, Some, None, if◌then◌else◌, slice_get, slice_set, unwrap_or}
 use Rattle.std.specs.List.{list_all}
-use Rattle.cpp_tree.specs.Trees.{Tree}
-use Rattle.cpp_tree.specs.Arena.{tree_at}
-use Rattle.elab_ctx.specs.Ctx.{Ctx, Traits}
-use Rattle.elab_rules.specs.Names.{same_variable}
-use Rattle.elab_rules.specs.Objects.{no_traits}
-use Rattle.elab_rules.specs.Members.{Given}
+use Rattle.elab_entry.specs.cpp_tree.Trees.{Tree}
+use Rattle.elab_entry.specs.cpp_tree.Arena.{tree_at}
+use Rattle.elab_entry.specs.elab_ctx.Ctx.{Ctx, Traits}
+use Rattle.elab_entry.specs.elab_rules.Names.{same_variable}
+use Rattle.elab_entry.specs.elab_rules.Objects.{no_traits}
+use Rattle.elab_entry.specs.elab_rules.Members.{Given}
 use Rattle.elab_implicit.specs.declared.given.Given.{Given as GivenRec}
 
 -- what the record of the code shows

@@ -3,17 +3,17 @@
 ghost use Rattle.std.specs.Prelude.{◌≡◌, ◌<◌, true, None, Some, map, option_map, slice_get, length, IfOk, OnOk};
 ghost use Rattle.cpp_types.specs.Typ.{class as class_form, typ_of};
 ghost use Rattle.cpp_types.specs.Class.{classes_of};
-ghost use Rattle.cpp_tree.specs.Notation.{plain};
-ghost use Rattle.cpp_tree.specs.Arena.{trees_of, tree_at, trees_at, Adds};
-ghost use Rattle.elab_ctx.specs.Ctx.{ctx_of, work_of};
-ghost use Rattle.elab_ctx.specs.Says.{Gives, Makes, are_within};
-ghost use Rattle.elab_rules.specs.Names.{members_in};
-ghost use Rattle.elab_rules.specs.Braces.{default_at as default_at_of};
-ghost use Rattle.elab_rules.specs.Calls.{base_of_class as base_of_class_of};
-ghost use Rattle.elab_rules.specs.Statements.{default_object as default_object_of};
-ghost use Rattle.elab_rules.specs.Members.{as_base_of, given_for as given_for_of, member_type as member_type_of, member_built as member_built_of, members_built as members_built_of, parts_built as parts_built_of, constructor_tree as constructor_tree_of};
-ghost use Rattle.elab_scopes.specs.States.{state_of, made};
-ghost use Rattle.elab_scopes.specs.Says.{Does, DoesAll, OneDone};
+ghost use Rattle.elab_entry.specs.cpp_tree.Notation.{plain};
+ghost use Rattle.elab_entry.specs.cpp_tree.Arena.{trees_of, tree_at, trees_at, Adds};
+ghost use Rattle.elab_entry.specs.elab_ctx.Ctx.{ctx_of, work_of};
+ghost use Rattle.elab_entry.specs.elab_ctx.Says.{Gives, Makes, are_within};
+ghost use Rattle.elab_entry.specs.elab_rules.Names.{members_in};
+ghost use Rattle.elab_entry.specs.elab_rules.Braces.{default_at as default_at_of};
+ghost use Rattle.elab_entry.specs.elab_rules.Calls.{base_of_class as base_of_class_of};
+ghost use Rattle.elab_entry.specs.elab_rules.Statements.{default_object as default_object_of};
+ghost use Rattle.elab_entry.specs.elab_rules.Members.{as_base_of, given_for as given_for_of, member_type as member_type_of, member_built as member_built_of, members_built as members_built_of, parts_built as parts_built_of, constructor_tree as constructor_tree_of};
+ghost use Rattle.elab_entry.specs.elab_scopes.States.{state_of, made};
+ghost use Rattle.elab_entry.specs.elab_scopes.Says.{Does, DoesAll, OneDone};
 ghost use Rattle.elab_entry.specs.Says.{Lists};
 ghost use Rattle.elab_implicit.specs.Says.{GivesAll};
 ghost use Rattle.elab_implicit.specs.Written.{given_in, are_there as are_there_of};
@@ -23,15 +23,11 @@ use crate::given::{Given, allow_base, are_there, given_for, restore_base};
 use crate::object::{base_init, class_type, member_init, pointer_stored};
 use crate::parts::{base_of_class, member_count, member_type};
 use crate::places::all_stand;
-use cpp_tree::{ElabFault, TKind, TNode, TNodeId};
 use cpp_types::{At, Ty};
-use elab_aggregates::{Pointed, default_at, default_whole};
-use elab_braces::default_object;
-use elab_ctx::{Env, Work};
-use elab_init::{keep, keep_all};
-use elab_make::lists::one_of;
-use elab_scopes::State;
-use elab_scopes::nodes::{block, statement};
+use elab_entry::below::{
+    ElabFault, Env, Pointed, State, TKind, TNode, TNodeId, Work, block, default_at, default_object,
+    default_whole, keep, keep_all, one_of, statement,
+};
 use std::alloc::{AllocError, Global};
 
 // The base from nothing.

@@ -4,37 +4,32 @@ ghost use Rattle.std.specs.Prelude.{◌≡◌, ◌<◌, ℕ, true, Some, length,
 ghost use Rattle.cpp_types.specs.Typ.{typ_of, class as class_form};
 ghost use Rattle.cpp_types.specs.Class.{classes_of};
 ghost use Rattle.cpp_types.specs.Conversion.{referred};
-ghost use Rattle.cpp_tree.specs.Arena.{trees_of, tree_at, Adds};
-ghost use Rattle.cpp_tree.specs.Notation.{plain};
-ghost use Rattle.elab_ctx.specs.Ctx.{ctx_of, work_of, special_of};
-ghost use Rattle.elab_ctx.specs.Says.{Makes, are_within};
-ghost use Rattle.elab_rules.specs.Values.{stored as stored_of, valued as valued_of};
-ghost use Rattle.elab_rules.specs.Names.{held_by as held_by_of, members_in};
-ghost use Rattle.elab_rules.specs.Objects.{is_array as is_array_of};
-ghost use Rattle.elab_rules.specs.Initialising.{copied_part as copied_part_of, copy_of_held as copy_of_held_of, closure_part as closure_part_of, class_from as class_from_of};
-ghost use Rattle.elab_rules.specs.Calls.{base_of_class as base_of_class_of};
-ghost use Rattle.elab_rules.specs.Members.{as_base_of, member_type as member_type_of};
-ghost use Rattle.elab_rules.specs.Implicit.{source_object as source_object_of, source_const as source_const_of, own_operand, part_of_source, members_copied as members_copied_of, base_copied as base_copied_of, parts_copied as parts_copied_of, with_source};
-ghost use Rattle.elab_scopes.specs.States.{state_of, made};
-ghost use Rattle.elab_scopes.specs.Says.{Does, DoesAll};
+ghost use Rattle.elab_entry.specs.cpp_tree.Arena.{trees_of, tree_at, Adds};
+ghost use Rattle.elab_entry.specs.cpp_tree.Notation.{plain};
+ghost use Rattle.elab_entry.specs.elab_ctx.Ctx.{ctx_of, work_of, special_of};
+ghost use Rattle.elab_entry.specs.elab_ctx.Says.{Makes, are_within};
+ghost use Rattle.elab_entry.specs.elab_rules.Values.{stored as stored_of, valued as valued_of};
+ghost use Rattle.elab_entry.specs.elab_rules.Names.{held_by as held_by_of, members_in};
+ghost use Rattle.elab_entry.specs.elab_rules.Objects.{is_array as is_array_of};
+ghost use Rattle.elab_entry.specs.elab_rules.Initialising.{copied_part as copied_part_of, copy_of_held as copy_of_held_of, closure_part as closure_part_of, class_from as class_from_of};
+ghost use Rattle.elab_entry.specs.elab_rules.Calls.{base_of_class as base_of_class_of};
+ghost use Rattle.elab_entry.specs.elab_rules.Members.{as_base_of, member_type as member_type_of};
+ghost use Rattle.elab_entry.specs.elab_rules.Implicit.{source_object as source_object_of, source_const as source_const_of, own_operand, part_of_source, members_copied as members_copied_of, base_copied as base_copied_of, parts_copied as parts_copied_of, with_source};
+ghost use Rattle.elab_entry.specs.elab_scopes.States.{state_of, made};
+ghost use Rattle.elab_entry.specs.elab_scopes.Says.{Does, DoesAll};
 ghost use Rattle.elab_entry.specs.Says.{Lists};
 ghost use Rattle.elab_implicit.specs.Copying.{array_copied as array_copied_of, part_from, member_from, member_done, base_from, first_copied as first_copied_of};
 
 use crate::given::{allow_base, restore_base};
 use crate::object::{base_init, class_type, held_by, member_init, pointer_stored};
 use crate::parts::{base_of_class, member_count, member_type};
-use cpp_tree::{ElabFault, TKind, TNode, TNodeId, add_binary};
 use cpp_types::{At, Cat, Shape, Ty, copy};
-use elab_conv::{stored, valued};
-use elab_ctx::{Env, Operand, Special, Work, add_item};
-use elab_init::{
-    class_number, copies, element_type, is_class_type, keep, keep_all, referred_type, traits_at,
+use elab_entry::below::{
+    ElabFault, Env, Operand, Special, State, TKind, TNode, TNodeId, Work, add_binary, add_item,
+    class_from, class_number, copies, each_by, elab_names_qualified_type as qualified_type,
+    element_type, is_class_type, keep, keep_all, offset_at, one_of, part_at, referred_type, stored,
+    traits_at, valued,
 };
-use elab_make::lists::one_of;
-use elab_make::{class_from, each_by};
-use elab_names::offset_at;
-use elab_names::parts::{part_at, qualified_type};
-use elab_scopes::State;
 use std::alloc::{AllocError, Global};
 
 // The object that is copied: to it the parameter in place 1 refers.

@@ -4,25 +4,21 @@
 ghost use Rattle.std.specs.Prelude.{◌≡◌, ◌∷◌, Some, slice_get, IfOk};
 ghost use Rattle.cpp_types.specs.Typ.{typ_of};
 ghost use Rattle.cpp_types.specs.Class.{classes_of};
-ghost use Rattle.cpp_tree.specs.Arena.{trees_of, tree_at, trees_at, Adds};
-ghost use Rattle.elab_ctx.specs.Ctx.{ctx_of};
-ghost use Rattle.elab_ctx.specs.Says.{AddsAll};
-ghost use Rattle.elab_rules.specs.Names.{members_in};
-ghost use Rattle.elab_rules.specs.Calls.{base_of_class as base_of_class_of};
-ghost use Rattle.elab_rules.specs.Members.{own_base as own_base_of, base_deferred as base_deferred_of, members_deferred as members_deferred_of, member_type as member_type_of, destructor_tree as destructor_tree_of};
+ghost use Rattle.elab_entry.specs.cpp_tree.Arena.{trees_of, tree_at, trees_at, Adds};
+ghost use Rattle.elab_entry.specs.elab_ctx.Ctx.{ctx_of};
+ghost use Rattle.elab_entry.specs.elab_ctx.Says.{AddsAll};
+ghost use Rattle.elab_entry.specs.elab_rules.Names.{members_in};
+ghost use Rattle.elab_entry.specs.elab_rules.Calls.{base_of_class as base_of_class_of};
+ghost use Rattle.elab_entry.specs.elab_rules.Members.{own_base as own_base_of, base_deferred as base_deferred_of, members_deferred as members_deferred_of, member_type as member_type_of, destructor_tree as destructor_tree_of};
 ghost use Rattle.elab_implicit.specs.Ending.{member_deferred as member_deferred_of, deferred as deferred_of, parts_ended as parts_ended_of, part_tree};
 
 use crate::object::{class_type, own_base, own_part, pointer_stored};
 use crate::parts::{base_of_class, member_count, member_type};
 use crate::places::all_stand;
-use cpp_tree::{TKind, TNode, TNodeId};
 use cpp_types::{At, Ty};
-use elab_ctx::Env;
-use elab_init::{keep, keep_all};
-use elab_make::destroys;
-use elab_make::lists::one_of;
-use elab_names::offset_at;
-use elab_scopes::nodes::{block, statement};
+use elab_entry::below::{
+    Env, TKind, TNode, TNodeId, block, destroys, keep, keep_all, offset_at, one_of, statement,
+};
 use std::alloc::{AllocError, Global};
 
 // A part and its destructions in one list.

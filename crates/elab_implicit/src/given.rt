@@ -1,15 +1,13 @@
 // What is written for the parts of an object in a constructor (C++14 12.6.2), and the base while it is made (10.4).
 
 ghost use Rattle.std.specs.Prelude.{◌≡◌, true, false, length, map, OnOk};
-ghost use Rattle.cpp_tree.specs.Arena.{trees_of};
-ghost use Rattle.elab_ctx.specs.Ctx.{ctx_of, traits_of};
+ghost use Rattle.elab_entry.specs.cpp_tree.Arena.{trees_of};
+ghost use Rattle.elab_entry.specs.elab_ctx.Ctx.{ctx_of, traits_of};
 ghost use Rattle.elab_implicit.specs.Written.{found_for, are_there as are_there_of, traits_in, marked_abstract, was_abstract, with_abstract};
 
 use crate::places::stands;
-use cpp_tree::{TNode, TNodeId};
 use cpp_types::At;
-use elab_ctx::{Env, Traits};
-use elab_names::captures::is_same_variable;
+use elab_entry::below::{Env, TNode, TNodeId, Traits, is_same_variable};
 use std::alloc::AllocError;
 
 /// What is written for the base, or for the member of an index.

@@ -3,12 +3,12 @@
 
 ghost use Rattle.std.specs.Prelude.{◌≡◌, ◌<◌, length, false, get_or, option_map, IfOk, OnOk};
 ghost use Rattle.cpp_types.specs.Typ.{typ_of, typs_of};
-ghost use Rattle.elab_scopes.specs.States.{state_of};
-ghost use Rattle.elab_scopes.specs.Says.{Changes, Does, OneDone};
+ghost use Rattle.elab_entry.specs.elab_scopes.States.{state_of};
+ghost use Rattle.elab_entry.specs.elab_scopes.Says.{Changes, Does, OneDone};
 ghost use Rattle.elab_entry.specs.Says.{Lists};
-ghost use Rattle.elab_ctx.specs.Ctx.{func_of};
-ghost use Rattle.elab_rules.specs.Initialising.{signature_parameters};
-ghost use Rattle.elab_rules.specs.Implicit.{is_referred as is_referred_of};
+ghost use Rattle.elab_entry.specs.elab_ctx.Ctx.{func_of};
+ghost use Rattle.elab_entry.specs.elab_rules.Initialising.{signature_parameters};
+ghost use Rattle.elab_entry.specs.elab_rules.Implicit.{is_referred as is_referred_of};
 ghost use Rattle.elab_implicit.specs.Implied.{IsTable, first_of, constructor_parts as constructor_parts_of, destructor_inside as destructor_inside_of, implied_below as implied_below_of, constructor_inside as constructor_inside_of, inside_implied as inside_implied_of, body_implied as body_implied_of, wanted as wanted_of, body_at as body_at_of, implied as implied_of, with_implied as with_implied_of};
 
 use crate::building::{constructor_tree, parts_built};
@@ -17,11 +17,9 @@ use crate::ending::destructor_tree;
 use crate::marks::{mark_names, table};
 use crate::object::enter_object;
 use crate::slots::stands_in_slot;
-use cpp_tree::{ElabFault, FuncKind, TNodeId};
 use cpp_types::{At, Ty, copy};
-use elab_ctx::{FuncDecl, function_at};
+use elab_entry::below::{ElabFault, FuncDecl, FuncKind, State, TNodeId, function_at};
 use elab_entry::{body_made, leave_function};
-use elab_scopes::State;
 use std::alloc::{AllocError, Global};
 
 // The parts of an object by an implicit constructor.

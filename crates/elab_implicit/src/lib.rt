@@ -2,6 +2,7 @@
 //! 12.6.2, 12.8).
 #![tactic(auto)]
 
+pub mod below;
 pub mod building;
 pub mod copying;
 pub mod ending;

@@ -1,15 +1,13 @@
 // A table of the functions that bodies name: each body is gone through once.
 
 ghost use Rattle.std.specs.Prelude.{◌≡◌, ◌<◌, length, true, false, map, fold, replicate, slice_set, IfOk, OnOk};
-ghost use Rattle.cpp_tree.specs.Arena.{trees_of, tree_at, trees_at, are_below};
-ghost use Rattle.elab_ctx.specs.Says.{are_within};
-ghost use Rattle.elab_scopes.specs.States.{body_of};
+ghost use Rattle.elab_entry.specs.cpp_tree.Arena.{trees_of, tree_at, trees_at, are_below};
+ghost use Rattle.elab_entry.specs.elab_ctx.Says.{are_within};
+ghost use Rattle.elab_entry.specs.elab_scopes.States.{body_of};
 ghost use Rattle.elab_implicit.specs.Marks.{marked_kind, marked, all_marked, body_marks, table_of};
 
 use crate::places::stands;
-use cpp_tree::{TKind, TNode, TNodeId};
-use elab_ctx::{kids_at, node_at};
-use elab_scopes::Body;
+use elab_entry::below::{Body, TKind, TNode, TNodeId, kids_at, node_at};
 use std::alloc::{AllocError, Global};
 
 fn mark(marks: &mut Vec<bool>, func: u32)

@@ -3,37 +3,29 @@
 ghost use Rattle.std.specs.Prelude.{◌≡◌, ◌∷◌, [], Some, IfOk, OnOk};
 ghost use Rattle.cpp_types.specs.Typ.{class as class_form, void, typ_of};
 ghost use Rattle.cpp_types.specs.Class.{classes_of};
-ghost use Rattle.cpp_tree.specs.Trees.{one};
-ghost use Rattle.cpp_tree.specs.Notation.{plain};
-ghost use Rattle.cpp_tree.specs.Arena.{trees_of, tree_at, Adds};
-ghost use Rattle.elab_ctx.specs.Ctx.{ctx_of};
-ghost use Rattle.elab_rules.specs.Values.{part_at as part_at_of, size_type as size_type_of};
-ghost use Rattle.elab_rules.specs.Names.{this_pointer as this_pointer_of, held_by as held_by_of};
-ghost use Rattle.elab_rules.specs.Calls.{pointer_offset as pointer_offset_of};
-ghost use Rattle.elab_rules.specs.Members.{own_this, own_base as own_base_of, part_init as part_init_of, pointer_stored as pointer_stored_of};
-ghost use Rattle.elab_ctx.specs.Says.{AddsAll};
-ghost use Rattle.elab_scopes.specs.States.{state_of, made};
+ghost use Rattle.elab_entry.specs.cpp_tree.Trees.{one};
+ghost use Rattle.elab_entry.specs.cpp_tree.Notation.{plain};
+ghost use Rattle.elab_entry.specs.cpp_tree.Arena.{trees_of, tree_at, Adds};
+ghost use Rattle.elab_entry.specs.elab_ctx.Ctx.{ctx_of};
+ghost use Rattle.elab_entry.specs.elab_rules.Values.{part_at as part_at_of, size_type as size_type_of};
+ghost use Rattle.elab_entry.specs.elab_rules.Names.{this_pointer as this_pointer_of, held_by as held_by_of};
+ghost use Rattle.elab_entry.specs.elab_rules.Calls.{pointer_offset as pointer_offset_of};
+ghost use Rattle.elab_entry.specs.elab_rules.Members.{own_this, own_base as own_base_of, part_init as part_init_of, pointer_stored as pointer_stored_of};
+ghost use Rattle.elab_entry.specs.elab_ctx.Says.{AddsAll};
+ghost use Rattle.elab_entry.specs.elab_scopes.States.{state_of, made};
 ghost use Rattle.elab_entry.specs.Round.{round_of, trees_round, round_function};
 ghost use Rattle.elab_entry.specs.Bodies.{entered};
 ghost use Rattle.elab_implicit.specs.Building.{table_tree, assigned, stored_tree, base_init as base_init_of, member_init as member_init_of};
 
 use crate::places::stands;
-use cpp_tree::{TKind, TNode, TNodeId, add_binary, add_leaf, add_unary};
 use cpp_types::{At, Cat, Shape, Ty, copy};
 use elab_call::slots::pointer_offset;
-use elab_conv::types::pointer_to;
-use elab_ctx::{Env, This};
+use elab_entry::below::{
+    Env, IntKind, State, TKind, TNode, TNodeId, This, add_binary, add_leaf, add_unary, destroys,
+    keep, keep_all, offset_at, one_of, part_at, plain_type, pointer_to, statement, this_pointer,
+};
 use elab_entry::{Around, enter_function};
-use elab_init::{keep, keep_all};
-use elab_make::destroys;
-use elab_make::lists::one_of;
-use elab_names::offset_at;
-use elab_names::parts::{part_at, plain_type};
-use elab_names::variables::this_pointer;
-use elab_scopes::State;
-use elab_scopes::nodes::statement;
 use std::alloc::{AllocError, Global};
-use tx_ints::IntKind;
 
 /// The type of objects of a class.
 pub fn class_type(class: u32) -> Ty

@@ -3,14 +3,12 @@
 ghost use Rattle.std.specs.Prelude.{◌≡◌, map, length, slice_get, IfOk};
 ghost use Rattle.cpp_types.specs.Typ.{typ_of};
 ghost use Rattle.cpp_types.specs.Class.{classes_of, member_of};
-ghost use Rattle.elab_rules.specs.Names.{members_in};
-ghost use Rattle.elab_rules.specs.Calls.{base_of_class as base_of_class_of};
-ghost use Rattle.elab_rules.specs.Members.{member_type as member_type_of, member_index as member_index_of};
+ghost use Rattle.elab_entry.specs.elab_rules.Names.{members_in};
+ghost use Rattle.elab_entry.specs.elab_rules.Calls.{base_of_class as base_of_class_of};
+ghost use Rattle.elab_entry.specs.elab_rules.Members.{member_type as member_type_of, member_index as member_index_of};
 
 use cpp_types::{MemberRec, Shape, Ty, copy};
-use elab_ctx::{Env, class_at};
-use elab_names::members::members_at;
-use elab_names::parts::plain_type;
+use elab_entry::below::{Env, class_at, members_at, plain_type};
 use std::alloc::{AllocError, Global};
 
 /// The base of a class.

@@ -1,10 +1,10 @@
 // Places in lists of nodes.
 
 ghost use Rattle.std.specs.Prelude.{◌≡◌, ◌<◌, length, true, OnOk};
-ghost use Rattle.cpp_tree.specs.Arena.{trees_of};
-ghost use Rattle.elab_ctx.specs.Says.{are_within};
+ghost use Rattle.elab_entry.specs.cpp_tree.Arena.{trees_of};
+ghost use Rattle.elab_entry.specs.elab_ctx.Says.{are_within};
 
-use cpp_tree::{TNode, TNodeId};
+use elab_entry::below::{TNode, TNodeId};
 use std::alloc::AllocError;
 
 /// Tests that a node with an id stands in a list. Each id that is asked for here was made in that list; one that does

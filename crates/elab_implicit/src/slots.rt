@@ -2,17 +2,15 @@
 
 ghost use Rattle.std.specs.Prelude.{◌≡◌, ◌==◌, ◌&&◌, Some, map, if◌then◌else◌};
 ghost use Rattle.std.specs.List.{list_any};
-ghost use Rattle.cpp_tree.specs.Units.{SlotFunc, slot_of};
-ghost use Rattle.elab_ctx.specs.Ctx.{ctx_of, func_of};
-ghost use Rattle.elab_rules.specs.Initialising.{func_at, same_number};
-ghost use Rattle.elab_rules.specs.Calls.{index_in_class as index_in_class_of};
-ghost use Rattle.elab_rules.specs.Implicit.{is_in_slot as is_in_slot_of};
+ghost use Rattle.elab_entry.specs.cpp_tree.Units.{SlotFunc, slot_of};
+ghost use Rattle.elab_entry.specs.elab_ctx.Ctx.{ctx_of, func_of};
+ghost use Rattle.elab_entry.specs.elab_rules.Initialising.{func_at, same_number};
+ghost use Rattle.elab_entry.specs.elab_rules.Calls.{index_in_class as index_in_class_of};
+ghost use Rattle.elab_entry.specs.elab_rules.Implicit.{is_in_slot as is_in_slot_of};
 ghost use Rattle.elab_call.specs.Slots.{members_among as members_among_of};
 ghost use Rattle.elab_implicit.specs.Implied.{stands_in_slot as stands_in_slot_of};
 
-use cpp_tree::SlotRec;
-use elab_ctx::{Env, FuncDecl, function_at};
-use elab_names::functions::is_number;
+use elab_entry::below::{Env, FuncDecl, SlotRec, function_at, is_number};
 
 // Whether one of some slots has the function with an index in a class.
 fn are_slots_of(slots: &[SlotRec], class: u32, index: usize) -> bool

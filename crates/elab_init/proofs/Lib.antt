@@ -1,3 +1,5 @@
+pub use Rattle.elab_conv.proofs.cpp_tree as cpp_tree
+pub use Rattle.elab_conv.proofs.elab_ctx as elab_ctx
 pub mod Listing
 pub mod PartsPlaced
 pub mod Wholes

@@ -2,12 +2,12 @@
 use Rattle.std.proofs.Common.{◌≡◌, ℕ, zero, suc, ◌+◌, ◌<◌, ◌≤◌, Bool, true, false, List, [], ◌∷◌, ◌++◌, length, drop, get_or, add-one, refl, sym, ◌∙◌, ap, arith, nat_lt, ◌&&◌}
 use Rattle.std.proofs.Math.Seq.{drop-cons}
 use Rattle.std.proofs.lemmas.Bool.{ltb-true, lt-ltb}
-use Rattle.cpp_tree.specs.declared.arena.TNodeId.{TNodeId}
-use Rattle.cpp_tree.specs.Trees.{Tree, Trees, none, more, one}
-use Rattle.cpp_tree.specs.Arena.{tree_at, trees_at, Grows, Adds}
-use Rattle.elab_ctx.specs.Says.{are_within, AddsAll}
-use Rattle.elab_ctx.proofs.Looks.{grows_refl, grows_trans, at_grown, within_grown}
-use Rattle.elab_rules.specs.Objects.{followed_by}
+use Rattle.elab_conv.specs.cpp_tree.declared.arena.TNodeId.{TNodeId}
+use Rattle.elab_conv.specs.cpp_tree.Trees.{Tree, Trees, none, more, one}
+use Rattle.elab_conv.specs.cpp_tree.Arena.{tree_at, trees_at, Grows, Adds}
+use Rattle.elab_conv.specs.elab_ctx.Says.{are_within, AddsAll}
+use Rattle.elab_conv.proofs.elab_ctx.Looks.{grows_refl, grows_trans, at_grown, within_grown}
+use Rattle.elab_conv.specs.elab_rules.Objects.{followed_by}
 
 pub followed_none : (ts : Trees) → followed_by ts none ≡ ts
 followed_none none = refl

@@ -1,10 +1,10 @@
 -- Members of a class, one behind the other.
 use Rattle.std.proofs.Common.{◌≡◌, ℕ, zero, suc, ◌+◌, List, [], ◌∷◌, ◌++◌, map, take, drop, refl, sym, ◌∙◌, ap, append-nil, append_assoc, Some, None, slice_get}
 use Rattle.cpp_types.specs.Class.{Class, Member}
-use Rattle.cpp_layout.specs.Layout.{Extent, extent_of, class_extent, member_extent, head_items, end_from, next_multiple}
-use Rattle.cpp_layout.specs.Measured.{member_extents}
-use Rattle.cpp_layout.proofs.Ends.{end_append}
-use Rattle.elab_rules.specs.Objects.{members_from, base_part, parts_of, parts_in}
+use Rattle.elab_conv.specs.cpp_layout.Layout.{Extent, extent_of, class_extent, member_extent, head_items, end_from, next_multiple}
+use Rattle.elab_conv.specs.cpp_layout.Measured.{member_extents}
+use Rattle.elab_conv.proofs.cpp_layout.Ends.{end_append}
+use Rattle.elab_conv.specs.elab_rules.Objects.{members_from, base_part, parts_of, parts_in}
 use Rattle.elab_init.specs.Parts.{placed}
 
 take_more : {A : Type 0} (xs : List A) (i : ℕ) (x : A) (rest : List A) → drop i xs ≡ x ∷ rest → take (suc i) xs ≡ take i xs ++ x ∷ []

@@ -7,16 +7,16 @@ use Rattle.cpp_types.proofs.Views.{signature_view}
 use Rattle.cpp_types.specs.Class.{Class}
 use Rattle.cpp_types.specs.declared.classes.At.{At}
 use Rattle.cpp_types.specs.declared.ranks.Cat.TheVariants.{Prvalue}
-use Rattle.cpp_tree.specs.declared.kinds.TKind.{TKind}
-use Rattle.cpp_tree.specs.declared.kinds.TKind.TheVariants.{Pieces, Piece}
-use Rattle.cpp_tree.specs.declared.arena.TNodeId.{TNodeId}
-use Rattle.cpp_tree.specs.Trees.{Tree, node, Trees, more, one, two}
-use Rattle.cpp_tree.specs.Arena.{tree_at, trees_at, Adds}
-use Rattle.cpp_tree.specs.Typing.{qualified}
-use Rattle.elab_ctx.specs.Says.{AddsAll}
-use Rattle.elab_ctx.proofs.Making.{adds_after}
-use Rattle.elab_rules.specs.Values.{only_tree}
-use Rattle.elab_rules.specs.Objects.{Leaf, whole, class_whole, parts_of}
+use Rattle.elab_conv.specs.cpp_tree.declared.kinds.TKind.{TKind}
+use Rattle.elab_conv.specs.cpp_tree.declared.kinds.TKind.TheVariants.{Pieces, Piece}
+use Rattle.elab_conv.specs.cpp_tree.declared.arena.TNodeId.{TNodeId}
+use Rattle.elab_conv.specs.cpp_tree.Trees.{Tree, node, Trees, more, one, two}
+use Rattle.elab_conv.specs.cpp_tree.Arena.{tree_at, trees_at, Adds}
+use Rattle.elab_conv.specs.cpp_tree.Typing.{qualified}
+use Rattle.elab_conv.specs.elab_ctx.Says.{AddsAll}
+use Rattle.elab_conv.proofs.elab_ctx.Making.{adds_after}
+use Rattle.elab_conv.specs.elab_rules.Values.{only_tree}
+use Rattle.elab_conv.specs.elab_rules.Objects.{Leaf, whole, class_whole, parts_of}
 use Rattle.elab_init.specs.Leaves.{pieces_by}
 use Rattle.elab_init.specs.Parts.{part_of}
 use Rattle.elab_init.specs.declared.parts.ObjectPart.{ObjectPart}

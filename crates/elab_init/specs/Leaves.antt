@@ -2,9 +2,9 @@
 use Rattle.std.specs.Prelude.{ℕ, Bool, List}
 use Rattle.cpp_types.specs.Class.{Class}
 use Rattle.cpp_types.specs.declared.classes.At.{At}
-use Rattle.cpp_tree.specs.Trees.{Trees}
-use Rattle.cpp_tree.specs.Typing.{qualified}
-use Rattle.elab_rules.specs.Objects.{Leaf as LeafTree, Part, zero_leaf, copy_leaf, whole, class_whole, pieces}
+use Rattle.elab_conv.specs.cpp_tree.Trees.{Trees}
+use Rattle.elab_conv.specs.cpp_tree.Typing.{qualified}
+use Rattle.elab_conv.specs.elab_rules.Objects.{Leaf as LeafTree, Part, zero_leaf, copy_leaf, whole, class_whole, pieces}
 use Rattle.elab_init.specs.declared.leaves.Leaf.{Leaf}
 use Rattle.elab_init.specs.declared.leaves.Leaf.TheVariants.{Zero, Copied}
 

@@ -2,8 +2,8 @@
 use Rattle.std.specs.Prelude.{ℕ, ◌+◌, List, [], ◌∷◌}
 use Rattle.cpp_types.specs.Typ.{typ_of}
 use Rattle.cpp_types.specs.Class.{Class, Member}
-use Rattle.cpp_layout.specs.Layout.{extent_of, next_multiple}
-use Rattle.elab_rules.specs.Objects.{Part}
+use Rattle.elab_conv.specs.cpp_layout.Layout.{extent_of, next_multiple}
+use Rattle.elab_conv.specs.elab_rules.Objects.{Part}
 use Rattle.elab_init.specs.declared.parts.ObjectPart.{ObjectPart}
 
 abbrev pub part_of : ObjectPart → Part

@@ -2,21 +2,20 @@
 
 ghost use Rattle.std.specs.Prelude.{◌≡◌, ◌<◌, IfOk, length};
 ghost use Rattle.cpp_types.specs.Typ.{typ_of};
-ghost use Rattle.cpp_tree.specs.Trees.{none};
-ghost use Rattle.cpp_tree.specs.Typing.{unqualified};
-ghost use Rattle.cpp_tree.specs.Arena.{trees_of, tree_at, Adds};
-ghost use Rattle.elab_ctx.specs.Ctx.{ctx_of, work_of};
-ghost use Rattle.elab_ctx.specs.Operands.{operand_in};
-ghost use Rattle.elab_ctx.specs.Says.{Puts};
-ghost use Rattle.elab_rules.specs.Values.{stepped as stepped_of, stored as stored_of, temporary as temporary_of, valued as valued_of};
-ghost use Rattle.elab_rules.specs.Initialising.{conversion};
+ghost use Rattle.elab_conv.specs.cpp_tree.Trees.{none};
+ghost use Rattle.elab_conv.specs.cpp_tree.Typing.{unqualified};
+ghost use Rattle.elab_conv.specs.cpp_tree.Arena.{trees_of, tree_at, Adds};
+ghost use Rattle.elab_conv.specs.elab_ctx.Ctx.{ctx_of, work_of};
+ghost use Rattle.elab_conv.specs.elab_ctx.Operands.{operand_in};
+ghost use Rattle.elab_conv.specs.elab_ctx.Says.{Puts};
+ghost use Rattle.elab_conv.specs.elab_rules.Values.{stepped as stepped_of, stored as stored_of, temporary as temporary_of, valued as valued_of};
+ghost use Rattle.elab_conv.specs.elab_rules.Initialising.{conversion};
 
 use crate::temporaries::temporary;
-use cpp_tree::{TNode, TNodeId};
 use cpp_types::{At, Conversion, Step, Ty, conversion_between};
+use elab_conv::below::{Env, Operand, TNode, TNodeId, Work, node_at};
 use elab_conv::types::unqualified_type;
 use elab_conv::{stepped, stored, valued};
-use elab_ctx::{Env, Operand, Work, node_at};
 use std::alloc::{AllocError, Global};
 
 /// The value of an expression as one of a type, stored.

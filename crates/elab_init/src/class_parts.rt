@@ -3,14 +3,13 @@
 ghost use Rattle.std.specs.Prelude.{◌≡◌, ◌≤◌, ◌+◌, ◌++◌, ◌∷◌, [], false, IfOk, OnOk, map};
 ghost use Rattle.cpp_types.specs.Typ.{typ_of, class as class_form, typ};
 ghost use Rattle.cpp_types.specs.Class.{classes_of, class_of, member_of};
-ghost use Rattle.cpp_layout.specs.Layout.{next_multiple, class_extent, base_items, pointer_items, head_items, end_from};
-ghost use Rattle.elab_rules.specs.Objects.{parts_of as parts_by, base_part};
+ghost use Rattle.elab_conv.specs.cpp_layout.Layout.{next_multiple, class_extent, base_items, pointer_items, head_items, end_from};
+ghost use Rattle.elab_conv.specs.elab_rules.Objects.{parts_of as parts_by, base_part};
 ghost use Rattle.elab_init.specs.Parts.{part_of, placed};
 
 use crate::parts::ObjectPart;
-use cpp_layout::{SizeAlign, has_pointer};
 use cpp_types::{ClassRec, MemberRec, Shape, Ty, copy};
-use elab_ctx::{Env, class_at, extent};
+use elab_conv::below::{Env, SizeAlign, class_at, extent, has_pointer};
 use std::alloc::{AllocError, Global};
 
 // Where an item lies that follows others, and where it ends.

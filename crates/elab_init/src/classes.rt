@@ -2,16 +2,15 @@
 
 ghost use Rattle.std.specs.Prelude.{◌≡◌, IfOk};
 ghost use Rattle.cpp_types.specs.Typ.{typ_of};
-ghost use Rattle.cpp_tree.specs.Trees.{node};
-ghost use Rattle.cpp_tree.specs.Arena.{trees_of, trees_at, Adds};
-ghost use Rattle.elab_ctx.specs.Ctx.{ctx_of};
-ghost use Rattle.elab_ctx.specs.Says.{Tells};
-ghost use Rattle.elab_rules.specs.Initialising.{makeable as makeable_of};
+ghost use Rattle.elab_conv.specs.cpp_tree.Trees.{node};
+ghost use Rattle.elab_conv.specs.cpp_tree.Arena.{trees_of, trees_at, Adds};
+ghost use Rattle.elab_conv.specs.elab_ctx.Ctx.{ctx_of};
+ghost use Rattle.elab_conv.specs.elab_ctx.Says.{Tells};
+ghost use Rattle.elab_conv.specs.elab_rules.Initialising.{makeable as makeable_of};
 
 use crate::types::traits_at;
-use cpp_tree::{ElabFault, IllRule, TKind, TNode, TNodeId, add_node};
 use cpp_types::{At, Cat, Ty, copy};
-use elab_ctx::{Env, completion};
+use elab_conv::below::{ElabFault, Env, IllRule, TKind, TNode, TNodeId, add_node, completion};
 use std::alloc::{AllocError, Global};
 
 /// A fault at a place.

@@ -1,6 +1,7 @@
 //! What initialises objects, as typed nodes: temporaries, conversions, constructors, copies and destructions.
 #![tactic(auto)]
 
+pub mod below;
 pub mod binding;
 mod class_parts;
 pub mod classes;

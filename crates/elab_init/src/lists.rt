@@ -2,7 +2,7 @@
 
 ghost use Rattle.std.specs.Prelude.{◌≡◌, ◌++◌, ◌∷◌, [], OnOk};
 
-use cpp_tree::TNodeId;
+use elab_conv::below::TNodeId;
 use std::alloc::AllocError;
 
 /// One more node.

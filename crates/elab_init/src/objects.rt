@@ -3,11 +3,11 @@
 ghost use Rattle.std.specs.Prelude.{◌≡◌, false, IfOk, map};
 ghost use Rattle.cpp_types.specs.Typ.{typ, typ_of, class as class_form};
 ghost use Rattle.cpp_types.specs.Class.{classes_of};
-ghost use Rattle.cpp_tree.specs.Arena.{trees_of, tree_at, Adds};
-ghost use Rattle.cpp_tree.specs.Typing.{form_in, qualified};
-ghost use Rattle.cpp_tree.specs.Trees.{node, one};
-ghost use Rattle.elab_ctx.specs.Says.{AddsAll};
-ghost use Rattle.elab_rules.specs.Objects.{whole, whole_form, class_whole, size_of as size_by, zeros as zeros_by, copies as copies_by};
+ghost use Rattle.elab_conv.specs.cpp_tree.Arena.{trees_of, tree_at, Adds};
+ghost use Rattle.elab_conv.specs.cpp_tree.Typing.{form_in, qualified};
+ghost use Rattle.elab_conv.specs.cpp_tree.Trees.{node, one};
+ghost use Rattle.elab_conv.specs.elab_ctx.Says.{AddsAll};
+ghost use Rattle.elab_conv.specs.elab_rules.Objects.{whole, whole_form, class_whole, size_of as size_by, zeros as zeros_by, copies as copies_by};
 ghost use Rattle.elab_init.specs.Leaves.{leaf_of, pieces_by};
 ghost use Rattle.elab_init.specs.Parts.{part_of};
 
@@ -17,9 +17,8 @@ use crate::lists::keep;
 use crate::parts::ObjectPart;
 use crate::scalars::scalar_leaf;
 use crate::types::qualified_type;
-use cpp_tree::{TKind, TNode, TNodeId, add_leaf, add_node, add_unary};
 use cpp_types::{At, Cat, Shape, Ty, copy};
-use elab_ctx::{Env, size_of};
+use elab_conv::below::{Env, TKind, TNode, TNodeId, add_leaf, add_node, add_unary, size_of};
 use std::alloc::{AllocError, Global};
 
 // How deep calls nest that go into arrays and classes: deeper than types and classes do. A deeper one counts as want

@@ -3,20 +3,21 @@
 ghost use Rattle.std.specs.Prelude.{◌≡◌, ◌<◌, ◌^◌, ◌++◌, ◌∷◌, [], ◌&&◌, IfOk, OnOk, map, length, true, false, None, Some, if◌then◌else◌};
 ghost use Rattle.cpp_types.specs.Typ.{typ_of, typs_of, shape_form, typ, ref};
 ghost use Rattle.cpp_types.specs.Class.{classes_of};
-ghost use Rattle.cpp_overload.specs.Overload.{candidate_of, argument_of};
-ghost use Rattle.cpp_overload.specs.Choosing.{chosen};
-ghost use Rattle.cpp_tree.specs.Arena.{trees_of};
-ghost use Rattle.cpp_tree.specs.Notation.{plain};
-ghost use Rattle.elab_ctx.specs.Ctx.{ctx_of, func_of, special_of};
-ghost use Rattle.elab_ctx.specs.Operands.{operand_in, operands_in, are_in};
-ghost use Rattle.elab_ctx.specs.Says.{Tells};
-ghost use Rattle.elab_rules.specs.Initialising.{argument, arguments, candidate, candidates_at, maker, func_at, owner_form, is_constructor, trivial_copy, copy_candidates, constructors as constructors_of, makers as makers_of, makes as makes_of, places_from, parameters_at as parameters_at_of, meant as meant_of};
+ghost use Rattle.elab_conv.specs.cpp_overload.Overload.{candidate_of, argument_of};
+ghost use Rattle.elab_conv.specs.cpp_overload.Choosing.{chosen};
+ghost use Rattle.elab_conv.specs.cpp_tree.Arena.{trees_of};
+ghost use Rattle.elab_conv.specs.cpp_tree.Notation.{plain};
+ghost use Rattle.elab_conv.specs.elab_ctx.Ctx.{ctx_of, func_of, special_of};
+ghost use Rattle.elab_conv.specs.elab_ctx.Operands.{operand_in, operands_in, are_in};
+ghost use Rattle.elab_conv.specs.elab_ctx.Says.{Tells};
+ghost use Rattle.elab_conv.specs.elab_rules.Initialising.{argument, arguments, candidate, candidates_at, maker, func_at, owner_form, is_constructor, trivial_copy, copy_candidates, constructors as constructors_of, makers as makers_of, makes as makes_of, places_from, parameters_at as parameters_at_of, meant as meant_of};
 
 use crate::types::traits_at;
-use cpp_overload::{Arg, Cand, NoBest, choose};
-use cpp_tree::{ElabFault, FuncKind, IllRule, TNode};
 use cpp_types::{At, ClassRec, FnTy, Shape, Ty, copy, copy_function};
-use elab_ctx::{Env, FuncDecl, Operand, Special, function_at, node_at};
+use elab_conv::below::{
+    Arg, Cand, ElabFault, Env, FuncDecl, FuncKind, IllRule, NoBest, Operand, Special, TNode,
+    choose, function_at, node_at,
+};
 use std::alloc::{AllocError, Global};
 
 // The class of a member function, which is a lambda's where it is its call.

@@ -2,13 +2,13 @@
 
 ghost use Rattle.std.specs.Prelude.{IfOk};
 ghost use Rattle.cpp_types.specs.Typ.{typ_of};
-ghost use Rattle.cpp_tree.specs.Arena.{trees_of, Adds};
-ghost use Rattle.elab_rules.specs.Objects.{zero_leaf, copy_leaf};
+ghost use Rattle.elab_conv.specs.cpp_tree.Arena.{trees_of, Adds};
+ghost use Rattle.elab_conv.specs.elab_rules.Objects.{zero_leaf, copy_leaf};
 ghost use Rattle.elab_init.specs.Leaves.{leaf_of};
 
 use crate::leaves::Leaf;
-use cpp_tree::{TKind, TNode, TNodeId, add_leaf};
 use cpp_types::{At, Cat, Ty, copy};
+use elab_conv::below::{TKind, TNode, TNodeId, add_leaf};
 use elab_conv::stored;
 use elab_conv::types::{kind_of, unqualified_type};
 use std::alloc::{AllocError, Global};

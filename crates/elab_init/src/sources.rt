@@ -2,18 +2,19 @@
 
 ghost use Rattle.std.specs.Prelude.{◌≡◌, ◌<◌, IfOk, length};
 ghost use Rattle.cpp_types.specs.Typ.{typ_of};
-ghost use Rattle.cpp_tree.specs.Trees.{node, two, typ_in, cat_of, kids_of};
+ghost use Rattle.elab_conv.specs.cpp_tree.Trees.{node, two, typ_in, cat_of, kids_of};
 ghost use Rattle.cpp_types.specs.Class.{classes_of};
-ghost use Rattle.cpp_tree.specs.Arena.{trees_of, tree_at, Adds};
-ghost use Rattle.elab_rules.specs.Values.{place_of};
-ghost use Rattle.elab_rules.specs.Objects.{copies as copies_by};
-ghost use Rattle.elab_rules.specs.Initialising.{as_base as as_base_of, as_source as as_source_of, building as building_of, same_number as same_number_of};
+ghost use Rattle.elab_conv.specs.cpp_tree.Arena.{trees_of, tree_at, Adds};
+ghost use Rattle.elab_conv.specs.elab_rules.Values.{place_of};
+ghost use Rattle.elab_conv.specs.elab_rules.Objects.{copies as copies_by};
+ghost use Rattle.elab_conv.specs.elab_rules.Initialising.{as_base as as_base_of, as_source as as_source_of, building as building_of, same_number as same_number_of};
 
 use crate::objects::copies;
 use crate::types::class_number;
-use cpp_tree::{TKind, TNode, TNodeId, add_binary, add_node, add_unary};
 use cpp_types::{At, Cat, Shape, Ty, copy};
-use elab_ctx::{Env, kids_at, node_at};
+use elab_conv::below::{
+    Env, TKind, TNode, TNodeId, add_binary, add_node, add_unary, kids_at, node_at,
+};
 use std::alloc::{AllocError, Global};
 
 /// Whether a class is the one with a number.

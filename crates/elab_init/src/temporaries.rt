@@ -2,17 +2,18 @@
 
 ghost use Rattle.std.specs.Prelude.{◌≡◌, ◌<◌, ◌∷◌, IfOk, length};
 ghost use Rattle.cpp_types.specs.Typ.{typ_of};
-ghost use Rattle.cpp_tree.specs.Trees.{kids_of};
-ghost use Rattle.cpp_tree.specs.Arena.{trees_of, tree_at, trees_at, Adds};
-ghost use Rattle.elab_ctx.specs.Ctx.{work_of};
-ghost use Rattle.elab_ctx.specs.Says.{Puts};
-ghost use Rattle.elab_rules.specs.Values.{builder as builder_of, only_tree, temporary as temporary_of};
-ghost use Rattle.elab_rules.specs.Initialising.{seen_as as seen_as_of};
+ghost use Rattle.elab_conv.specs.cpp_tree.Trees.{kids_of};
+ghost use Rattle.elab_conv.specs.cpp_tree.Arena.{trees_of, tree_at, trees_at, Adds};
+ghost use Rattle.elab_conv.specs.elab_ctx.Ctx.{work_of};
+ghost use Rattle.elab_conv.specs.elab_ctx.Says.{Puts};
+ghost use Rattle.elab_conv.specs.elab_rules.Values.{builder as builder_of, only_tree, temporary as temporary_of};
+ghost use Rattle.elab_conv.specs.elab_rules.Initialising.{seen_as as seen_as_of};
 
 use crate::lists::{keep, keep_all};
-use cpp_tree::{TKind, TNode, TNodeId, add_node, add_unary};
 use cpp_types::{At, Cat, Shape, Ty, copy, equal_types};
-use elab_ctx::{Work, add_item, kids_at, node_at};
+use elab_conv::below::{
+    TKind, TNode, TNodeId, Work, add_item, add_node, add_unary, kids_at, node_at,
+};
 use std::alloc::{AllocError, Global};
 
 // The only kid of a node, if it has one kid, else the node.

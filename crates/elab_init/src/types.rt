@@ -4,16 +4,15 @@ ghost use Rattle.std.specs.Prelude.{◌≡◌, ◌<◌, IfOk, length};
 ghost use Rattle.cpp_types.specs.Typ.{typ_of};
 ghost use Rattle.cpp_types.specs.Class.{classes_of};
 ghost use Rattle.cpp_types.specs.Conversion.{referred};
-ghost use Rattle.cpp_tree.specs.Arena.{trees_of, tree_at};
-ghost use Rattle.cpp_tree.specs.Typing.{form_in, qualified, is_class_typ, is_class_prvalue as is_class_prvalue_of};
-ghost use Rattle.elab_ctx.specs.Ctx.{ctx_of, traits_of};
-ghost use Rattle.elab_rules.specs.Objects.{element_of, element_form, traits_at as traits_at_of};
-ghost use Rattle.elab_rules.specs.Initialising.{class_number as class_number_of, is_same_or_base as is_same_or_base_of, is_prvalue_of_class as is_prvalue_of_class_of};
+ghost use Rattle.elab_conv.specs.cpp_tree.Arena.{trees_of, tree_at};
+ghost use Rattle.elab_conv.specs.cpp_tree.Typing.{form_in, qualified, is_class_typ, is_class_prvalue as is_class_prvalue_of};
+ghost use Rattle.elab_conv.specs.elab_ctx.Ctx.{ctx_of, traits_of};
+ghost use Rattle.elab_conv.specs.elab_rules.Objects.{element_of, element_form, traits_at as traits_at_of};
+ghost use Rattle.elab_conv.specs.elab_rules.Initialising.{class_number as class_number_of, is_same_or_base as is_same_or_base_of, is_prvalue_of_class as is_prvalue_of_class_of};
 
-use cpp_tree::{TNode, TNodeId};
 use cpp_types::{Cat, Shape, Ty, copy, steps_to_base};
+use elab_conv::below::{Env, Special, TNode, TNodeId, Traits, node_at, traits_of_class};
 use elab_conv::types::unqualified_type;
-use elab_ctx::{Env, Special, Traits, node_at, traits_of_class};
 use std::alloc::{AllocError, Global};
 
 /// The class that a type is, a lambda's too.

@@ -1,10 +1,10 @@
 -- The class of a lambda and its call, step by step.
 use Rattle.std.proofs.Common.{◌≡◌, ◌∙◌, ℕ, length, List, [], ◌∷◌, ◌++◌, ap, count_by}
-use Rattle.cpp_types.specs.Class.{Class, Function}
-use Rattle.elab_ctx.specs.Ctx.{Ctx, Func, Traits, Capture}
-use Rattle.elab_rules.specs.Types.{Parameter}
-use Rattle.elab_rules.specs.Classes.{is_completed}
-use Rattle.elab_rules.specs.Lambdas.{closure_traits, with_closure}
+use Rattle.elab_entry.specs.cpp_types.Class.{Class, Function}
+use Rattle.elab_entry.specs.elab_ctx.Ctx.{Ctx, Func, Traits, Capture}
+use Rattle.elab_entry.specs.elab_rules.Types.{Parameter}
+use Rattle.elab_entry.specs.elab_rules.Classes.{is_completed}
+use Rattle.elab_entry.specs.elab_rules.Lambdas.{closure_traits, with_closure}
 use Rattle.elab_lambdas.specs.Steps.{closure_class, with_class, with_call}
 
 pub class_is : (c c1 : Ctx) (xs : List Capture) (g h : Function) (number : ℕ) (k : Class) →

@@ -1,12 +1,12 @@
 -- Lists of classes that stay in order, and lists that are cut.
 use Rattle.std.proofs.Common.{◌≡◌, ◌∙◌, ap, take, Bool, true, ◌↔◌, IsTrue, List, refl}
-use Rattle.cpp_types.specs.Class.{Class, InOrder}
-use Rattle.cpp_types.specs.Order.{all_consistent}
-use Rattle.elab_ctx.specs.Ctx.{Ctx, Work}
-use Rattle.elab_rules.specs.Statements.{State}
+use Rattle.elab_entry.specs.cpp_types.Class.{Class, InOrder}
+use Rattle.elab_entry.specs.cpp_types.Order.{all_consistent}
+use Rattle.elab_entry.specs.elab_ctx.Ctx.{Ctx, Work}
+use Rattle.elab_entry.specs.elab_rules.Statements.{State}
 use Rattle.elab_lambdas.specs.Checkpoints.{undone_to}
 use Rattle.elab_lambdas.specs.declared.undoing.Checkpoint.{Checkpoint}
-use Rattle.cpp_types.proofs.OrderTests.{order_is}
+use Rattle.elab_entry.proofs.cpp_types.OrderTests.{order_is}
 
 pub order_kept : (b : Bool) (classes : List Class) → b ≡ true → (IsTrue b ↔ InOrder classes) → all_consistent classes ≡ true
 order_kept b classes h i = (order_is (all_consistent classes) classes refl).1 (i.0 h)

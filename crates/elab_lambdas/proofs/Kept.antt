@@ -1,38 +1,38 @@
 -- The body of a lambda, step by step.
 use Rattle.std.proofs.Common.{◌≡◌, ◌∙◌, ℕ, Bool, true, false, List, [], length, Option, None, Result, Ok, Err, Vec, refl, sym, ap, subst}
 use Rattle.std.specs.declared.alloc.Global.{Global}
-use Rattle.cpp_types.specs.Typ.{Typ, Signature, void, typ_of}
-use Rattle.cpp_types.specs.declared.types.Ty.{Ty}
-use Rattle.cpp_types.specs.Class.{held}
-use Rattle.cpp_types.specs.declared.classes.At.{At}
-use Rattle.cpp_lex.specs.Tokens.{Lexeme}
-use Rattle.cpp_ast.specs.Trees as syntax
-use Rattle.cpp_ast.specs.declared.arena.At.{At as SyntaxAt}
-use Rattle.cpp_ast.specs.declared.arena.NodeId.{NodeId}
-use Rattle.cpp_ast.specs.declared.kinds.NodeKind.{NodeKind}
-use Rattle.cpp_tree.specs.declared.faults.ElabFault.{ElabFault}
-use Rattle.cpp_tree.specs.declared.faults.ElabFault.TheVariants.{Ill}
-use Rattle.cpp_tree.specs.declared.faults.IllRule.TheVariants.{Incomplete}
-use Rattle.cpp_tree.specs.declared.arena.TNodeId.{TNodeId}
-use Rattle.cpp_tree.specs.Notation.{plain}
-use Rattle.cpp_tree.specs.Trees.{Tree, one}
-use Rattle.cpp_tree.specs.Arena.{tree_at, trees_at, Grows, Adds}
-use Rattle.elab_ctx.specs.Ctx.{Returns, known, deduced}
-use Rattle.elab_ctx.specs.Steps.{and_then, check}
-use Rattle.elab_ctx.specs.Says.{Faults, AddsAll}
-use Rattle.elab_ctx.proofs.Looks.{grows_trans, grows_refl}
-use Rattle.elab_ctx.proofs.Making.{faults_in, faults_same}
-use Rattle.elab_rules.specs.Objects.{followed_by}
-use Rattle.elab_rules.specs.Operators.{is_complete}
-use Rattle.elab_rules.specs.Statements.{State, Done, done, block, statements_of}
-use Rattle.elab_rules.specs.Functions.{with_parameters, end_of}
-use Rattle.elab_rules.specs.Lambdas.{Written, no_lambda, kids_of, body_statements, result_in}
-use Rattle.elab_types.specs.Syntax.{trees_at as syntaxes_at}
-use Rattle.elab_scopes.specs.declared.state.State.{State as StateRec}
-use Rattle.elab_scopes.specs.States.{state_of, made, Grown}
-use Rattle.elab_scopes.specs.Says.{Changed, Changes, OneDone, AllDone, behind}
-use Rattle.elab_scopes.proofs.Standing.{grown_trans, grown_by, changes_after, one_after}
-use Rattle.elab_scopes.proofs.Behind.{behind_none}
+use Rattle.elab_entry.specs.cpp_types.Typ.{Typ, Signature, void, typ_of}
+use Rattle.elab_entry.specs.cpp_types.declared.types.Ty.{Ty}
+use Rattle.elab_entry.specs.cpp_types.Class.{held}
+use Rattle.elab_entry.specs.cpp_types.declared.classes.At.{At}
+use Rattle.elab_entry.specs.cpp_lex.Tokens.{Lexeme}
+use Rattle.elab_entry.specs.cpp_ast.Trees as syntax
+use Rattle.elab_entry.specs.cpp_ast.declared.arena.At.{At as SyntaxAt}
+use Rattle.elab_entry.specs.cpp_ast.declared.arena.NodeId.{NodeId}
+use Rattle.elab_entry.specs.cpp_ast.declared.kinds.NodeKind.{NodeKind}
+use Rattle.elab_entry.specs.cpp_tree.declared.faults.ElabFault.{ElabFault}
+use Rattle.elab_entry.specs.cpp_tree.declared.faults.ElabFault.TheVariants.{Ill}
+use Rattle.elab_entry.specs.cpp_tree.declared.faults.IllRule.TheVariants.{Incomplete}
+use Rattle.elab_entry.specs.cpp_tree.declared.arena.TNodeId.{TNodeId}
+use Rattle.elab_entry.specs.cpp_tree.Notation.{plain}
+use Rattle.elab_entry.specs.cpp_tree.Trees.{Tree, one}
+use Rattle.elab_entry.specs.cpp_tree.Arena.{tree_at, trees_at, Grows, Adds}
+use Rattle.elab_entry.specs.elab_ctx.Ctx.{Returns, known, deduced}
+use Rattle.elab_entry.specs.elab_ctx.Steps.{and_then, check}
+use Rattle.elab_entry.specs.elab_ctx.Says.{Faults, AddsAll}
+use Rattle.elab_entry.proofs.elab_ctx.Looks.{grows_trans, grows_refl}
+use Rattle.elab_entry.proofs.elab_ctx.Making.{faults_in, faults_same}
+use Rattle.elab_entry.specs.elab_rules.Objects.{followed_by}
+use Rattle.elab_entry.specs.elab_rules.Operators.{is_complete}
+use Rattle.elab_entry.specs.elab_rules.Statements.{State, Done, done, block, statements_of}
+use Rattle.elab_entry.specs.elab_rules.Functions.{with_parameters, end_of}
+use Rattle.elab_entry.specs.elab_rules.Lambdas.{Written, no_lambda, kids_of, body_statements, result_in}
+use Rattle.elab_entry.specs.elab_types.Syntax.{trees_at as syntaxes_at}
+use Rattle.elab_entry.specs.elab_scopes.declared.state.State.{State as StateRec}
+use Rattle.elab_entry.specs.elab_scopes.States.{state_of, made, Grown}
+use Rattle.elab_entry.specs.elab_scopes.Says.{Changed, Changes, OneDone, AllDone, behind}
+use Rattle.elab_entry.proofs.elab_scopes.Standing.{grown_trans, grown_by, changes_after, one_after}
+use Rattle.elab_entry.proofs.elab_scopes.Behind.{behind_none}
 use Rattle.elab_entry.specs.Round.{Round, round_lambda, left_by}
 use Rattle.elab_entry.specs.Bodies.{body_kept, body_made}
 use Rattle.elab_lambdas.specs.Whole.{Deduced, closure_entered, ended, body_inside, kept, lambda_with, result_read}

@@ -1,21 +1,21 @@
 -- A lambda is made, step by step.
 use Rattle.std.proofs.Common.{◌≡◌, ◌∙◌, ℕ, false, not, List, length, Result, Ok, refl, sym, ap, subst}
 use Rattle.std.proofs.lemmas.List.{length-map}
-use Rattle.cpp_types.specs.Typ.{Typ, typ, closure, Signature, void, typ_of}
-use Rattle.cpp_types.specs.declared.types.Ty.{Ty}
-use Rattle.cpp_lex.specs.Tokens.{Lexeme}
-use Rattle.cpp_tree.specs.declared.faults.ElabFault.{ElabFault}
-use Rattle.cpp_tree.specs.Notation.{plain}
-use Rattle.elab_ctx.specs.Ctx.{Returns, Lambda}
-use Rattle.elab_ctx.specs.Steps.{and_then}
-use Rattle.elab_ctx.specs.Says.{Faults}
-use Rattle.elab_ctx.proofs.Making.{faults_in, faults_same}
-use Rattle.elab_rules.specs.Statements.{State}
-use Rattle.elab_rules.specs.Lambdas.{Written, declared_closure, with_written}
-use Rattle.elab_scopes.specs.declared.state.State.{State as StateRec}
-use Rattle.elab_scopes.specs.States.{state_of, made}
-use Rattle.elab_scopes.specs.Says.{Changed, Changes}
-use Rattle.elab_scopes.proofs.Standing.{grown_trans, grown_by}
+use Rattle.elab_entry.specs.cpp_types.Typ.{Typ, typ, closure, Signature, void, typ_of}
+use Rattle.elab_entry.specs.cpp_types.declared.types.Ty.{Ty}
+use Rattle.elab_entry.specs.cpp_lex.Tokens.{Lexeme}
+use Rattle.elab_entry.specs.cpp_tree.declared.faults.ElabFault.{ElabFault}
+use Rattle.elab_entry.specs.cpp_tree.Notation.{plain}
+use Rattle.elab_entry.specs.elab_ctx.Ctx.{Returns, Lambda}
+use Rattle.elab_entry.specs.elab_ctx.Steps.{and_then}
+use Rattle.elab_entry.specs.elab_ctx.Says.{Faults}
+use Rattle.elab_entry.proofs.elab_ctx.Making.{faults_in, faults_same}
+use Rattle.elab_entry.specs.elab_rules.Statements.{State}
+use Rattle.elab_entry.specs.elab_rules.Lambdas.{Written, declared_closure, with_written}
+use Rattle.elab_entry.specs.elab_scopes.declared.state.State.{State as StateRec}
+use Rattle.elab_entry.specs.elab_scopes.States.{state_of, made}
+use Rattle.elab_entry.specs.elab_scopes.Says.{Changed, Changes}
+use Rattle.elab_entry.proofs.elab_scopes.Standing.{grown_trans, grown_by}
 use Rattle.elab_entry.specs.Round.{Round, round_lambda}
 use Rattle.elab_entry.specs.Bodies.{entered_lambda}
 use Rattle.elab_lambdas.specs.Checkpoints.{checkpoint_in, undone_to}

@@ -1,20 +1,20 @@
 -- The parts of a lambda, one behind the other.
 use Rattle.std.proofs.Common.{◌≡◌, ◌∙◌, ℕ, Bool, List, Option, Result, Ok, refl, sym, ap, subst}
-use Rattle.cpp_lex.specs.Tokens.{Lexeme}
-use Rattle.cpp_ast.specs.Trees.{Tree, Trees}
-use Rattle.cpp_types.specs.Typ.{Typ}
-use Rattle.cpp_types.specs.declared.classes.At.{At}
-use Rattle.cpp_tree.specs.declared.faults.ElabFault.{ElabFault}
-use Rattle.elab_ctx.specs.Ctx.{Capture}
-use Rattle.elab_ctx.specs.Steps.{and_then}
-use Rattle.elab_ctx.specs.Says.{Faults}
-use Rattle.elab_ctx.proofs.Making.{faults_in, faults_same}
-use Rattle.elab_rules.specs.Types.{Parameter, Qualifiers, no_qualifiers, qualifiers_from}
-use Rattle.elab_rules.specs.Statements.{State}
-use Rattle.elab_rules.specs.Lambdas.{Otherwise, Written, explicit_captures, default_in, parameters_among, not_dynamic, result_among, default_captures, used_in, has_mutable, kids_of, place_of_tree, closing}
-use Rattle.elab_scopes.specs.declared.state.State.{State as StateRec}
-use Rattle.elab_scopes.specs.States.{state_of}
-use Rattle.elab_scopes.specs.Says.{Changes}
+use Rattle.elab_entry.specs.cpp_lex.Tokens.{Lexeme}
+use Rattle.elab_entry.specs.cpp_ast.Trees.{Tree, Trees}
+use Rattle.elab_entry.specs.cpp_types.Typ.{Typ}
+use Rattle.elab_entry.specs.cpp_types.declared.classes.At.{At}
+use Rattle.elab_entry.specs.cpp_tree.declared.faults.ElabFault.{ElabFault}
+use Rattle.elab_entry.specs.elab_ctx.Ctx.{Capture}
+use Rattle.elab_entry.specs.elab_ctx.Steps.{and_then}
+use Rattle.elab_entry.specs.elab_ctx.Says.{Faults}
+use Rattle.elab_entry.proofs.elab_ctx.Making.{faults_in, faults_same}
+use Rattle.elab_entry.specs.elab_rules.Types.{Parameter, Qualifiers, no_qualifiers, qualifiers_from}
+use Rattle.elab_entry.specs.elab_rules.Statements.{State}
+use Rattle.elab_entry.specs.elab_rules.Lambdas.{Otherwise, Written, explicit_captures, default_in, parameters_among, not_dynamic, result_among, default_captures, used_in, has_mutable, kids_of, place_of_tree, closing}
+use Rattle.elab_entry.specs.elab_scopes.declared.state.State.{State as StateRec}
+use Rattle.elab_entry.specs.elab_scopes.States.{state_of}
+use Rattle.elab_entry.specs.elab_scopes.Says.{Changes}
 use Rattle.elab_lambdas.specs.Whole.{lambda_written, lambda_from, lambda_made}
 
 -- what is known of an introducer and of what stands behind it, step by step

@@ -1,14 +1,14 @@
 -- Answers that are faults.
 use Rattle.std.proofs.Common.{◌≡◌, Vec, Result, Err, sym, subst}
 use Rattle.std.specs.declared.alloc.Global.{Global}
-use Rattle.cpp_types.specs.declared.types.Ty.{Ty}
-use Rattle.cpp_tree.specs.declared.faults.ElabFault.{ElabFault}
-use Rattle.cpp_tree.specs.declared.arena.TNodeId.{TNodeId}
-use Rattle.elab_ctx.specs.Says.{Faults}
-use Rattle.elab_rules.specs.Statements.{State, Done}
-use Rattle.elab_types.specs.Shown.{Says}
-use Rattle.elab_scopes.specs.declared.state.State.{State as StateRec}
-use Rattle.elab_scopes.specs.Says.{Changes}
+use Rattle.elab_entry.specs.cpp_types.declared.types.Ty.{Ty}
+use Rattle.elab_entry.specs.cpp_tree.declared.faults.ElabFault.{ElabFault}
+use Rattle.elab_entry.specs.cpp_tree.declared.arena.TNodeId.{TNodeId}
+use Rattle.elab_entry.specs.elab_ctx.Says.{Faults}
+use Rattle.elab_entry.specs.elab_rules.Statements.{State, Done}
+use Rattle.elab_entry.specs.elab_types.Shown.{Says}
+use Rattle.elab_entry.specs.elab_scopes.declared.state.State.{State as StateRec}
+use Rattle.elab_entry.specs.elab_scopes.Says.{Changes}
 use Rattle.elab_lambdas.specs.Whole.{Deduced}
 use Rattle.elab_lambdas.specs.Outcomes.{Lists, Deduces}
 

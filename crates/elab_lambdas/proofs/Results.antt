@@ -1,16 +1,16 @@
 -- Result types that are written.
 use Rattle.std.proofs.Common.{◌≡◌, ◌∙◌, List, Option, Some, None, Result, refl, sym, ap, subst}
-use Rattle.cpp_lex.specs.Tokens.{Lexeme}
-use Rattle.cpp_ast.specs.Trees.{Tree, node, Trees, none, more}
-use Rattle.cpp_ast.specs.declared.kinds.NodeKind.TheVariants as k
+use Rattle.elab_entry.specs.cpp_lex.Tokens.{Lexeme}
+use Rattle.elab_entry.specs.cpp_ast.Trees.{Tree, node, Trees, none, more}
+use Rattle.elab_entry.specs.cpp_ast.declared.kinds.NodeKind.TheVariants as k
 use Rattle.std.specs.Prelude.{option_map}
-use Rattle.cpp_types.specs.Typ.{Typ, typ_of}
-use Rattle.cpp_types.specs.declared.types.Ty.{Ty}
-use Rattle.elab_types.specs.Shown.{Says}
-use Rattle.cpp_tree.specs.declared.faults.ElabFault.{ElabFault}
-use Rattle.elab_ctx.specs.Ctx.{Ctx, Work}
-use Rattle.elab_rules.specs.Expressions.{type_id_of}
-use Rattle.elab_rules.specs.Lambdas.{result_among, an_option}
+use Rattle.elab_entry.specs.cpp_types.Typ.{Typ, typ_of}
+use Rattle.elab_entry.specs.cpp_types.declared.types.Ty.{Ty}
+use Rattle.elab_entry.specs.elab_types.Shown.{Says}
+use Rattle.elab_entry.specs.cpp_tree.declared.faults.ElabFault.{ElabFault}
+use Rattle.elab_entry.specs.elab_ctx.Ctx.{Ctx, Work}
+use Rattle.elab_entry.specs.elab_rules.Expressions.{type_id_of}
+use Rattle.elab_entry.specs.elab_rules.Lambdas.{result_among, an_option}
 use Rattle.elab_lambdas.specs.Steps.{trailing_in, tree_or, trailing, result_written}
 
 -- one tree, and those behind it

@@ -1,7 +1,7 @@
 -- What is made and not kept.
 use Rattle.std.specs.Prelude.{length, take}
-use Rattle.elab_rules.specs.Statements.{State}
-use Rattle.elab_scopes.specs.declared.state.State.{State as StateRec}
+use Rattle.elab_entry.specs.elab_rules.Statements.{State}
+use Rattle.elab_entry.specs.elab_scopes.declared.state.State.{State as StateRec}
 use Rattle.elab_lambdas.specs.declared.undoing.Checkpoint.{Checkpoint}
 
 -- how much is known and made

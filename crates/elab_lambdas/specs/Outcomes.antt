@@ -1,15 +1,15 @@
 -- What answers of lambdas say.
 use Rattle.std.specs.Prelude.{◌≡◌, true, Vec, length, Result, Ok, Err}
 use Rattle.std.specs.declared.alloc.Global.{Global}
-use Rattle.cpp_types.specs.Typ.{typ_of}
-use Rattle.cpp_types.specs.declared.types.Ty.{Ty}
-use Rattle.cpp_tree.specs.declared.faults.ElabFault.{ElabFault}
-use Rattle.cpp_tree.specs.declared.arena.TNodeId.{TNodeId}
-use Rattle.cpp_tree.specs.Arena.{trees_at}
-use Rattle.elab_ctx.specs.Says.{Faults, are_within}
-use Rattle.elab_rules.specs.Statements.{Done, done}
-use Rattle.elab_scopes.specs.declared.state.State.{State as StateRec}
-use Rattle.elab_scopes.specs.States.{state_of, made, Grown}
+use Rattle.elab_entry.specs.cpp_types.Typ.{typ_of}
+use Rattle.elab_entry.specs.cpp_types.declared.types.Ty.{Ty}
+use Rattle.elab_entry.specs.cpp_tree.declared.faults.ElabFault.{ElabFault}
+use Rattle.elab_entry.specs.cpp_tree.declared.arena.TNodeId.{TNodeId}
+use Rattle.elab_entry.specs.cpp_tree.Arena.{trees_at}
+use Rattle.elab_entry.specs.elab_ctx.Says.{Faults, are_within}
+use Rattle.elab_entry.specs.elab_rules.Statements.{Done, done}
+use Rattle.elab_entry.specs.elab_scopes.declared.state.State.{State as StateRec}
+use Rattle.elab_entry.specs.elab_scopes.States.{state_of, made, Grown}
 use Rattle.elab_lambdas.specs.Whole.{Deduced}
 
 -- trees were made, one behind the other

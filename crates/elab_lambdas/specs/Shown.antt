@@ -1,8 +1,8 @@
 -- What the records of the code show.
-use Rattle.cpp_types.specs.Typ.{Signature}
-use Rattle.cpp_types.specs.Class.{Function}
-use Rattle.elab_rules.specs.Lambdas.{call_record}
-use Rattle.elab_types.specs.Shown.{qualifiers_of}
+use Rattle.elab_entry.specs.cpp_types.Typ.{Signature}
+use Rattle.elab_entry.specs.cpp_types.Class.{Function}
+use Rattle.elab_entry.specs.elab_rules.Lambdas.{call_record}
+use Rattle.elab_entry.specs.elab_types.Shown.{qualifiers_of}
 use Rattle.elab_lambdas.specs.declared.closures.CallWords.{CallWords}
 
 -- The call of a lambda

@@ -1,16 +1,16 @@
 -- The definitions of lambdas, step by step.
 use Rattle.std.specs.Prelude.{ℕ, false, List, [], ◌∷◌, ◌++◌, Option, Some, None, Result, Ok, count_by, if◌then◌else◌}
-use Rattle.cpp_types.specs.Typ.{Typ}
-use Rattle.cpp_types.specs.Class.{Class, Function}
-use Rattle.cpp_ast.specs.declared.kinds.NodeKind.TheVariants as k
-use Rattle.cpp_ast.specs.Trees.{Tree, node, Trees, none, more}
-use Rattle.cpp_lex.specs.Tokens.{Lexeme}
-use Rattle.cpp_tree.specs.declared.faults.ElabFault.{ElabFault}
-use Rattle.elab_ctx.specs.Ctx.{Ctx, Work, Func, Capture}
-use Rattle.elab_rules.specs.Types.{Parameter}
-use Rattle.elab_rules.specs.Expressions.{type_id_of}
-use Rattle.elab_rules.specs.Classes.{class_named, is_completed}
-use Rattle.elab_rules.specs.Lambdas.{capture_members, call_func, an_option}
+use Rattle.elab_entry.specs.cpp_types.Typ.{Typ}
+use Rattle.elab_entry.specs.cpp_types.Class.{Class, Function}
+use Rattle.elab_entry.specs.cpp_ast.declared.kinds.NodeKind.TheVariants as k
+use Rattle.elab_entry.specs.cpp_ast.Trees.{Tree, node, Trees, none, more}
+use Rattle.elab_entry.specs.cpp_lex.Tokens.{Lexeme}
+use Rattle.elab_entry.specs.cpp_tree.declared.faults.ElabFault.{ElabFault}
+use Rattle.elab_entry.specs.elab_ctx.Ctx.{Ctx, Work, Func, Capture}
+use Rattle.elab_entry.specs.elab_rules.Types.{Parameter}
+use Rattle.elab_entry.specs.elab_rules.Expressions.{type_id_of}
+use Rattle.elab_entry.specs.elab_rules.Classes.{class_named, is_completed}
+use Rattle.elab_entry.specs.elab_rules.Lambdas.{capture_members, call_func, an_option}
 
 -- The class and its call
 

@@ -1,29 +1,29 @@
 -- Lambdas as they are made: what stands behind a body is `left_by` of what stood round it, and what was made to read a body for its result is taken away again.
 use Rattle.std.specs.Prelude.{false, List, length, map, take, Option, Some, None, option_map, Result, Ok, Err}
-use Rattle.cpp_types.specs.Typ.{Typ, void, Signature, typ_of}
-use Rattle.cpp_types.specs.Class.{held}
-use Rattle.cpp_types.specs.declared.classes.At.{At}
-use Rattle.cpp_lex.specs.Tokens.{Lexeme}
-use Rattle.cpp_ast.specs.declared.kinds.NodeKind.TheVariants as k
-use Rattle.cpp_ast.specs.Trees as syntax
-use Rattle.cpp_tree.specs.declared.kinds.TKind.TheVariants as forms
-use Rattle.cpp_tree.specs.declared.faults.ElabFault.{ElabFault}
-use Rattle.cpp_tree.specs.declared.faults.ElabFault.TheVariants.{Ill}
-use Rattle.cpp_tree.specs.declared.faults.IllRule.TheVariants.{Incomplete, OutOfProfile}
-use Rattle.cpp_tree.specs.Notation.{plain}
-use Rattle.cpp_tree.specs.Trees.{one}
-use Rattle.cpp_tree.specs.Typing.{form_in}
-use Rattle.elab_ctx.specs.Ctx.{Ctx, Capture, Returns, known, deduced, capture_of}
-use Rattle.elab_ctx.specs.Steps.{and_then, check, at_of}
-use Rattle.elab_rules.specs.Objects.{followed_by}
-use Rattle.elab_rules.specs.Operators.{is_complete}
-use Rattle.elab_rules.specs.Sizes.{typ_sized}
-use Rattle.elab_rules.specs.Types.{Parameter, Qualifiers, no_qualifiers, qualifiers_from, is_declared_safe, function_of}
-use Rattle.elab_rules.specs.Statements.{State, Done, Lambdas, done, statement, the_tree}
-use Rattle.elab_rules.specs.Functions.{end_of}
-use Rattle.elab_rules.specs.Lambdas.{Written, kids_of, place_of_tree, signature_in, result_in, lambda_entered, declared_closure, inside, body_statements, with_written, explicit_captures, default_in, default_captures, used_in, parameters_among, result_among, not_dynamic, has_mutable, closing}
-use Rattle.elab_types.specs.Shown.{parameter_of, qualifiers_of}
-use Rattle.elab_types.specs.Syntax.{tree_at}
+use Rattle.elab_entry.specs.cpp_types.Typ.{Typ, void, Signature, typ_of}
+use Rattle.elab_entry.specs.cpp_types.Class.{held}
+use Rattle.elab_entry.specs.cpp_types.declared.classes.At.{At}
+use Rattle.elab_entry.specs.cpp_lex.Tokens.{Lexeme}
+use Rattle.elab_entry.specs.cpp_ast.declared.kinds.NodeKind.TheVariants as k
+use Rattle.elab_entry.specs.cpp_ast.Trees as syntax
+use Rattle.elab_entry.specs.cpp_tree.declared.kinds.TKind.TheVariants as forms
+use Rattle.elab_entry.specs.cpp_tree.declared.faults.ElabFault.{ElabFault}
+use Rattle.elab_entry.specs.cpp_tree.declared.faults.ElabFault.TheVariants.{Ill}
+use Rattle.elab_entry.specs.cpp_tree.declared.faults.IllRule.TheVariants.{Incomplete, OutOfProfile}
+use Rattle.elab_entry.specs.cpp_tree.Notation.{plain}
+use Rattle.elab_entry.specs.cpp_tree.Trees.{one}
+use Rattle.elab_entry.specs.cpp_tree.Typing.{form_in}
+use Rattle.elab_entry.specs.elab_ctx.Ctx.{Ctx, Capture, Returns, known, deduced, capture_of}
+use Rattle.elab_entry.specs.elab_ctx.Steps.{and_then, check, at_of}
+use Rattle.elab_entry.specs.elab_rules.Objects.{followed_by}
+use Rattle.elab_entry.specs.elab_rules.Operators.{is_complete}
+use Rattle.elab_entry.specs.elab_rules.Sizes.{typ_sized}
+use Rattle.elab_entry.specs.elab_rules.Types.{Parameter, Qualifiers, no_qualifiers, qualifiers_from, is_declared_safe, function_of}
+use Rattle.elab_entry.specs.elab_rules.Statements.{State, Done, Lambdas, done, statement, the_tree}
+use Rattle.elab_entry.specs.elab_rules.Functions.{end_of}
+use Rattle.elab_entry.specs.elab_rules.Lambdas.{Written, kids_of, place_of_tree, signature_in, result_in, lambda_entered, declared_closure, inside, body_statements, with_written, explicit_captures, default_in, default_captures, used_in, parameters_among, result_among, not_dynamic, has_mutable, closing}
+use Rattle.elab_entry.specs.elab_types.Shown.{parameter_of, qualifiers_of}
+use Rattle.elab_entry.specs.elab_types.Syntax.{tree_at}
 use Rattle.elab_entry.specs.Round.{round_lambda, left_by}
 use Rattle.elab_entry.specs.Bodies.{body_made}
 use Rattle.elab_lambdas.specs.declared.making.Written.{Written as WrittenRec}

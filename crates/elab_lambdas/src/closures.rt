@@ -1,23 +1,23 @@
 // The class of a lambda (C++14 5.1.2 p3, p7): its members are the captures, its one function is the call.
 
 ghost use Rattle.std.specs.Prelude.{◌≡◌, ◌++◌, ◌∷◌, [], ◌≤◌, map, length, count_by, if◌then◌else◌, IfOk, OnOk};
-ghost use Rattle.cpp_types.specs.Typ.{typ_of, signature_of};
-ghost use Rattle.cpp_types.specs.Class.{class_of, member_of, function_of};
-ghost use Rattle.elab_ctx.specs.Ctx.{ctx_of, func_of, capture_of, traits_of};
-ghost use Rattle.elab_rules.specs.Classes.{is_completed};
-ghost use Rattle.elab_rules.specs.Functions.{safety_of as safety_of_of};
-ghost use Rattle.elab_rules.specs.Lambdas.{capture_members, with_closure};
-ghost use Rattle.elab_types.specs.Shown.{parameter_of, qualifiers_of};
+ghost use Rattle.elab_entry.specs.cpp_types.Typ.{typ_of, signature_of};
+ghost use Rattle.elab_entry.specs.cpp_types.Class.{class_of, member_of, function_of};
+ghost use Rattle.elab_entry.specs.elab_ctx.Ctx.{ctx_of, func_of, capture_of, traits_of};
+ghost use Rattle.elab_entry.specs.elab_rules.Classes.{is_completed};
+ghost use Rattle.elab_entry.specs.elab_rules.Functions.{safety_of as safety_of_of};
+ghost use Rattle.elab_entry.specs.elab_rules.Lambdas.{capture_members, with_closure};
+ghost use Rattle.elab_entry.specs.elab_types.Shown.{parameter_of, qualifiers_of};
 ghost use Rattle.elab_lambdas.specs.Shown.{call_of};
 ghost use Rattle.elab_lambdas.specs.Steps.{closure_class, with_class, with_call};
 
 use crate::traits::closure_traits;
 use crate::undoing::put_classes;
-use cpp_tree::{FuncKind, Linkage, TParam};
-use cpp_types::{At, ClassRec, FnTy, FuncRec, MemberRec, Safety, copy, copy_function};
-use elab_ctx::{Capture, Env, FuncDecl, Traits};
 use elab_decls::functions::params_from;
-use elab_types::{Parameter, Qualifiers};
+use elab_entry::below::{
+    At, Capture, ClassRec, Env, FnTy, FuncDecl, FuncKind, FuncRec, Linkage, MemberRec, Parameter,
+    Qualifiers, Safety, TParam, Traits, copy, copy_function,
+};
 use std::alloc::{AllocError, Global};
 use std::mem;
 

@@ -1,22 +1,22 @@
 // A lambda is made: its class, and the body of its call (C++14 5.1.2 p3 to p5).
 
 ghost use Rattle.std.specs.Prelude.{◌≡◌, ◌<◌, ◌++◌, ◌∷◌, [], List, map, option_map, length, true, false, not, IfOk, OnOk};
-ghost use Rattle.cpp_types.specs.Typ.{typ, closure, typ_of, signature_of};
-ghost use Rattle.cpp_lex.specs.Tokens.{lexemes_of};
-ghost use Rattle.cpp_ast.specs.Trees.{Tree};
-ghost use Rattle.cpp_tree.specs.Typing.{form_in};
-ghost use Rattle.cpp_tree.specs.Trees.{one};
-ghost use Rattle.cpp_tree.specs.Arena.{trees_at};
-ghost use Rattle.elab_ctx.specs.Ctx.{ctx_of, capture_of, returns_of, lambda_of, closure_of, known};
-ghost use Rattle.elab_ctx.specs.Says.{are_within};
-ghost use Rattle.elab_rules.specs.Objects.{followed_by};
-ghost use Rattle.elab_rules.specs.Statements.{done, statements_of, block as block_of};
-ghost use Rattle.elab_rules.specs.Functions.{with_parameters as with_parameters_of, end_of as end_of_typ};
-ghost use Rattle.elab_rules.specs.Lambdas.{no_lambda, kids_of, place_of_tree, with_closure, signature_in, result_in as result_in_of, body_statements as body_statements_of};
-ghost use Rattle.elab_types.specs.Shown.{Says, parameter_of, qualifiers_of};
-ghost use Rattle.elab_types.specs.Syntax.{syntax_of, tree_at};
-ghost use Rattle.elab_scopes.specs.States.{state_of, made};
-ghost use Rattle.elab_scopes.specs.Says.{Changes, Does, OneDone};
+ghost use Rattle.elab_entry.specs.cpp_types.Typ.{typ, closure, typ_of, signature_of};
+ghost use Rattle.elab_entry.specs.cpp_lex.Tokens.{lexemes_of};
+ghost use Rattle.elab_entry.specs.cpp_ast.Trees.{Tree};
+ghost use Rattle.elab_entry.specs.cpp_tree.Typing.{form_in};
+ghost use Rattle.elab_entry.specs.cpp_tree.Trees.{one};
+ghost use Rattle.elab_entry.specs.cpp_tree.Arena.{trees_at};
+ghost use Rattle.elab_entry.specs.elab_ctx.Ctx.{ctx_of, capture_of, returns_of, lambda_of, closure_of, known};
+ghost use Rattle.elab_entry.specs.elab_ctx.Says.{are_within};
+ghost use Rattle.elab_entry.specs.elab_rules.Objects.{followed_by};
+ghost use Rattle.elab_entry.specs.elab_rules.Statements.{done, statements_of, block as block_of};
+ghost use Rattle.elab_entry.specs.elab_rules.Functions.{with_parameters as with_parameters_of, end_of as end_of_typ};
+ghost use Rattle.elab_entry.specs.elab_rules.Lambdas.{no_lambda, kids_of, place_of_tree, with_closure, signature_in, result_in as result_in_of, body_statements as body_statements_of};
+ghost use Rattle.elab_entry.specs.elab_types.Shown.{Says, parameter_of, qualifiers_of};
+ghost use Rattle.elab_entry.specs.elab_types.Syntax.{syntax_of, tree_at};
+ghost use Rattle.elab_entry.specs.elab_scopes.States.{state_of, made};
+ghost use Rattle.elab_entry.specs.elab_scopes.Says.{Changes, Does, OneDone};
 ghost use Rattle.elab_entry.specs.Round.{round_of, trees_round, round_lambda};
 ghost use Rattle.elab_lambdas.specs.Shown.{call_of};
 ghost use Rattle.elab_lambdas.specs.Whole.{written_of, call_signature, closure_entered, body_inside as body_inside_of, lambda_with as lambda_with_of, lambda_known as lambda_known_of, result_read, result_deduced as result_deduced_of, result_of as result_of_of, lambda_made as lambda_made_of};
@@ -24,22 +24,13 @@ ghost use Rattle.elab_lambdas.specs.Outcomes.{Lists, Deduces};
 
 use crate::closures::{CallWords, add_closure, next_class};
 use crate::undoing::{checkpoint_here, undo};
-use cpp_ast::{NodeId, Nodes};
-use cpp_lex::Tokens;
-use cpp_tree::{ElabFault, IllRule, TNodeId};
-use cpp_types::{At, FnTy, Shape, Ty, copy, copy_function};
-use elab_ctx::{Capture, Closure, Env, Lambda, Returns};
+use elab_entry::below::{
+    At, Capture, Closure, ElabFault, Env, FnTy, IllRule, Lambda, NoLambdas, NodeId, Nodes,
+    Parameter, Returns, Shape, State, TNodeId, Tokens, Ty, block, copy, copy_function,
+    elab_types_node_at as node_at, function_of, ill, is_complete_type, is_declared_safe, place,
+    plain_type, statements, typ_sized,
+};
 use elab_entry::{Around, body_made, end_of, enter_lambda, leave_function, with_parameters};
-use elab_names::parts::plain_type;
-use elab_scopes::nodes::block;
-use elab_scopes::{NoLambdas, State};
-use elab_sizes::typ_sized;
-use elab_stmt::statements;
-use elab_types::Parameter;
-use elab_types::declarators::{function_of, is_declared_safe};
-use elab_types::specifiers::ill;
-use elab_types::syntax::{node_at, place};
-use elab_types::types::is_complete_type;
 use lambda_captures::captures::copy_captures;
 use std::alloc::{AllocError, Global};
 

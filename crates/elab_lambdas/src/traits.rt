@@ -3,19 +3,16 @@
 
 ghost use Rattle.std.specs.Prelude.{◌≡◌, map, not};
 ghost use Rattle.std.specs.List.{list_any};
-ghost use Rattle.cpp_types.specs.Typ.{typ_of};
-ghost use Rattle.cpp_types.specs.Class.{held};
-ghost use Rattle.cpp_types.specs.Conversion.{volatile_of};
-ghost use Rattle.elab_ctx.specs.Ctx.{Capture as CaptureOf, ctx_of, special_of, traits_of, capture_of};
-ghost use Rattle.elab_rules.specs.Objects.{traits_at as traits_at_of};
-ghost use Rattle.elab_rules.specs.Statements.{is_trivial as is_trivial_of};
-ghost use Rattle.elab_rules.specs.Lambdas.{class_of_held, all_captured, copied_and_left as copied_and_left_of, closure_traits as closure_traits_of};
+ghost use Rattle.elab_entry.specs.cpp_types.Typ.{typ_of};
+ghost use Rattle.elab_entry.specs.cpp_types.Class.{held};
+ghost use Rattle.elab_entry.specs.cpp_types.Conversion.{volatile_of};
+ghost use Rattle.elab_entry.specs.elab_ctx.Ctx.{Capture as CaptureOf, ctx_of, special_of, traits_of, capture_of};
+ghost use Rattle.elab_entry.specs.elab_rules.Objects.{traits_at as traits_at_of};
+ghost use Rattle.elab_entry.specs.elab_rules.Statements.{is_trivial as is_trivial_of};
+ghost use Rattle.elab_entry.specs.elab_rules.Lambdas.{class_of_held, all_captured, copied_and_left as copied_and_left_of, closure_traits as closure_traits_of};
 
 use class_specials::part_tests::is_volatile;
-use cpp_types::Ty;
-use cpp_types::copyability::held_class;
-use elab_ctx::{Capture, Env, Special, Traits};
-use elab_init::traits_at;
+use elab_entry::below::{Capture, Env, Special, Traits, Ty, held_class, traits_at};
 
 fn is_trivial(special: Special) -> bool
     ensures { result ≡ is_trivial_of (special_of special) }

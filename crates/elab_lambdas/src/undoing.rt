@@ -1,14 +1,12 @@
 // What reading a body for its result made, which is not kept.
 
 ghost use Rattle.std.specs.Prelude.{◌≡◌, take, OnOk};
-ghost use Rattle.cpp_types.specs.Class.{classes_of};
-ghost use Rattle.elab_ctx.specs.Ctx.{ctx_of, work_of};
-ghost use Rattle.elab_scopes.specs.States.{state_of, made};
+ghost use Rattle.elab_entry.specs.cpp_types.Class.{classes_of};
+ghost use Rattle.elab_entry.specs.elab_ctx.Ctx.{ctx_of, work_of};
+ghost use Rattle.elab_entry.specs.elab_scopes.States.{state_of, made};
 ghost use Rattle.elab_lambdas.specs.Checkpoints.{checkpoint_in, undone_to};
 
-use cpp_types::{ClassRec, is_in_order};
-use elab_ctx::{Env, Work};
-use elab_scopes::State;
+use elab_entry::below::{ClassRec, Env, State, Work, is_in_order};
 use std::alloc::{AllocError, Global};
 use std::mem;
 

@@ -1,18 +1,18 @@
 // Lambdas as they are written, and all of a full-expression.
 
 ghost use Rattle.std.specs.Prelude.{◌≡◌, ◌<◌, map, option_map, length, true, MatchOption, IfOk};
-ghost use Rattle.cpp_types.specs.Typ.{typ_of};
-ghost use Rattle.cpp_lex.specs.Tokens.{lexemes_of};
-ghost use Rattle.cpp_ast.specs.Orders.{are_below};
-ghost use Rattle.elab_ctx.specs.Ctx.{ctx_of, work_of, capture_of};
-ghost use Rattle.elab_ctx.specs.Says.{Tells};
-ghost use Rattle.elab_rules.specs.Types.{no_qualifiers as no_qualifiers_of, qualifiers_from};
-ghost use Rattle.elab_rules.specs.Lambdas.{default_in as default_in_of, explicit_captures as explicit_captures_of, parameters_among as parameters_among_of, result_among as result_among_of, not_dynamic as not_dynamic_of, is_mutable_word as is_mutable_word_of, has_mutable as has_mutable_of, closing as closing_of, captured_uses, default_captures as default_captures_of, used_in as used_in_of, kids_of as kids_of_tree};
-ghost use Rattle.elab_rows.specs.Typed.{parameters_of};
-ghost use Rattle.elab_types.specs.Shown.{Says, parameter_of, qualifiers_of as qualifiers_view};
-ghost use Rattle.elab_types.specs.Syntax.{syntax_of, tree_at, trees_at};
-ghost use Rattle.elab_scopes.specs.States.{state_of};
-ghost use Rattle.elab_scopes.specs.Says.{Changes};
+ghost use Rattle.elab_entry.specs.cpp_types.Typ.{typ_of};
+ghost use Rattle.elab_entry.specs.cpp_lex.Tokens.{lexemes_of};
+ghost use Rattle.elab_entry.specs.cpp_ast.Orders.{are_below};
+ghost use Rattle.elab_entry.specs.elab_ctx.Ctx.{ctx_of, work_of, capture_of};
+ghost use Rattle.elab_entry.specs.elab_ctx.Says.{Tells};
+ghost use Rattle.elab_entry.specs.elab_rules.Types.{no_qualifiers as no_qualifiers_of, qualifiers_from};
+ghost use Rattle.elab_entry.specs.elab_rules.Lambdas.{default_in as default_in_of, explicit_captures as explicit_captures_of, parameters_among as parameters_among_of, result_among as result_among_of, not_dynamic as not_dynamic_of, is_mutable_word as is_mutable_word_of, has_mutable as has_mutable_of, closing as closing_of, captured_uses, default_captures as default_captures_of, used_in as used_in_of, kids_of as kids_of_tree};
+ghost use Rattle.elab_entry.specs.elab_rows.Typed.{parameters_of};
+ghost use Rattle.elab_entry.specs.elab_types.Shown.{Says, parameter_of, qualifiers_of as qualifiers_view};
+ghost use Rattle.elab_entry.specs.elab_types.Syntax.{syntax_of, tree_at, trees_at};
+ghost use Rattle.elab_entry.specs.elab_scopes.States.{state_of};
+ghost use Rattle.elab_entry.specs.elab_scopes.Says.{Changes};
 ghost use Rattle.lambda_captures.specs.Shown.{otherwise_of, captures_of as captures_view};
 ghost use Rattle.elab_lambdas.specs.Steps.{trailing_in as trailing_in_of, trailing, result_written};
 ghost use Rattle.lambda_captures.specs.Says.{Collects};
@@ -20,18 +20,11 @@ ghost use Rattle.elab_lambdas.specs.Whole.{written_of, lambda_written as lambda_
 
 use crate::closures::CallWords;
 use crate::making::{Written, lambda_made};
-use cpp_ast::{NodeId, NodeKind, Nodes};
-use cpp_lex::Tokens;
-use cpp_tree::{ElabFault, IllRule, OverrideRule};
-use cpp_types::{At, Ty};
-use elab_ctx::{Capture, Env, Work};
-use elab_expr::{parameters, type_id};
-use elab_scopes::{MakeLambdas, State};
-use elab_types::kids::{Kids, first_kid, kids_of};
-use elab_types::parts::qualifiers_of;
-use elab_types::specifiers::ill;
-use elab_types::syntax::{node_at, place};
-use elab_types::{Parameter, Qualifiers};
+use elab_entry::below::{
+    At, Capture, ElabFault, Env, IllRule, Kids, MakeLambdas, NodeId, NodeKind, Nodes, OverrideRule,
+    Parameter, Qualifiers, State, Tokens, Ty, Work, elab_types_node_at as node_at, first_kid, ill,
+    kids_of, parameters, place, qualifiers_of, type_id,
+};
 use lambda_captures::captures::capture_uses;
 use lambda_captures::explicit::{Otherwise, default_in, explicit_captures};
 use lambda_captures::scanning::used_in;

@@ -1,34 +1,34 @@
 -- Declarators of a declaration, one behind the other.
 use Rattle.std.proofs.Common.{◌≡◌, ◌≢◌, ◌<◌, ◌+◌, ◌-◌, take, ◌++◌, ◌∷◌, ℕ, Bool, true, false, List, [], length, drop, Option, None, option_map, Result, Ok, Err, IfOk, refl, sym, ap, ◌∙◌, subst, append-nil, arith}
 use Rattle.std.specs.declared.alloc.AllocError.{AllocError}
-use Rattle.cpp_lex.specs.Tokens.{Lexeme}
-use Rattle.cpp_types.specs.Typ.{Typ, typ_of}
-use Rattle.cpp_types.specs.declared.types.Ty.{Ty}
-use Rattle.cpp_types.specs.declared.classes.At.{At}
-use Rattle.cpp_ast.specs.declared.arena.At.{At as SyntaxAt}
-use Rattle.cpp_ast.specs.declared.arena.NodeId.{NodeId}
-use Rattle.cpp_ast.specs.declared.kinds.NodeKind.{NodeKind}
-use Rattle.cpp_ast.specs.declared.kinds.NodeKind.TheVariants as k
-use Rattle.cpp_ast.specs.Orders.{are_below}
-use Rattle.cpp_ast.specs.Trees as syntax
-use Rattle.cpp_tree.specs.declared.faults.ElabFault.{ElabFault}
-use Rattle.cpp_tree.specs.declared.faults.ElabFault.TheVariants.{Ill}
-use Rattle.cpp_tree.specs.declared.faults.IllRule.TheVariants.{BadDeclaration, OutOfProfile}
-use Rattle.cpp_tree.specs.declared.arena.TNodeId.{TNodeId}
-use Rattle.cpp_tree.specs.Trees.{Tree, Trees, none, one}
-use Rattle.cpp_tree.specs.Arena.{tree_at, trees_at, Grows}
-use Rattle.elab_ctx.specs.Ctx.{Ctx, ctx_of}
-use Rattle.elab_ctx.specs.Steps.{and_then, check, at_of}
-use Rattle.elab_ctx.specs.Says.{Faults, are_within}
-use Rattle.elab_ctx.proofs.Looks.{grows_refl}
-use Rattle.elab_ctx.proofs.Making.{faults_in, faults_same}
-use Rattle.elab_init.proofs.Listing.{trees_append, trees_grown, all_within_grown, within_both, within_one}
-use Rattle.elab_rules.specs.Objects.{followed_by}
-use Rattle.elab_rules.specs.Types.{Declared}
-use Rattle.elab_rules.specs.Expressions.{type_of_specifiers, declared_by}
-use Rattle.elab_rules.specs.Statements.{Lambdas, State, Done, Deduction, Declaring, done, variable, name_of, is_own_name, declared_more, past_declaration, may_be_skipped, block_declarator, block_declarators, block_declaration}
-use Rattle.elab_expr.proofs.Several.{rest_is, rest_from, below_rest}
-use Rattle.elab_types.specs.Syntax.{tree_at as syntax_at, trees_at as syntaxes_at}
+use Rattle.elab_scopes.specs.cpp_lex.Tokens.{Lexeme}
+use Rattle.elab_scopes.specs.cpp_types.Typ.{Typ, typ_of}
+use Rattle.elab_scopes.specs.cpp_types.declared.types.Ty.{Ty}
+use Rattle.elab_scopes.specs.cpp_types.declared.classes.At.{At}
+use Rattle.elab_scopes.specs.cpp_ast.declared.arena.At.{At as SyntaxAt}
+use Rattle.elab_scopes.specs.cpp_ast.declared.arena.NodeId.{NodeId}
+use Rattle.elab_scopes.specs.cpp_ast.declared.kinds.NodeKind.{NodeKind}
+use Rattle.elab_scopes.specs.cpp_ast.declared.kinds.NodeKind.TheVariants as k
+use Rattle.elab_scopes.specs.cpp_ast.Orders.{are_below}
+use Rattle.elab_scopes.specs.cpp_ast.Trees as syntax
+use Rattle.elab_scopes.specs.cpp_tree.declared.faults.ElabFault.{ElabFault}
+use Rattle.elab_scopes.specs.cpp_tree.declared.faults.ElabFault.TheVariants.{Ill}
+use Rattle.elab_scopes.specs.cpp_tree.declared.faults.IllRule.TheVariants.{BadDeclaration, OutOfProfile}
+use Rattle.elab_scopes.specs.cpp_tree.declared.arena.TNodeId.{TNodeId}
+use Rattle.elab_scopes.specs.cpp_tree.Trees.{Tree, Trees, none, one}
+use Rattle.elab_scopes.specs.cpp_tree.Arena.{tree_at, trees_at, Grows}
+use Rattle.elab_scopes.specs.elab_ctx.Ctx.{Ctx, ctx_of}
+use Rattle.elab_scopes.specs.elab_ctx.Steps.{and_then, check, at_of}
+use Rattle.elab_scopes.specs.elab_ctx.Says.{Faults, are_within}
+use Rattle.elab_scopes.proofs.elab_ctx.Looks.{grows_refl}
+use Rattle.elab_scopes.proofs.elab_ctx.Making.{faults_in, faults_same}
+use Rattle.elab_scopes.proofs.elab_init.Listing.{trees_append, trees_grown, all_within_grown, within_both, within_one}
+use Rattle.elab_scopes.specs.elab_rules.Objects.{followed_by}
+use Rattle.elab_scopes.specs.elab_rules.Types.{Declared}
+use Rattle.elab_scopes.specs.elab_rules.Expressions.{type_of_specifiers, declared_by}
+use Rattle.elab_scopes.specs.elab_rules.Statements.{Lambdas, State, Done, Deduction, Declaring, done, variable, name_of, is_own_name, declared_more, past_declaration, may_be_skipped, block_declarator, block_declarators, block_declaration}
+use Rattle.elab_scopes.proofs.elab_expr.Several.{rest_is, rest_from, below_rest}
+use Rattle.elab_scopes.specs.elab_types.Syntax.{tree_at as syntax_at, trees_at as syntaxes_at}
 use Rattle.elab_scopes.specs.declared.state.State.{State as StateRec}
 use Rattle.elab_scopes.specs.States.{state_of, made, KeepsLabels, Grown}
 use Rattle.elab_scopes.specs.Says.{AllDone, DoesAll, behind}

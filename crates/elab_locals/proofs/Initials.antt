@@ -1,19 +1,19 @@
 -- Initialisers as they are written, and variables with them.
 use Rattle.std.proofs.Common.{◌≡◌, ◌<◌, ◌-◌, ◌++◌, ◌∷◌, ℕ, suc, Bool, true, false, List, [], length, Option, Some, None, Result, Ok, Err, refl, sym, ap, ◌∙◌, arith}
-use Rattle.cpp_lex.specs.Tokens.{Lexeme}
-use Rattle.cpp_ast.specs.declared.kinds.NodeKind.TheVariants as k
-use Rattle.cpp_ast.specs.Trees as syntax
-use Rattle.cpp_types.specs.Typ.{Typ}
-use Rattle.cpp_types.specs.declared.classes.At.{At}
-use Rattle.cpp_tree.specs.declared.faults.ElabFault.{ElabFault}
-use Rattle.cpp_tree.specs.declared.faults.IllRule.TheVariants.{Redeclared, BadDeclaration, BadInit}
-use Rattle.cpp_tree.specs.Trees.{Tree}
-use Rattle.elab_ctx.specs.Ctx.{Variable}
-use Rattle.elab_ctx.specs.Steps.{and_then, expect, check}
-use Rattle.elab_rules.specs.Braces.{is_char_array, string_token}
-use Rattle.elab_rules.specs.Types.{has_auto}
-use Rattle.elab_rules.specs.Sizes.{typ_sized}
-use Rattle.elab_rules.specs.Statements.{Lambdas, State, Done, Full, by_expression, with_initialiser, variable_tree, variable, variable_by, plain_variable, placed_variable, declared_variable, without_auto, bound_by_initialiser, only_expression, auto_variable, is_fresh, declarable, is_bounded, full_operand}
+use Rattle.elab_scopes.specs.cpp_lex.Tokens.{Lexeme}
+use Rattle.elab_scopes.specs.cpp_ast.declared.kinds.NodeKind.TheVariants as k
+use Rattle.elab_scopes.specs.cpp_ast.Trees as syntax
+use Rattle.elab_scopes.specs.cpp_types.Typ.{Typ}
+use Rattle.elab_scopes.specs.cpp_types.declared.classes.At.{At}
+use Rattle.elab_scopes.specs.cpp_tree.declared.faults.ElabFault.{ElabFault}
+use Rattle.elab_scopes.specs.cpp_tree.declared.faults.IllRule.TheVariants.{Redeclared, BadDeclaration, BadInit}
+use Rattle.elab_scopes.specs.cpp_tree.Trees.{Tree}
+use Rattle.elab_scopes.specs.elab_ctx.Ctx.{Variable}
+use Rattle.elab_scopes.specs.elab_ctx.Steps.{and_then, expect, check}
+use Rattle.elab_scopes.specs.elab_rules.Braces.{is_char_array, string_token}
+use Rattle.elab_scopes.specs.elab_rules.Types.{has_auto}
+use Rattle.elab_scopes.specs.elab_rules.Sizes.{typ_sized}
+use Rattle.elab_scopes.specs.elab_rules.Statements.{Lambdas, State, Done, Full, by_expression, with_initialiser, variable_tree, variable, variable_by, plain_variable, placed_variable, declared_variable, without_auto, bound_by_initialiser, only_expression, auto_variable, is_fresh, declarable, is_bounded, full_operand}
 use Rattle.elab_braces.specs.Forms.{form_of}
 use Rattle.elab_locals.specs.Inits.{by_expression_in, initialised_by}
 use Rattle.elab_locals.specs.Variables.{auto_from, auto_declared, auto_read, plain_made, plain_read}

@@ -1,28 +1,28 @@
 -- Nodes of variables with what was made to initialise them.
 use Rattle.std.proofs.Common.{◌≡◌, ◌<◌, ◌∷◌, ℕ, List, length, Option, Result, IfOk, refl, sym, ap, ◌∙◌, subst}
 use Rattle.std.specs.declared.alloc.AllocError.{AllocError}
-use Rattle.cpp_lex.specs.Tokens.{Lexeme}
-use Rattle.cpp_types.specs.Typ.{Typ}
-use Rattle.cpp_types.specs.declared.classes.At.{At}
-use Rattle.cpp_ast.specs.declared.arena.At.{At as SyntaxAt}
-use Rattle.cpp_ast.specs.declared.kinds.NodeKind.{NodeKind}
-use Rattle.cpp_ast.specs.Trees as syntax
-use Rattle.cpp_tree.specs.declared.faults.ElabFault.{ElabFault}
-use Rattle.cpp_tree.specs.declared.arena.TNodeId.{TNodeId}
-use Rattle.cpp_tree.specs.declared.kinds.TKind.TheVariants as forms
-use Rattle.cpp_tree.specs.Trees.{Tree, Trees, more, one}
-use Rattle.cpp_tree.specs.Arena.{tree_at, trees_at, Adds}
-use Rattle.elab_ctx.specs.declared.operand.Operand.{Operand as OperandRec}
-use Rattle.elab_ctx.specs.Ctx.{Ctx, Work, ctx_of, work_of}
-use Rattle.elab_ctx.specs.Operands.{operands_in}
-use Rattle.elab_ctx.specs.Steps.{and_then, at_of, Made, TypedAll}
-use Rattle.elab_ctx.specs.Says.{Faults, Given, MadeAt, AddsAll}
-use Rattle.elab_ctx.proofs.Looks.{grows_trans, at_grown}
-use Rattle.elab_ctx.proofs.Making.{faults_in, faults_same, last_adds}
-use Rattle.elab_rules.specs.Objects.{destroys}
-use Rattle.elab_rules.specs.Expressions.{operands_of}
-use Rattle.elab_rules.specs.Statements.{Lambdas, State, Full, done, statement, full, with_work, full_operand, all_lambdas}
-use Rattle.elab_rows.specs.Typed.{AllTyped}
+use Rattle.elab_scopes.specs.cpp_lex.Tokens.{Lexeme}
+use Rattle.elab_scopes.specs.cpp_types.Typ.{Typ}
+use Rattle.elab_scopes.specs.cpp_types.declared.classes.At.{At}
+use Rattle.elab_scopes.specs.cpp_ast.declared.arena.At.{At as SyntaxAt}
+use Rattle.elab_scopes.specs.cpp_ast.declared.kinds.NodeKind.{NodeKind}
+use Rattle.elab_scopes.specs.cpp_ast.Trees as syntax
+use Rattle.elab_scopes.specs.cpp_tree.declared.faults.ElabFault.{ElabFault}
+use Rattle.elab_scopes.specs.cpp_tree.declared.arena.TNodeId.{TNodeId}
+use Rattle.elab_scopes.specs.cpp_tree.declared.kinds.TKind.TheVariants as forms
+use Rattle.elab_scopes.specs.cpp_tree.Trees.{Tree, Trees, more, one}
+use Rattle.elab_scopes.specs.cpp_tree.Arena.{tree_at, trees_at, Adds}
+use Rattle.elab_scopes.specs.elab_ctx.declared.operand.Operand.{Operand as OperandRec}
+use Rattle.elab_scopes.specs.elab_ctx.Ctx.{Ctx, Work, ctx_of, work_of}
+use Rattle.elab_scopes.specs.elab_ctx.Operands.{operands_in}
+use Rattle.elab_scopes.specs.elab_ctx.Steps.{and_then, at_of, Made, TypedAll}
+use Rattle.elab_scopes.specs.elab_ctx.Says.{Faults, Given, MadeAt, AddsAll}
+use Rattle.elab_scopes.proofs.elab_ctx.Looks.{grows_trans, at_grown}
+use Rattle.elab_scopes.proofs.elab_ctx.Making.{faults_in, faults_same, last_adds}
+use Rattle.elab_scopes.specs.elab_rules.Objects.{destroys}
+use Rattle.elab_scopes.specs.elab_rules.Expressions.{operands_of}
+use Rattle.elab_scopes.specs.elab_rules.Statements.{Lambdas, State, Full, done, statement, full, with_work, full_operand, all_lambdas}
+use Rattle.elab_scopes.specs.elab_rows.Typed.{AllTyped}
 use Rattle.elab_scopes.specs.declared.state.State.{State as StateRec}
 use Rattle.elab_scopes.specs.States.{state_of, made, full_in}
 use Rattle.elab_scopes.specs.Says.{OneDone, Does, Changed, FullAt}

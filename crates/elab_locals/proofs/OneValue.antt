@@ -1,10 +1,10 @@
 -- The one expression of an initialiser.
 use Rattle.std.proofs.Common.{◌≡◌, ◌≢◌, ◌<◌, ◌+◌, ℕ, Option, Some, None, refl, sym, ap, ◌∙◌}
-use Rattle.cpp_ast.specs.declared.arena.At.{At as SyntaxAt}
-use Rattle.cpp_ast.specs.declared.kinds.NodeKind.{NodeKind}
-use Rattle.cpp_ast.specs.declared.kinds.NodeKind.TheVariants as k
-use Rattle.cpp_ast.specs.Trees.{Tree, node, Trees, none, more}
-use Rattle.elab_rules.specs.Statements.{only_expression}
+use Rattle.elab_scopes.specs.cpp_ast.declared.arena.At.{At as SyntaxAt}
+use Rattle.elab_scopes.specs.cpp_ast.declared.kinds.NodeKind.{NodeKind}
+use Rattle.elab_scopes.specs.cpp_ast.declared.kinds.NodeKind.TheVariants as k
+use Rattle.elab_scopes.specs.cpp_ast.Trees.{Tree, node, Trees, none, more}
+use Rattle.elab_scopes.specs.elab_rules.Statements.{only_expression}
 use Rattle.elab_locals.specs.Values.{only_value, equal_value, expression_in, value_of}
 
 equal_is : (p : SyntaxAt) (token : Option ℕ) (es : Trees) → only_expression (more (node k.EqualInitializer p token es) none) ≡ equal_value es

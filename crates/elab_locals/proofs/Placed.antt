@@ -1,27 +1,27 @@
 -- Variables of blocks, step by step: those whose type their initialiser gives, and those whose type is known.
 use Rattle.std.proofs.Common.{◌≡◌, ◌<◌, ◌-◌, ◌++◌, ◌∷◌, ℕ, suc, Bool, true, false, List, [], length, map, Option, Some, None, option_map, Result, Ok, Err, refl, sym, ap, ◌∙◌, subst}
-use Rattle.cpp_lex.specs.Tokens.{Lexeme}
-use Rattle.cpp_types.specs.Typ.{Typ, typ_of}
-use Rattle.cpp_types.specs.declared.types.Ty.{Ty}
-use Rattle.cpp_types.specs.declared.classes.At.{At}
-use Rattle.cpp_types.specs.declared.ranks.Cat.TheVariants.{Lvalue}
-use Rattle.cpp_ast.specs.Trees as syntax
-use Rattle.cpp_tree.specs.declared.faults.ElabFault.{ElabFault}
-use Rattle.cpp_tree.specs.declared.faults.ElabFault.TheVariants.{Ill}
-use Rattle.cpp_tree.specs.declared.faults.IllRule.TheVariants.{Redeclared, TypeDiffers, BadInit}
-use Rattle.cpp_tree.specs.declared.arena.TNodeId.{TNodeId}
-use Rattle.cpp_tree.specs.declared.kinds.TKind.TheVariants as forms
-use Rattle.cpp_tree.specs.Trees.{Tree, Trees, node, none, one}
-use Rattle.cpp_tree.specs.Arena.{tree_at, Grows, Adds}
-use Rattle.elab_ctx.specs.declared.operand.Operand.{Operand as OperandRec}
-use Rattle.elab_ctx.specs.Ctx.{Ctx, ctx_of, work_of, next_place, with_variable}
-use Rattle.elab_ctx.specs.Operands.{operand_in}
-use Rattle.elab_ctx.specs.Steps.{and_then, expect, check, Made}
-use Rattle.elab_ctx.specs.Says.{Faults, MadeAt}
-use Rattle.elab_ctx.proofs.Looks.{grows_trans, at_grown}
-use Rattle.elab_ctx.proofs.Making.{faults_in, faults_same}
-use Rattle.elab_rules.specs.Types.{has_auto}
-use Rattle.elab_rules.specs.Statements.{Lambdas, State, Done, Full, Deduction, done, full_operand, with_work, variable_tree, declared_variable, placed_variable, auto_placed, copy_initialised, deduced_type, replaced, same_deduction, with_auto, without_auto, is_fresh, only_expression, variable, bound_by_initialiser, init_node, next_variable}
+use Rattle.elab_scopes.specs.cpp_lex.Tokens.{Lexeme}
+use Rattle.elab_scopes.specs.cpp_types.Typ.{Typ, typ_of}
+use Rattle.elab_scopes.specs.cpp_types.declared.types.Ty.{Ty}
+use Rattle.elab_scopes.specs.cpp_types.declared.classes.At.{At}
+use Rattle.elab_scopes.specs.cpp_types.declared.ranks.Cat.TheVariants.{Lvalue}
+use Rattle.elab_scopes.specs.cpp_ast.Trees as syntax
+use Rattle.elab_scopes.specs.cpp_tree.declared.faults.ElabFault.{ElabFault}
+use Rattle.elab_scopes.specs.cpp_tree.declared.faults.ElabFault.TheVariants.{Ill}
+use Rattle.elab_scopes.specs.cpp_tree.declared.faults.IllRule.TheVariants.{Redeclared, TypeDiffers, BadInit}
+use Rattle.elab_scopes.specs.cpp_tree.declared.arena.TNodeId.{TNodeId}
+use Rattle.elab_scopes.specs.cpp_tree.declared.kinds.TKind.TheVariants as forms
+use Rattle.elab_scopes.specs.cpp_tree.Trees.{Tree, Trees, node, none, one}
+use Rattle.elab_scopes.specs.cpp_tree.Arena.{tree_at, Grows, Adds}
+use Rattle.elab_scopes.specs.elab_ctx.declared.operand.Operand.{Operand as OperandRec}
+use Rattle.elab_scopes.specs.elab_ctx.Ctx.{Ctx, ctx_of, work_of, next_place, with_variable}
+use Rattle.elab_scopes.specs.elab_ctx.Operands.{operand_in}
+use Rattle.elab_scopes.specs.elab_ctx.Steps.{and_then, expect, check, Made}
+use Rattle.elab_scopes.specs.elab_ctx.Says.{Faults, MadeAt}
+use Rattle.elab_scopes.proofs.elab_ctx.Looks.{grows_trans, at_grown}
+use Rattle.elab_scopes.proofs.elab_ctx.Making.{faults_in, faults_same}
+use Rattle.elab_scopes.specs.elab_rules.Types.{has_auto}
+use Rattle.elab_scopes.specs.elab_rules.Statements.{Lambdas, State, Done, Full, Deduction, done, full_operand, with_work, variable_tree, declared_variable, placed_variable, auto_placed, copy_initialised, deduced_type, replaced, same_deduction, with_auto, without_auto, is_fresh, only_expression, variable, bound_by_initialiser, init_node, next_variable}
 use Rattle.elab_scopes.specs.declared.state.State.{State as StateRec}
 use Rattle.elab_scopes.specs.States.{state_of, made, full_in, Grown}
 use Rattle.elab_scopes.specs.Says.{OneDone, Does, FullAt, Declared}

@@ -1,20 +1,20 @@
 -- Declarators of a declaration, step by step.
 use Rattle.std.specs.Prelude.{◌≡◌, not, ◌&&◌, ◌||◌, List, Option, None, Result, Ok, Err}
-use Rattle.cpp_types.specs.Typ.{Typ}
-use Rattle.cpp_types.specs.declared.classes.At.{At}
-use Rattle.cpp_types.specs.declared.types.Ty.{Ty}
-use Rattle.cpp_lex.specs.Tokens.{Lexeme}
-use Rattle.cpp_ast.specs.Trees as syntax
-use Rattle.cpp_tree.specs.declared.faults.ElabFault.{ElabFault}
-use Rattle.cpp_tree.specs.declared.faults.IllRule.TheVariants.{BadDeclaration}
-use Rattle.cpp_tree.specs.declared.arena.TNodeId.{TNodeId}
-use Rattle.cpp_tree.specs.Trees.{none}
-use Rattle.elab_ctx.specs.Ctx.{Ctx}
-use Rattle.elab_ctx.specs.Steps.{and_then, check}
-use Rattle.elab_ctx.specs.Says.{Faults}
-use Rattle.elab_rules.specs.Types.{Declared}
-use Rattle.elab_rules.specs.Expressions.{type_of_specifiers, declared_by}
-use Rattle.elab_rules.specs.Statements.{Lambdas, State, Done, Deduction, Declaring, done, variable, name_of, is_own_name, declared_more, is_direct_label, may_be_skipped, block_declarators}
+use Rattle.elab_scopes.specs.cpp_types.Typ.{Typ}
+use Rattle.elab_scopes.specs.cpp_types.declared.classes.At.{At}
+use Rattle.elab_scopes.specs.cpp_types.declared.types.Ty.{Ty}
+use Rattle.elab_scopes.specs.cpp_lex.Tokens.{Lexeme}
+use Rattle.elab_scopes.specs.cpp_ast.Trees as syntax
+use Rattle.elab_scopes.specs.cpp_tree.declared.faults.ElabFault.{ElabFault}
+use Rattle.elab_scopes.specs.cpp_tree.declared.faults.IllRule.TheVariants.{BadDeclaration}
+use Rattle.elab_scopes.specs.cpp_tree.declared.arena.TNodeId.{TNodeId}
+use Rattle.elab_scopes.specs.cpp_tree.Trees.{none}
+use Rattle.elab_scopes.specs.elab_ctx.Ctx.{Ctx}
+use Rattle.elab_scopes.specs.elab_ctx.Steps.{and_then, check}
+use Rattle.elab_scopes.specs.elab_ctx.Says.{Faults}
+use Rattle.elab_scopes.specs.elab_rules.Types.{Declared}
+use Rattle.elab_scopes.specs.elab_rules.Expressions.{type_of_specifiers, declared_by}
+use Rattle.elab_scopes.specs.elab_rules.Statements.{Lambdas, State, Done, Deduction, Declaring, done, variable, name_of, is_own_name, declared_more, is_direct_label, may_be_skipped, block_declarators}
 use Rattle.elab_scopes.specs.declared.state.State.{State as StateRec}
 use Rattle.elab_locals.specs.Deducing.{DeclaringAt}
 

@@ -1,14 +1,14 @@
 -- Deduced types, and variables that are declared.
 use Rattle.std.specs.Prelude.{◌≡◌, ◌<◌, true, List, length, Option, option_map, Result, Ok, Err}
-use Rattle.cpp_types.specs.Typ.{Typ, typ_of}
-use Rattle.cpp_types.specs.declared.types.Ty.{Ty}
-use Rattle.cpp_tree.specs.declared.faults.ElabFault.{ElabFault}
-use Rattle.cpp_tree.specs.declared.arena.TNodeId.{TNodeId}
-use Rattle.cpp_tree.specs.Trees.{Tree, one}
-use Rattle.cpp_tree.specs.Arena.{tree_at, trees_at, Grows}
-use Rattle.cpp_tree.specs.Typing.{unqualified}
-use Rattle.elab_ctx.specs.Says.{Faults, are_within}
-use Rattle.elab_rules.specs.Statements.{Deduction, Declaring, deduced_from}
+use Rattle.elab_scopes.specs.cpp_types.Typ.{Typ, typ_of}
+use Rattle.elab_scopes.specs.cpp_types.declared.types.Ty.{Ty}
+use Rattle.elab_scopes.specs.cpp_tree.declared.faults.ElabFault.{ElabFault}
+use Rattle.elab_scopes.specs.cpp_tree.declared.arena.TNodeId.{TNodeId}
+use Rattle.elab_scopes.specs.cpp_tree.Trees.{Tree, one}
+use Rattle.elab_scopes.specs.cpp_tree.Arena.{tree_at, trees_at, Grows}
+use Rattle.elab_scopes.specs.cpp_tree.Typing.{unqualified}
+use Rattle.elab_scopes.specs.elab_ctx.Says.{Faults, are_within}
+use Rattle.elab_scopes.specs.elab_rules.Statements.{Deduction, Declaring, deduced_from}
 use Rattle.elab_scopes.specs.declared.state.State.{State as StateRec}
 use Rattle.elab_scopes.specs.States.{state_of, made, Grown}
 

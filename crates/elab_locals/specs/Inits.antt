@@ -1,21 +1,21 @@
 -- Variables with their initialisers, by the form in which that is written.
 use Rattle.std.specs.Prelude.{ℕ, Bool, true, List, Option, Some, Result, Err}
-use Rattle.cpp_types.specs.Typ.{Typ}
-use Rattle.cpp_types.specs.declared.classes.At.{At}
-use Rattle.cpp_lex.specs.Tokens.{Lexeme}
-use Rattle.cpp_ast.specs.Trees as syntax
-use Rattle.cpp_tree.specs.declared.faults.ElabFault.{ElabFault}
-use Rattle.cpp_tree.specs.declared.faults.ElabFault.TheVariants.{Ill}
-use Rattle.cpp_tree.specs.declared.faults.IllRule.TheVariants.{OutOfProfile}
-use Rattle.cpp_tree.specs.declared.kinds.TKind.TheVariants as forms
-use Rattle.cpp_tree.specs.Trees.{Tree, more, one}
-use Rattle.elab_ctx.specs.Ctx.{Ctx}
-use Rattle.elab_ctx.specs.Steps.{and_then, Made, TypedAll, at_of, spelling}
-use Rattle.elab_rules.specs.Objects.{destroys}
-use Rattle.elab_rules.specs.Strings.{string_bytes}
-use Rattle.elab_rules.specs.Expressions.{operands_of}
-use Rattle.elab_rules.specs.Braces.{item_of, string_token, string_object, is_char_array, syntax_place}
-use Rattle.elab_rules.specs.Statements.{Lambdas, State, Done, Full, done, statement, full, full_operand, with_work, init_node, all_lambdas, default_object, copy_initialised, directly_initialised, values_place, initialised}
+use Rattle.elab_scopes.specs.cpp_types.Typ.{Typ}
+use Rattle.elab_scopes.specs.cpp_types.declared.classes.At.{At}
+use Rattle.elab_scopes.specs.cpp_lex.Tokens.{Lexeme}
+use Rattle.elab_scopes.specs.cpp_ast.Trees as syntax
+use Rattle.elab_scopes.specs.cpp_tree.declared.faults.ElabFault.{ElabFault}
+use Rattle.elab_scopes.specs.cpp_tree.declared.faults.ElabFault.TheVariants.{Ill}
+use Rattle.elab_scopes.specs.cpp_tree.declared.faults.IllRule.TheVariants.{OutOfProfile}
+use Rattle.elab_scopes.specs.cpp_tree.declared.kinds.TKind.TheVariants as forms
+use Rattle.elab_scopes.specs.cpp_tree.Trees.{Tree, more, one}
+use Rattle.elab_scopes.specs.elab_ctx.Ctx.{Ctx}
+use Rattle.elab_scopes.specs.elab_ctx.Steps.{and_then, Made, TypedAll, at_of, spelling}
+use Rattle.elab_scopes.specs.elab_rules.Objects.{destroys}
+use Rattle.elab_scopes.specs.elab_rules.Strings.{string_bytes}
+use Rattle.elab_scopes.specs.elab_rules.Expressions.{operands_of}
+use Rattle.elab_scopes.specs.elab_rules.Braces.{item_of, string_token, string_object, is_char_array, syntax_place}
+use Rattle.elab_scopes.specs.elab_rules.Statements.{Lambdas, State, Done, Full, done, statement, full, full_operand, with_work, init_node, all_lambdas, default_object, copy_initialised, directly_initialised, values_place, initialised}
 use Rattle.elab_braces.specs.Forms.{Form, nothing, values, braces, expression, other}
 
 abbrev pub init_in : Ctx → Typ → At → At → Tree → Tree → Tree

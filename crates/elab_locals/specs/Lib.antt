@@ -1,3 +1,15 @@
+pub use Rattle.elab_scopes.specs.cpp_ast as cpp_ast
+pub use Rattle.elab_scopes.specs.cpp_layout as cpp_layout
+pub use Rattle.elab_scopes.specs.cpp_lex as cpp_lex
+pub use Rattle.elab_scopes.specs.cpp_names as cpp_names
+pub use Rattle.elab_scopes.specs.cpp_tree as cpp_tree
+pub use Rattle.elab_scopes.specs.cpp_types as cpp_types
+pub use Rattle.elab_scopes.specs.elab_ctx as elab_ctx
+pub use Rattle.elab_scopes.specs.elab_rows as elab_rows
+pub use Rattle.elab_scopes.specs.elab_rules as elab_rules
+pub use Rattle.elab_scopes.specs as elab_scopes
+pub use Rattle.elab_scopes.specs.elab_types as elab_types
+pub use Rattle.elab_scopes.specs.tx_ints as tx_ints
 pub mod Declarators
 pub mod Deducing
 pub mod Inits

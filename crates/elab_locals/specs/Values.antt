@@ -1,7 +1,7 @@
 -- The one expression of an initialiser, step by step.
 use Rattle.std.specs.Prelude.{Option, Some, None}
-use Rattle.cpp_ast.specs.declared.kinds.NodeKind.TheVariants as k
-use Rattle.cpp_ast.specs.Trees.{Tree, node, Trees, none, more}
+use Rattle.elab_scopes.specs.cpp_ast.declared.kinds.NodeKind.TheVariants as k
+use Rattle.elab_scopes.specs.cpp_ast.Trees.{Tree, node, Trees, none, more}
 
 -- what stands alone
 abbrev pub only_value : Trees → Option Tree

@@ -1,15 +1,15 @@
 -- Variables of blocks, step by step.
 use Rattle.std.specs.Prelude.{ℕ, ◌-◌, ◌&&◌, List, length, Option, None, Result}
-use Rattle.cpp_types.specs.Typ.{Typ}
-use Rattle.cpp_types.specs.declared.classes.At.{At}
-use Rattle.cpp_lex.specs.Tokens.{Lexeme}
-use Rattle.cpp_ast.specs.Trees as syntax
-use Rattle.cpp_tree.specs.declared.faults.ElabFault.{ElabFault}
-use Rattle.cpp_tree.specs.declared.faults.IllRule.TheVariants.{Redeclared, TypeDiffers, BadInit, BadDeclaration}
-use Rattle.cpp_tree.specs.Trees.{Tree, one}
-use Rattle.elab_ctx.specs.Steps.{and_then, expect, check, Made}
-use Rattle.elab_rules.specs.Sizes.{typ_sized}
-use Rattle.elab_rules.specs.Statements.{Lambdas, State, Done, Full, Deduction, done, full_operand, with_work, init_node, variable_tree, declared_variable, placed_variable, auto_placed, copy_initialised, deduced_type, replaced, same_deduction, with_auto, is_fresh, declarable, is_bounded, only_expression}
+use Rattle.elab_scopes.specs.cpp_types.Typ.{Typ}
+use Rattle.elab_scopes.specs.cpp_types.declared.classes.At.{At}
+use Rattle.elab_scopes.specs.cpp_lex.Tokens.{Lexeme}
+use Rattle.elab_scopes.specs.cpp_ast.Trees as syntax
+use Rattle.elab_scopes.specs.cpp_tree.declared.faults.ElabFault.{ElabFault}
+use Rattle.elab_scopes.specs.cpp_tree.declared.faults.IllRule.TheVariants.{Redeclared, TypeDiffers, BadInit, BadDeclaration}
+use Rattle.elab_scopes.specs.cpp_tree.Trees.{Tree, one}
+use Rattle.elab_scopes.specs.elab_ctx.Steps.{and_then, expect, check, Made}
+use Rattle.elab_scopes.specs.elab_rules.Sizes.{typ_sized}
+use Rattle.elab_scopes.specs.elab_rules.Statements.{Lambdas, State, Done, Full, Deduction, done, full_operand, with_work, init_node, variable_tree, declared_variable, placed_variable, auto_placed, copy_initialised, deduced_type, replaced, same_deduction, with_auto, is_fresh, declarable, is_bounded, only_expression}
 use Rattle.elab_braces.specs.Forms.{form_of}
 use Rattle.elab_locals.specs.Inits.{initialised_by}
 

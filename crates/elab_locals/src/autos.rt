@@ -1,33 +1,29 @@
 // Variables whose type their initialiser gives (C++14 7.1.6.4).
 
 ghost use Rattle.std.specs.Prelude.{◌≡◌, ◌<◌, ◌+◌, Some, MatchOption, length, true, slice_set, option_map, IfOk};
-ghost use Rattle.cpp_lex.specs.Tokens.{lexemes_of};
-ghost use Rattle.cpp_ast.specs.Orders.{are_below};
-ghost use Rattle.cpp_types.specs.Typ.{typ_of};
-ghost use Rattle.elab_ctx.specs.Ctx.{ctx_of, work_of, next_place};
-ghost use Rattle.elab_rules.specs.Statements.{same_deduction as same_deduction_of, replaced as replaced_of};
-ghost use Rattle.elab_types.specs.Syntax.{syntax_of, tree_at, trees_at};
+ghost use Rattle.elab_scopes.specs.cpp_lex.Tokens.{lexemes_of};
+ghost use Rattle.elab_scopes.specs.cpp_ast.Orders.{are_below};
+ghost use Rattle.elab_scopes.specs.cpp_types.Typ.{typ_of};
+ghost use Rattle.elab_scopes.specs.elab_ctx.Ctx.{ctx_of, work_of, next_place};
+ghost use Rattle.elab_scopes.specs.elab_rules.Statements.{same_deduction as same_deduction_of, replaced as replaced_of};
+ghost use Rattle.elab_scopes.specs.elab_types.Syntax.{syntax_of, tree_at, trees_at};
 ghost use Rattle.elab_scopes.specs.States.{state_of, made, full_in};
 ghost use Rattle.elab_scopes.specs.Says.{OneDone, Does};
-ghost use Rattle.cpp_tree.specs.Arena.{tree_at as tree_in};
+ghost use Rattle.elab_scopes.specs.cpp_tree.Arena.{tree_at as tree_in};
 ghost use Rattle.elab_locals.specs.Variables.{auto_node, auto_of_type as auto_of_type_of, auto_from as auto_from_of, auto_read, auto_declared as auto_declared_of};
 ghost use Rattle.elab_locals.specs.Deducing.{Variables};
 ghost use Rattle.elab_locals.specs.Values.{only_value as only_value_of, plain_value as plain_value_of, equal_value as equal_value_of, expression_in as expression_in_of, value_of as value_of_of};
 
 use crate::deduction::{deduced_type, replaced};
 use crate::inits::{init_node, local};
-use cpp_ast::{NodeId, NodeKind, Nodes};
-use cpp_lex::Tokens;
-use cpp_tree::{ElabFault, IllRule, TNodeId};
-use cpp_types::{At, Ty, copy, equal_types};
 use elab_braces::copy_initialised;
-use elab_ctx::{Env, Operand, Variable, Work, add_item};
+use elab_scopes::below::{
+    At, ElabFault, Env, IllRule, Kids, NodeId, NodeKind, Nodes, Operand, TNodeId, Tokens, Ty,
+    Variable, Work, add_item, copy, elab_types_node_at as node_at, equal_types, ill, kids_of,
+};
 use elab_scopes::full::full_operand;
 use elab_scopes::scopes::declare;
 use elab_scopes::{MakeLambdas, State};
-use elab_types::kids::{Kids, kids_of};
-use elab_types::specifiers::ill;
-use elab_types::syntax::node_at;
 use std::alloc::{AllocError, Global};
 
 // Whether a type is the one that was deduced before, if one was.

@@ -1,33 +1,28 @@
 // Declarations of blocks (C++14 clause 7, 6.7).
 
 ghost use Rattle.std.specs.Prelude.{◌≡◌, ◌<◌, List, length, true, Some, None, IfOk, OnOk};
-ghost use Rattle.cpp_lex.specs.Tokens.{lexemes_of};
-ghost use Rattle.cpp_ast.specs.Trees.{Tree, none};
-ghost use Rattle.cpp_ast.specs.Orders.{are_below};
-ghost use Rattle.cpp_types.specs.Typ.{typ_of};
-ghost use Rattle.elab_ctx.specs.Ctx.{ctx_of, special_of};
-ghost use Rattle.elab_ctx.specs.Says.{are_within};
-ghost use Rattle.elab_rules.specs.Statements.{is_trivial as is_trivial_of, is_direct_label as is_direct_label_of, class_is_skipped as class_is_skipped_of, may_be_skipped as may_be_skipped_of, is_own_name as is_own_name_of, name_of as name_of_of, block_declarator as block_declarator_of, block_declarators as block_declarators_of, block_declaration as block_declaration_of};
-ghost use Rattle.elab_types.specs.Shown.{declared_of};
-ghost use Rattle.elab_types.specs.Syntax.{syntax_of, tree_at, trees_at};
+ghost use Rattle.elab_scopes.specs.cpp_lex.Tokens.{lexemes_of};
+ghost use Rattle.elab_scopes.specs.cpp_ast.Trees.{Tree, none};
+ghost use Rattle.elab_scopes.specs.cpp_ast.Orders.{are_below};
+ghost use Rattle.elab_scopes.specs.cpp_types.Typ.{typ_of};
+ghost use Rattle.elab_scopes.specs.elab_ctx.Ctx.{ctx_of, special_of};
+ghost use Rattle.elab_scopes.specs.elab_ctx.Says.{are_within};
+ghost use Rattle.elab_scopes.specs.elab_rules.Statements.{is_trivial as is_trivial_of, is_direct_label as is_direct_label_of, class_is_skipped as class_is_skipped_of, may_be_skipped as may_be_skipped_of, is_own_name as is_own_name_of, name_of as name_of_of, block_declarator as block_declarator_of, block_declarators as block_declarators_of, block_declaration as block_declaration_of};
+ghost use Rattle.elab_scopes.specs.elab_types.Shown.{declared_of};
+ghost use Rattle.elab_scopes.specs.elab_types.Syntax.{syntax_of, tree_at, trees_at};
 ghost use Rattle.elab_scopes.specs.States.{state_of, made};
 ghost use Rattle.elab_scopes.specs.Says.{DoesAll};
 ghost use Rattle.elab_locals.specs.Deducing.{declaring_of, Declares};
 ghost use Rattle.elab_locals.specs.Declarators.{declared_from as declared_from_of, init_declarator as init_declarator_of, past_ctx, specified_by, DeclaresAll};
 
 use crate::variables::variable;
-use cpp_ast::{NodeId, NodeKind, Nodes};
-use cpp_lex::Tokens;
-use cpp_tree::{ElabFault, IllRule, TNodeId};
-use cpp_types::{At, Ty};
-use elab_ctx::{Env, Label, Special, traits_of_class};
-use elab_init::{class_number, element_type, keep, keep_all};
+use elab_scopes::below::{
+    At, Declared, ElabFault, Env, IllRule, Label, NodeId, NodeKind, Nodes, Special, TNodeId,
+    Tokens, Ty, class_number, elab_types_node_at as node_at, element_type, first_kid, ill, keep,
+    keep_all, place, spelling, traits_of_class,
+};
 use elab_scopes::reading::{declared_by, specified as specified_type};
 use elab_scopes::{MakeLambdas, State};
-use elab_types::Declared;
-use elab_types::kids::first_kid;
-use elab_types::specifiers::ill;
-use elab_types::syntax::{node_at, place, spelling};
 use std::alloc::{AllocError, Global};
 
 fn is_trivial(special: Special) -> bool

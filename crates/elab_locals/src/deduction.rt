@@ -1,23 +1,20 @@
 // What stands for `auto` (C++14 7.1.6.4).
 
 ghost use Rattle.std.specs.Prelude.{◌≡◌, ◌<◌, length, IfOk, option_map};
-ghost use Rattle.cpp_types.specs.Typ.{typ_of};
-ghost use Rattle.cpp_tree.specs.Arena.{trees_of};
-ghost use Rattle.cpp_tree.specs.Trees.{typ_in};
-ghost use Rattle.cpp_tree.specs.Typing.{form_in};
-ghost use Rattle.elab_ctx.specs.Steps.{Operand as OperandOf};
-ghost use Rattle.elab_ctx.specs.Operands.{operand_in};
-ghost use Rattle.elab_rules.specs.Statements.{with_cv as with_cv_of, less_qualified as less_qualified_of, deduced_from as deduced_from_of, replaced as replaced_of, auto_of as auto_of_of, deduced_type as deduced_type_of, is_null_type as is_null_type_of};
-ghost use Rattle.elab_rules.specs.Operators.{value as value_of};
+ghost use Rattle.elab_scopes.specs.cpp_types.Typ.{typ_of};
+ghost use Rattle.elab_scopes.specs.cpp_tree.Arena.{trees_of};
+ghost use Rattle.elab_scopes.specs.cpp_tree.Trees.{typ_in};
+ghost use Rattle.elab_scopes.specs.cpp_tree.Typing.{form_in};
+ghost use Rattle.elab_scopes.specs.elab_ctx.Steps.{Operand as OperandOf};
+ghost use Rattle.elab_scopes.specs.elab_ctx.Operands.{operand_in};
+ghost use Rattle.elab_scopes.specs.elab_rules.Statements.{with_cv as with_cv_of, less_qualified as less_qualified_of, deduced_from as deduced_from_of, replaced as replaced_of, auto_of as auto_of_of, deduced_type as deduced_type_of, is_null_type as is_null_type_of};
+ghost use Rattle.elab_scopes.specs.elab_rules.Operators.{value as value_of};
 ghost use Rattle.elab_locals.specs.Deducing.{auto_in_value as auto_in_value_of, Deduces};
 
-use cpp_tree::{ElabFault, IllRule, TNode};
-use cpp_types::{At, Shape, Ty, copy};
-use elab_conv::types::unqualified_type;
-use elab_ctx::{Operand, node_at};
-use elab_ops::operands::value;
-use elab_types::specifiers::ill;
-use elab_types::types::is_void_type;
+use elab_scopes::below::{
+    At, ElabFault, IllRule, Operand, Shape, TNode, Ty, copy, ill, is_void_type, node_at,
+    unqualified_type, value,
+};
 use std::alloc::{AllocError, Global};
 
 // A type with further qualifiers.

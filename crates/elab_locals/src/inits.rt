@@ -1,19 +1,17 @@
 // Nodes of variables and their initialisers (C++14 8.5).
 
 ghost use Rattle.std.specs.Prelude.{◌≡◌, ◌<◌, ◌∷◌, length, IfOk};
-ghost use Rattle.cpp_types.specs.Typ.{typ_of};
-ghost use Rattle.cpp_types.specs.declared.ranks.Cat.TheVariants.{Lvalue};
-ghost use Rattle.cpp_tree.specs.declared.kinds.TKind.TheVariants.{Local};
-ghost use Rattle.cpp_tree.specs.Trees.{node, none};
-ghost use Rattle.cpp_tree.specs.Arena.{trees_of, tree_at, Adds};
-ghost use Rattle.elab_ctx.specs.Ctx.{ctx_of};
+ghost use Rattle.elab_scopes.specs.cpp_types.Typ.{typ_of};
+ghost use Rattle.elab_scopes.specs.cpp_types.declared.ranks.Cat.TheVariants.{Lvalue};
+ghost use Rattle.elab_scopes.specs.cpp_tree.declared.kinds.TKind.TheVariants.{Local};
+ghost use Rattle.elab_scopes.specs.cpp_tree.Trees.{node, none};
+ghost use Rattle.elab_scopes.specs.cpp_tree.Arena.{trees_of, tree_at, Adds};
+ghost use Rattle.elab_scopes.specs.elab_ctx.Ctx.{ctx_of};
 ghost use Rattle.elab_locals.specs.Inits.{init_in as init_in_of};
 
-use cpp_tree::{TKind, TNode, TNodeId, add_leaf};
-use cpp_types::{At, Cat, Ty, copy};
-use elab_ctx::Env;
-use elab_init::{keep, keep_all};
-use elab_make::destroys;
+use elab_scopes::below::{
+    At, Cat, Env, TKind, TNode, TNodeId, Ty, add_leaf, copy, destroys, keep, keep_all,
+};
 use elab_scopes::full::full;
 use elab_scopes::nodes::statement;
 use std::alloc::{AllocError, Global};

@@ -2,6 +2,7 @@
 #![tactic(auto)]
 
 pub mod autos;
+pub mod below;
 pub mod declarations;
 pub mod deduction;
 pub mod inits;

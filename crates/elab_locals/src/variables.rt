@@ -1,14 +1,14 @@
 // Variables of blocks (C++14 3.3.3, 6.7).
 
 ghost use Rattle.std.specs.Prelude.{◌≡◌, ◌<◌, length, true, option_map};
-ghost use Rattle.cpp_lex.specs.Tokens.{lexemes_of};
-ghost use Rattle.cpp_ast.specs.Orders.{are_below};
-ghost use Rattle.cpp_types.specs.Typ.{typ_of};
-ghost use Rattle.cpp_tree.specs.Arena.{tree_at as tree_in};
-ghost use Rattle.elab_ctx.specs.Ctx.{ctx_of};
-ghost use Rattle.elab_ctx.specs.Says.{Tells};
-ghost use Rattle.elab_rules.specs.Statements.{declarable as declarable_of, is_bounded as is_bounded_of, variable as variable_of};
-ghost use Rattle.elab_types.specs.Syntax.{syntax_of, trees_at};
+ghost use Rattle.elab_scopes.specs.cpp_lex.Tokens.{lexemes_of};
+ghost use Rattle.elab_scopes.specs.cpp_ast.Orders.{are_below};
+ghost use Rattle.elab_scopes.specs.cpp_types.Typ.{typ_of};
+ghost use Rattle.elab_scopes.specs.cpp_tree.Arena.{tree_at as tree_in};
+ghost use Rattle.elab_scopes.specs.elab_ctx.Ctx.{ctx_of};
+ghost use Rattle.elab_scopes.specs.elab_ctx.Says.{Tells};
+ghost use Rattle.elab_scopes.specs.elab_rules.Statements.{declarable as declarable_of, is_bounded as is_bounded_of, variable as variable_of};
+ghost use Rattle.elab_scopes.specs.elab_types.Syntax.{syntax_of, trees_at};
 ghost use Rattle.elab_scopes.specs.States.{state_of, made};
 ghost use Rattle.elab_scopes.specs.Says.{Does};
 ghost use Rattle.elab_locals.specs.Variables.{plain_made as plain_made_of, plain_read};
@@ -17,17 +17,14 @@ ghost use Rattle.elab_locals.specs.Deducing.{Variables};
 use crate::autos::auto_variable;
 use crate::inits::local;
 use crate::written::initialised;
-use cpp_ast::{NodeId, Nodes};
-use cpp_lex::Tokens;
-use cpp_tree::{ElabFault, IllRule, TNodeId};
-use cpp_types::{At, Shape, Ty};
 use elab_braces::bound_by_initialiser;
-use elab_ctx::Env;
+use elab_scopes::below::{
+    At, ElabFault, Env, IllRule, NodeId, Nodes, Shape, TNodeId, Tokens, Ty, has_auto, ill,
+    is_complete_type,
+};
 use elab_scopes::handlers::place_variable;
 use elab_scopes::{MakeLambdas, State};
 use elab_sizes::typ_sized;
-use elab_types::specifiers::ill;
-use elab_types::types::{has_auto, is_complete_type};
 use std::alloc::Global;
 
 // Tests that an object of a type may be declared.

@@ -1,35 +1,32 @@
 // Variables with the initialisers that are written (C++14 8.5).
 
 ghost use Rattle.std.specs.Prelude.{◌≡◌, ◌<◌, length, true};
-ghost use Rattle.cpp_lex.specs.Tokens.{lexemes_of};
-ghost use Rattle.cpp_ast.specs.Orders.{are_below};
-ghost use Rattle.cpp_types.specs.Typ.{typ_of};
-ghost use Rattle.cpp_tree.specs.Arena.{tree_at as tree_in};
-ghost use Rattle.elab_ctx.specs.Ctx.{work_of};
-ghost use Rattle.elab_ctx.specs.Operands.{operands_in, are_in};
-ghost use Rattle.elab_rules.specs.Braces.{is_char_array as is_char_array_of, string_token as string_token_of};
-ghost use Rattle.elab_types.specs.Syntax.{syntax_of, tree_at, trees_at};
+ghost use Rattle.elab_scopes.specs.cpp_lex.Tokens.{lexemes_of};
+ghost use Rattle.elab_scopes.specs.cpp_ast.Orders.{are_below};
+ghost use Rattle.elab_scopes.specs.cpp_types.Typ.{typ_of};
+ghost use Rattle.elab_scopes.specs.cpp_tree.Arena.{tree_at as tree_in};
+ghost use Rattle.elab_scopes.specs.elab_ctx.Ctx.{work_of};
+ghost use Rattle.elab_scopes.specs.elab_ctx.Operands.{operands_in, are_in};
+ghost use Rattle.elab_scopes.specs.elab_rules.Braces.{is_char_array as is_char_array_of, string_token as string_token_of};
+ghost use Rattle.elab_scopes.specs.elab_types.Syntax.{syntax_of, tree_at, trees_at};
 ghost use Rattle.elab_scopes.specs.States.{state_of, made, full_in};
 ghost use Rattle.elab_scopes.specs.Says.{Does};
 ghost use Rattle.elab_braces.specs.Forms.{form_of, shown_in, IsLower};
 ghost use Rattle.elab_locals.specs.Inits.{nothing_made as nothing_made_of, expression_made as expression_made_of, by_value_in, by_string_in, by_expression_in, values_made as values_made_of, kids_read, by_values_in, braces_made as braces_made_of, by_braces_in, initialised_by};
 
 use crate::inits::init_node;
-use cpp_ast::{NodeId, Nodes};
-use cpp_lex::Tokens;
-use cpp_tree::{ElabFault, IllRule, TNodeId};
-use cpp_types::{At, Ty};
 use elab_aggregates::{is_char_array, string_token};
 use elab_braces::{
     Written, copy_initialised, default_object, directly_initialised, item, read_initialiser,
     string_initialiser, values_place,
 };
-use elab_ctx::Operand;
+use elab_scopes::below::{
+    At, ElabFault, IllRule, NodeId, Nodes, Operand, TNodeId, Tokens, Ty,
+    elab_types_node_at as node_at, ill, place,
+};
 use elab_scopes::full::{all_lambdas, full_operand};
 use elab_scopes::reading::values;
 use elab_scopes::{MakeLambdas, State};
-use elab_types::specifiers::ill;
-use elab_types::syntax::{node_at, place};
 use std::alloc::Global;
 
 // Without an initialiser.

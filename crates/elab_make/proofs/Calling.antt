@@ -1,17 +1,17 @@
 -- Words of calls, and the values of constructors.
 use Rattle.std.proofs.Common.{◌≡◌, ◌≢◌, ◌≤◌, ℕ, zero, suc, true, List, [], ◌∷◌, length, Option, Some, Ok, Err, Result, slice_get, get_or, refl, sym, subst, arith, Vec, Global}
-use Rattle.cpp_types.specs.declared.types.Ty.{Ty}
-use Rattle.cpp_types.specs.Typ.{Typ, typ_of, typs_of}
-use Rattle.cpp_tree.specs.declared.faults.ElabFault.{ElabFault}
-use Rattle.cpp_tree.specs.declared.faults.ElabFault.TheVariants.{Ill}
-use Rattle.cpp_tree.specs.declared.faults.IllRule.TheVariants.{OutOfProfile}
-use Rattle.cpp_tree.specs.declared.arena.TNodeId.{TNodeId}
-use Rattle.cpp_tree.specs.Trees.{Tree, one}
-use Rattle.cpp_tree.specs.Typing.{is_class_typ, unqualified}
-use Rattle.elab_ctx.specs.Ctx.{Ctx, Work}
-use Rattle.elab_ctx.specs.Steps.{and_then, Operand, Made, MadeAll}
-use Rattle.elab_ctx.specs.Says.{Faults, Makes, MakesAll}
-use Rattle.elab_rules.specs.Initialising.{initial, reference_word, passed}
+use Rattle.elab_init.specs.cpp_types.declared.types.Ty.{Ty}
+use Rattle.elab_init.specs.cpp_types.Typ.{Typ, typ_of, typs_of}
+use Rattle.elab_init.specs.cpp_tree.declared.faults.ElabFault.{ElabFault}
+use Rattle.elab_init.specs.cpp_tree.declared.faults.ElabFault.TheVariants.{Ill}
+use Rattle.elab_init.specs.cpp_tree.declared.faults.IllRule.TheVariants.{OutOfProfile}
+use Rattle.elab_init.specs.cpp_tree.declared.arena.TNodeId.{TNodeId}
+use Rattle.elab_init.specs.cpp_tree.Trees.{Tree, one}
+use Rattle.elab_init.specs.cpp_tree.Typing.{is_class_typ, unqualified}
+use Rattle.elab_init.specs.elab_ctx.Ctx.{Ctx, Work}
+use Rattle.elab_init.specs.elab_ctx.Steps.{and_then, Operand, Made, MadeAll}
+use Rattle.elab_init.specs.elab_ctx.Says.{Faults, Makes, MakesAll}
+use Rattle.elab_init.specs.elab_rules.Initialising.{initial, reference_word, passed}
 use Rattle.elab_make.specs.Passing.{passed_object}
 
 other_count : (c : Ctx) (w : Work) (ps : List Ty) (o : Operand) → length ps ≢ 1 → reference_word c w (typs_of ps) o ≡ Err (Ill o.at OutOfProfile)

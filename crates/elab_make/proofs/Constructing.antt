@@ -1,20 +1,20 @@
 -- Objects of classes from one value or more.
 use Rattle.std.proofs.Common.{◌≡◌, ℕ, false, List, [], ◌∷◌, drop, Ok, Result, Option, refl, sym, ◌∙◌, ap, subst, if◌then◌else◌}
-use Rattle.cpp_types.specs.Typ.{Typ}
-use Rattle.cpp_types.specs.declared.classes.At.{At}
-use Rattle.cpp_overload.specs.Overload.{Candidate}
-use Rattle.cpp_overload.specs.Choosing.{chosen}
-use Rattle.cpp_tree.specs.declared.faults.ElabFault.{ElabFault}
-use Rattle.cpp_tree.specs.declared.arena.TNodeId.{TNodeId}
-use Rattle.cpp_tree.specs.Trees.{Tree}
-use Rattle.cpp_tree.specs.Arena.{tree_at}
-use Rattle.elab_ctx.specs.Ctx.{Ctx, Work}
-use Rattle.elab_ctx.specs.Steps.{and_then, Operand, Made}
-use Rattle.elab_ctx.specs.Operands.{operands_in}
-use Rattle.elab_ctx.specs.declared.operand.Operand.{Operand as OperandRec}
-use Rattle.elab_ctx.specs.Says.{Faults, Makes}
-use Rattle.elab_ctx.proofs.Making.{faults_in, faults_same}
-use Rattle.elab_rules.specs.Initialising.{makeable, makers, meant, arguments, building, is_prvalue_itself, constructor_at, constructed_by, constructed}
+use Rattle.elab_init.specs.cpp_types.Typ.{Typ}
+use Rattle.elab_init.specs.cpp_types.declared.classes.At.{At}
+use Rattle.elab_init.specs.cpp_overload.Overload.{Candidate}
+use Rattle.elab_init.specs.cpp_overload.Choosing.{chosen}
+use Rattle.elab_init.specs.cpp_tree.declared.faults.ElabFault.{ElabFault}
+use Rattle.elab_init.specs.cpp_tree.declared.arena.TNodeId.{TNodeId}
+use Rattle.elab_init.specs.cpp_tree.Trees.{Tree}
+use Rattle.elab_init.specs.cpp_tree.Arena.{tree_at}
+use Rattle.elab_init.specs.elab_ctx.Ctx.{Ctx, Work}
+use Rattle.elab_init.specs.elab_ctx.Steps.{and_then, Operand, Made}
+use Rattle.elab_init.specs.elab_ctx.Operands.{operands_in}
+use Rattle.elab_init.specs.elab_ctx.declared.operand.Operand.{Operand as OperandRec}
+use Rattle.elab_init.specs.elab_ctx.Says.{Faults, Makes}
+use Rattle.elab_init.proofs.elab_ctx.Making.{faults_in, faults_same}
+use Rattle.elab_init.specs.elab_rules.Initialising.{makeable, makers, meant, arguments, building, is_prvalue_itself, constructor_at, constructed_by, constructed}
 
 -- what is made where no value is the object itself
 abbrev chosen_maker : Ctx → Work → ℕ → Typ → At → List Operand → Result Made ElabFault

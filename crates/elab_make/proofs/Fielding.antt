@@ -1,15 +1,15 @@
 -- The scalars of objects, one behind the other.
 use Rattle.std.proofs.Common.{◌≡◌, ℕ, suc, ◌+◌, ◌<◌, ◌≤◌, List, ◌++◌, length, drop, map, refl, sym, ◌∙◌, ap, get_or, subst, Result, IfOk, Vec, Global}
 use Rattle.std.specs.declared.alloc.AllocError.{AllocError}
-use Rattle.cpp_types.specs.Typ.{Typ, typ, array, typ_of}
-use Rattle.cpp_layout.specs.Layout.{extent_of}
-use Rattle.cpp_types.specs.Class.{Class}
-use Rattle.cpp_types.specs.declared.classes.At.{At}
-use Rattle.cpp_tree.specs.declared.arena.TNodeId.{TNodeId}
-use Rattle.cpp_tree.specs.Trees.{Tree, Trees}
-use Rattle.elab_ctx.specs.Says.{AddsAll}
-use Rattle.cpp_tree.specs.Typing.{form_in}
-use Rattle.elab_rules.specs.Objects.{Part, followed_by, class_fields, parts_of}
+use Rattle.elab_init.specs.cpp_types.Typ.{Typ, typ, array, typ_of}
+use Rattle.elab_init.specs.cpp_layout.Layout.{extent_of}
+use Rattle.elab_init.specs.cpp_types.Class.{Class}
+use Rattle.elab_init.specs.cpp_types.declared.classes.At.{At}
+use Rattle.elab_init.specs.cpp_tree.declared.arena.TNodeId.{TNodeId}
+use Rattle.elab_init.specs.cpp_tree.Trees.{Tree, Trees}
+use Rattle.elab_init.specs.elab_ctx.Says.{AddsAll}
+use Rattle.elab_init.specs.cpp_tree.Typing.{form_in}
+use Rattle.elab_init.specs.elab_rules.Objects.{Part, followed_by, class_fields, parts_of}
 use Rattle.elab_init.specs.Parts.{part_of}
 use Rattle.elab_init.specs.declared.parts.ObjectPart.{ObjectPart}
 use Rattle.elab_init.proofs.Listing.{Adding, adding_all, adding_done, drop_step, drop_past}

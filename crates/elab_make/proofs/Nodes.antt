@@ -1,14 +1,14 @@
 -- Nodes of parts that are equal.
 use Rattle.std.proofs.Common.{◌≡◌, ℕ, refl}
-use Rattle.cpp_types.specs.Typ.{Typ}
-use Rattle.cpp_types.specs.declared.classes.At.{At}
-use Rattle.cpp_types.specs.declared.ranks.Cat.{Cat}
-use Rattle.cpp_types.specs.declared.ranks.Cat.TheVariants.{Prvalue}
-use Rattle.cpp_tree.specs.declared.kinds.TKind.{TKind}
-use Rattle.cpp_tree.specs.declared.kinds.TKind.TheVariants.{Elements}
-use Rattle.cpp_tree.specs.Trees.{node, Trees, none, more}
-use Rattle.elab_ctx.specs.Ctx.{Ctx}
-use Rattle.elab_rules.specs.Objects.{count_in, size_of, element_of, destroys}
+use Rattle.elab_init.specs.cpp_types.Typ.{Typ}
+use Rattle.elab_init.specs.cpp_types.declared.classes.At.{At}
+use Rattle.elab_init.specs.cpp_types.declared.ranks.Cat.{Cat}
+use Rattle.elab_init.specs.cpp_types.declared.ranks.Cat.TheVariants.{Prvalue}
+use Rattle.elab_init.specs.cpp_tree.declared.kinds.TKind.{TKind}
+use Rattle.elab_init.specs.cpp_tree.declared.kinds.TKind.TheVariants.{Elements}
+use Rattle.elab_init.specs.cpp_tree.Trees.{node, Trees, none, more}
+use Rattle.elab_init.specs.elab_ctx.Ctx.{Ctx}
+use Rattle.elab_init.specs.elab_rules.Objects.{count_in, size_of, element_of, destroys}
 
 pub node_same : (k : TKind) (t u : Typ) (cat : Cat) (at : At) (a b : Trees) → t ≡ u → a ≡ b → node k t cat at a ≡ node k u cat at b
 node_same k t u cat at a b e f = rw (e, f) refl

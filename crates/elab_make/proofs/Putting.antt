@@ -1,20 +1,20 @@
 -- Trees with which something is made, in several steps.
 use Rattle.std.proofs.Common.{◌≡◌, ℕ, ◌+◌, ◌<◌, ◌≤◌, List, [], ◌∷◌, ◌++◌, length, drop, map, refl, ◌∙◌, ap, subst, get_or, Result, Ok, Err, IfOk}
 use Rattle.std.specs.declared.alloc.AllocError.{AllocError}
-use Rattle.cpp_types.specs.Typ.{Typ, typ_of}
-use Rattle.cpp_types.specs.declared.classes.At.{At}
-use Rattle.cpp_types.specs.declared.ranks.Cat.TheVariants.{Prvalue}
-use Rattle.cpp_tree.specs.declared.kinds.TKind.TheVariants.{Piece}
-use Rattle.cpp_tree.specs.declared.arena.TNodeId.{TNodeId}
-use Rattle.cpp_tree.specs.Trees.{Tree, node, Trees, more}
-use Rattle.cpp_tree.specs.Arena.{tree_at, trees_at, Grows, Adds}
-use Rattle.elab_ctx.specs.Ctx.{Ctx, Work}
-use Rattle.elab_ctx.specs.Steps.{Made}
-use Rattle.elab_ctx.specs.Says.{AddsAll, Puts}
-use Rattle.elab_ctx.proofs.Looks.{grows_trans, at_grown}
-use Rattle.elab_rules.specs.Objects.{Part, backwards, destroys}
-use Rattle.elab_rules.specs.Values.{temporary}
-use Rattle.elab_rules.specs.Initialising.{with_tree, closure_part, closure_pieces}
+use Rattle.elab_init.specs.cpp_types.Typ.{Typ, typ_of}
+use Rattle.elab_init.specs.cpp_types.declared.classes.At.{At}
+use Rattle.elab_init.specs.cpp_types.declared.ranks.Cat.TheVariants.{Prvalue}
+use Rattle.elab_init.specs.cpp_tree.declared.kinds.TKind.TheVariants.{Piece}
+use Rattle.elab_init.specs.cpp_tree.declared.arena.TNodeId.{TNodeId}
+use Rattle.elab_init.specs.cpp_tree.Trees.{Tree, node, Trees, more}
+use Rattle.elab_init.specs.cpp_tree.Arena.{tree_at, trees_at, Grows, Adds}
+use Rattle.elab_init.specs.elab_ctx.Ctx.{Ctx, Work}
+use Rattle.elab_init.specs.elab_ctx.Steps.{Made}
+use Rattle.elab_init.specs.elab_ctx.Says.{AddsAll, Puts}
+use Rattle.elab_init.proofs.elab_ctx.Looks.{grows_trans, at_grown}
+use Rattle.elab_init.specs.elab_rules.Objects.{Part, backwards, destroys}
+use Rattle.elab_init.specs.elab_rules.Values.{temporary}
+use Rattle.elab_init.specs.elab_rules.Initialising.{with_tree, closure_part, closure_pieces}
 use Rattle.elab_init.specs.Parts.{part_of}
 use Rattle.elab_init.specs.declared.parts.ObjectPart.{ObjectPart}
 use Rattle.elab_init.proofs.Listing.{Adding, adding_one, adding_done, adds_more, trees_grown, drop_step, drop_past}

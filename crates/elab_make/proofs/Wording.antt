@@ -1,21 +1,21 @@
 -- The words of a call so far.
 use Rattle.std.proofs.Common.{◌≡◌, ℕ, zero, suc, ◌+◌, ◌<◌, ◌≤◌, true, List, [], ◌∷◌, ◌++◌, length, drop, Some, Ok, Err, Result, refl, sym, ◌∙◌, ap, arith, get_or, nat_lt, slice_get}
 use Rattle.std.proofs.lemmas.Bool.{ltb-true, and_parts}
-use Rattle.cpp_types.specs.declared.types.Ty.{Ty}
-use Rattle.cpp_types.specs.Typ.{typ_of, typs_of}
-use Rattle.cpp_tree.specs.declared.faults.ElabFault.{ElabFault}
-use Rattle.cpp_tree.specs.declared.arena.TNodeId.{TNodeId}
-use Rattle.cpp_tree.specs.Trees.{Tree, Trees, none, more, one}
-use Rattle.cpp_tree.specs.Arena.{tree_at, trees_at, Grows}
-use Rattle.elab_ctx.specs.Ctx.{Ctx, Work}
-use Rattle.elab_ctx.specs.Steps.{and_then, Made, MadeAll}
-use Rattle.elab_ctx.specs.Operands.{operand_in, operands_in, are_in}
-use Rattle.elab_ctx.specs.declared.operand.Operand.{Operand as OperandRec}
-use Rattle.elab_ctx.specs.Says.{Faults, MadeAt, AllMade, are_within}
-use Rattle.elab_ctx.proofs.Looks.{grows_refl, grows_trans, at_grown, within_grown}
-use Rattle.elab_ctx.proofs.Making.{faults_in, faults_same}
-use Rattle.elab_rules.specs.Objects.{followed_by}
-use Rattle.elab_rules.specs.Initialising.{passed, words}
+use Rattle.elab_init.specs.cpp_types.declared.types.Ty.{Ty}
+use Rattle.elab_init.specs.cpp_types.Typ.{typ_of, typs_of}
+use Rattle.elab_init.specs.cpp_tree.declared.faults.ElabFault.{ElabFault}
+use Rattle.elab_init.specs.cpp_tree.declared.arena.TNodeId.{TNodeId}
+use Rattle.elab_init.specs.cpp_tree.Trees.{Tree, Trees, none, more, one}
+use Rattle.elab_init.specs.cpp_tree.Arena.{tree_at, trees_at, Grows}
+use Rattle.elab_init.specs.elab_ctx.Ctx.{Ctx, Work}
+use Rattle.elab_init.specs.elab_ctx.Steps.{and_then, Made, MadeAll}
+use Rattle.elab_init.specs.elab_ctx.Operands.{operand_in, operands_in, are_in}
+use Rattle.elab_init.specs.elab_ctx.declared.operand.Operand.{Operand as OperandRec}
+use Rattle.elab_init.specs.elab_ctx.Says.{Faults, MadeAt, AllMade, are_within}
+use Rattle.elab_init.proofs.elab_ctx.Looks.{grows_refl, grows_trans, at_grown, within_grown}
+use Rattle.elab_init.proofs.elab_ctx.Making.{faults_in, faults_same}
+use Rattle.elab_init.specs.elab_rules.Objects.{followed_by}
+use Rattle.elab_init.specs.elab_rules.Initialising.{passed, words}
 use Rattle.elab_init.proofs.Listing.{followed_none, followed_twice, trees_append, trees_grown, all_within_grown, within_both, within_one, drop_step, drop_past}
 
 -- Steps

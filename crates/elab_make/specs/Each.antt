@@ -1,13 +1,13 @@
 -- Objects that are built alike.
 use Rattle.std.specs.Prelude.{if◌then◌else◌}
-use Rattle.cpp_types.specs.Typ.{Typ}
-use Rattle.cpp_types.specs.declared.classes.At.{At}
-use Rattle.cpp_types.specs.declared.ranks.Cat.TheVariants.{Prvalue}
-use Rattle.cpp_tree.specs.declared.kinds.TKind.{TKind}
-use Rattle.cpp_tree.specs.declared.kinds.TKind.TheVariants.{Elements}
-use Rattle.cpp_tree.specs.Trees.{Tree, node, none, more}
-use Rattle.elab_ctx.specs.Ctx.{Ctx}
-use Rattle.elab_rules.specs.Objects.{is_array, count_in, element_of, size_of, destroys}
+use Rattle.elab_init.specs.cpp_types.Typ.{Typ}
+use Rattle.elab_init.specs.cpp_types.declared.classes.At.{At}
+use Rattle.elab_init.specs.cpp_types.declared.ranks.Cat.TheVariants.{Prvalue}
+use Rattle.elab_init.specs.cpp_tree.declared.kinds.TKind.{TKind}
+use Rattle.elab_init.specs.cpp_tree.declared.kinds.TKind.TheVariants.{Elements}
+use Rattle.elab_init.specs.cpp_tree.Trees.{Tree, node, none, more}
+use Rattle.elab_init.specs.elab_ctx.Ctx.{Ctx}
+use Rattle.elab_init.specs.elab_rules.Objects.{is_array, count_in, element_of, size_of, destroys}
 
 -- an object, or each one of an array, by a function
 abbrev pub each_by : Ctx → TKind → Typ → At → Tree

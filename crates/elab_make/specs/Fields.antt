@@ -1,10 +1,10 @@
 -- The scalars of the parts of an object.
 use Rattle.std.specs.Prelude.{ℕ, ◌+◌, List}
-use Rattle.cpp_types.specs.Typ.{Typ}
-use Rattle.cpp_types.specs.Class.{Class}
-use Rattle.cpp_types.specs.declared.classes.At.{At}
-use Rattle.cpp_tree.specs.Trees.{Trees}
-use Rattle.elab_rules.specs.Objects.{Part, class_fields, fields_in, fields_of_parts, repeated}
+use Rattle.elab_init.specs.cpp_types.Typ.{Typ}
+use Rattle.elab_init.specs.cpp_types.Class.{Class}
+use Rattle.elab_init.specs.cpp_types.declared.classes.At.{At}
+use Rattle.elab_init.specs.cpp_tree.Trees.{Trees}
+use Rattle.elab_init.specs.elab_rules.Objects.{Part, class_fields, fields_in, fields_of_parts, repeated}
 
 -- of an object at an offset, in which classes nest no deeper than this
 abbrev pub fields_at : ℕ → List Class → At → ℕ → Typ → Trees

@@ -1,14 +1,14 @@
 -- Objects from values.
 use Rattle.std.specs.Prelude.{List, [], ◌∷◌, Result, Err, if◌then◌else◌}
-use Rattle.cpp_types.specs.Typ.{Typ}
-use Rattle.cpp_types.specs.declared.classes.At.{At}
-use Rattle.cpp_tree.specs.declared.faults.ElabFault.{ElabFault}
-use Rattle.cpp_tree.specs.declared.faults.ElabFault.TheVariants.{Ill}
-use Rattle.cpp_tree.specs.declared.faults.IllRule.TheVariants.{BadInit}
-use Rattle.cpp_tree.specs.Typing.{is_class_typ}
-use Rattle.elab_ctx.specs.Ctx.{Ctx, Work}
-use Rattle.elab_ctx.specs.Steps.{and_then, expect, Operand, Made}
-use Rattle.elab_rules.specs.Initialising.{class_from, scalar_from, only}
+use Rattle.elab_init.specs.cpp_types.Typ.{Typ}
+use Rattle.elab_init.specs.cpp_types.declared.classes.At.{At}
+use Rattle.elab_init.specs.cpp_tree.declared.faults.ElabFault.{ElabFault}
+use Rattle.elab_init.specs.cpp_tree.declared.faults.ElabFault.TheVariants.{Ill}
+use Rattle.elab_init.specs.cpp_tree.declared.faults.IllRule.TheVariants.{BadInit}
+use Rattle.elab_init.specs.cpp_tree.Typing.{is_class_typ}
+use Rattle.elab_init.specs.elab_ctx.Ctx.{Ctx, Work}
+use Rattle.elab_init.specs.elab_ctx.Steps.{and_then, expect, Operand, Made}
+use Rattle.elab_init.specs.elab_rules.Initialising.{class_from, scalar_from, only}
 
 -- an object of a type that is no class with a name, no exception and no array
 abbrev pub other_values : Ctx → Work → Typ → At → List Operand → Result Made ElabFault

@@ -1,11 +1,11 @@
 -- Objects of arguments.
 use Rattle.std.specs.Prelude.{Result, Ok}
-use Rattle.cpp_types.specs.Typ.{Typ}
-use Rattle.cpp_tree.specs.declared.faults.ElabFault.{ElabFault}
-use Rattle.elab_ctx.specs.Ctx.{Ctx, Work, with_item}
-use Rattle.elab_ctx.specs.Steps.{and_then, Operand, Made}
-use Rattle.elab_rules.specs.Objects.{destroys}
-use Rattle.elab_rules.specs.Initialising.{class_from, argument_object}
+use Rattle.elab_init.specs.cpp_types.Typ.{Typ}
+use Rattle.elab_init.specs.cpp_tree.declared.faults.ElabFault.{ElabFault}
+use Rattle.elab_init.specs.elab_ctx.Ctx.{Ctx, Work, with_item}
+use Rattle.elab_init.specs.elab_ctx.Steps.{and_then, Operand, Made}
+use Rattle.elab_init.specs.elab_rules.Objects.{destroys}
+use Rattle.elab_init.specs.elab_rules.Initialising.{class_from, argument_object}
 
 -- an object of its own for a parameter of this type
 abbrev pub passed_object : Ctx → Work → Typ → Operand → Result Made ElabFault

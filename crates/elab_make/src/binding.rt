@@ -1,18 +1,17 @@
 // Conversions that initialise objects and references (C++14 clause 4, 8.5.3).
 
 ghost use Rattle.std.specs.Prelude.{◌<◌, IfOk, length};
-ghost use Rattle.cpp_types.specs.Typ.{typ_of};
-ghost use Rattle.cpp_tree.specs.Arena.{trees_of, tree_at};
-ghost use Rattle.elab_ctx.specs.Ctx.{ctx_of, work_of};
-ghost use Rattle.elab_ctx.specs.Operands.{operand_in};
-ghost use Rattle.elab_ctx.specs.Says.{Puts, Makes};
-ghost use Rattle.elab_rules.specs.Initialising.{bound_by as bound, initial as initial_of, object_of as object_by, seen_as as seen_as_of, with_tree};
+ghost use Rattle.elab_init.specs.cpp_types.Typ.{typ_of};
+ghost use Rattle.elab_init.specs.cpp_tree.Arena.{trees_of, tree_at};
+ghost use Rattle.elab_init.specs.elab_ctx.Ctx.{ctx_of, work_of};
+ghost use Rattle.elab_init.specs.elab_ctx.Operands.{operand_in};
+ghost use Rattle.elab_init.specs.elab_ctx.Says.{Puts, Makes};
+ghost use Rattle.elab_init.specs.elab_rules.Initialising.{bound_by as bound, initial as initial_of, object_of as object_by, seen_as as seen_as_of, with_tree};
 
 use crate::objects::object_of;
-use cpp_tree::{ElabFault, IllRule, TNodeId};
-use cpp_types::{At, Binding, Step, Ty};
-use elab_conv::{stepped, valued};
-use elab_ctx::{Env, Operand, Work};
+use elab_init::below::{
+    At, Binding, ElabFault, Env, IllRule, Operand, Step, TNodeId, Ty, Work, stepped, valued,
+};
 use elab_init::{bound_temporary, conversion_of, ill, referred_type, seen_as};
 use std::alloc::{AllocError, Global};
 

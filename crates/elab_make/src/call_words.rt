@@ -1,25 +1,25 @@
 // The words that a call passes (C++14 5.2.2).
 
 ghost use Rattle.std.specs.Prelude.{◌≡◌, ◌<◌, length, true, IfOk};
-ghost use Rattle.cpp_types.specs.Typ.{typ_of, typs_of};
-ghost use Rattle.cpp_tree.specs.Trees.{node, more};
-ghost use Rattle.cpp_tree.specs.Typing.{unqualified};
-ghost use Rattle.cpp_tree.specs.Arena.{trees_of, tree_at, Adds};
-ghost use Rattle.elab_ctx.specs.Ctx.{ctx_of, work_of};
-ghost use Rattle.elab_ctx.specs.Operands.{operand_in, operands_in, are_in};
-ghost use Rattle.elab_ctx.specs.Says.{Makes, MakesAll};
-ghost use Rattle.elab_rules.specs.Objects.{destroys as destroys_by};
-ghost use Rattle.elab_rules.specs.Initialising.{passed as passed_of, words as words_of};
+ghost use Rattle.elab_init.specs.cpp_types.Typ.{typ_of, typs_of};
+ghost use Rattle.elab_init.specs.cpp_tree.Trees.{node, more};
+ghost use Rattle.elab_init.specs.cpp_tree.Typing.{unqualified};
+ghost use Rattle.elab_init.specs.cpp_tree.Arena.{trees_of, tree_at, Adds};
+ghost use Rattle.elab_init.specs.elab_ctx.Ctx.{ctx_of, work_of};
+ghost use Rattle.elab_init.specs.elab_ctx.Operands.{operand_in, operands_in, are_in};
+ghost use Rattle.elab_init.specs.elab_ctx.Says.{Makes, MakesAll};
+ghost use Rattle.elab_init.specs.elab_rules.Objects.{destroys as destroys_by};
+ghost use Rattle.elab_init.specs.elab_rules.Initialising.{passed as passed_of, words as words_of};
 ghost use Rattle.elab_make.specs.Passing.{passed_object as passed_object_of};
 
 use crate::binding::initial;
 use crate::copying::class_from;
 use crate::destructions::destroys;
 use crate::lists::operand_at;
-use cpp_tree::{ElabFault, TKind, TNode, TNodeId, add_node};
-use cpp_types::{At, Cat, Ty, copy};
-use elab_conv::types::unqualified_type;
-use elab_ctx::{Env, Operand, Work, add_item};
+use elab_init::below::{
+    At, Cat, ElabFault, Env, Operand, TKind, TNode, TNodeId, Ty, Work, add_item, add_node, copy,
+    unqualified_type,
+};
 use elab_init::{is_class_type, keep, object_kids};
 use std::alloc::{AllocError, Global};
 

@@ -1,21 +1,21 @@
 // Copies of the objects of lambdas (C++14 5.1.2, 12.8).
 
 ghost use Rattle.std.specs.Prelude.{◌≡◌, ◌<◌, false, IfOk, length, map};
-ghost use Rattle.cpp_types.specs.Typ.{typ_of, typ, closure};
-ghost use Rattle.cpp_types.specs.Class.{classes_of};
-ghost use Rattle.cpp_tree.specs.Trees.{node, two, more};
-ghost use Rattle.cpp_tree.specs.Arena.{trees_of, tree_at, Adds};
-ghost use Rattle.elab_ctx.specs.Ctx.{ctx_of, special_of};
-ghost use Rattle.elab_ctx.specs.Says.{AddsAll};
-ghost use Rattle.elab_rules.specs.Objects.{parts_of as parts_by, destroys as destroys_by};
-ghost use Rattle.elab_rules.specs.Initialising.{copied_part as copied_part_of, copy_of_held as copy_of_held_of, closure_part as closure_part_of, closure_pieces as closure_pieces_of};
+ghost use Rattle.elab_init.specs.cpp_types.Typ.{typ_of, typ, closure};
+ghost use Rattle.elab_init.specs.cpp_types.Class.{classes_of};
+ghost use Rattle.elab_init.specs.cpp_tree.Trees.{node, two, more};
+ghost use Rattle.elab_init.specs.cpp_tree.Arena.{trees_of, tree_at, Adds};
+ghost use Rattle.elab_init.specs.elab_ctx.Ctx.{ctx_of, special_of};
+ghost use Rattle.elab_init.specs.elab_ctx.Says.{AddsAll};
+ghost use Rattle.elab_init.specs.elab_rules.Objects.{parts_of as parts_by, destroys as destroys_by};
+ghost use Rattle.elab_init.specs.elab_rules.Initialising.{copied_part as copied_part_of, copy_of_held as copy_of_held_of, closure_part as closure_part_of, closure_pieces as closure_pieces_of};
 ghost use Rattle.elab_init.specs.Parts.{part_of};
 
 use crate::destructions::destroys;
 use crate::each::each_by;
-use cpp_tree::{TKind, TNode, TNodeId, add_binary, add_node};
-use cpp_types::{At, Cat, Shape, Ty, copy};
-use elab_ctx::{Env, Special};
+use elab_init::below::{
+    At, Cat, Env, Shape, Special, TKind, TNode, TNodeId, Ty, add_binary, add_node, copy,
+};
 use elab_init::{
     ObjectPart, class_number, copies, element_type, keep, object_kids, parts_of, traits_at,
 };

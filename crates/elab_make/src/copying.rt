@@ -1,24 +1,25 @@
 // Objects of classes from one expression (C++14 8.5 p17, 12.8).
 
 ghost use Rattle.std.specs.Prelude.{◌≡◌, ◌<◌, IfOk, Ok, length, slice_get};
-ghost use Rattle.cpp_types.specs.Typ.{typ_of, typs_of, tx_ex, typ, closure, class as class_form};
-ghost use Rattle.cpp_types.specs.Class.{classes_of};
-ghost use Rattle.cpp_tree.specs.Trees.{node, one, two};
-ghost use Rattle.cpp_tree.specs.Arena.{trees_of, tree_at, Adds};
-ghost use Rattle.elab_ctx.specs.Ctx.{ctx_of, work_of, special_of};
-ghost use Rattle.elab_ctx.specs.Operands.{operand_in};
-ghost use Rattle.elab_ctx.specs.Steps.{and_then, Made};
-ghost use Rattle.elab_ctx.specs.Says.{Makes, MakesAll, Puts};
-ghost use Rattle.elab_rules.specs.Objects.{copies as copies_by};
-ghost use Rattle.elab_rules.specs.Initialising.{initial as initial_of, has_copy as has_copy_of, reference_word as reference_word_of, constructed_copy as constructed_copy_of, copied_object as copied_object_of, class_from as class_from_of, copied_in_place as copied_in_place_of};
+ghost use Rattle.elab_init.specs.cpp_types.Typ.{typ_of, typs_of, tx_ex, typ, closure, class as class_form};
+ghost use Rattle.elab_init.specs.cpp_types.Class.{classes_of};
+ghost use Rattle.elab_init.specs.cpp_tree.Trees.{node, one, two};
+ghost use Rattle.elab_init.specs.cpp_tree.Arena.{trees_of, tree_at, Adds};
+ghost use Rattle.elab_init.specs.elab_ctx.Ctx.{ctx_of, work_of, special_of};
+ghost use Rattle.elab_init.specs.elab_ctx.Operands.{operand_in};
+ghost use Rattle.elab_init.specs.elab_ctx.Steps.{and_then, Made};
+ghost use Rattle.elab_init.specs.elab_ctx.Says.{Makes, MakesAll, Puts};
+ghost use Rattle.elab_init.specs.elab_rules.Objects.{copies as copies_by};
+ghost use Rattle.elab_init.specs.elab_rules.Initialising.{initial as initial_of, has_copy as has_copy_of, reference_word as reference_word_of, constructed_copy as constructed_copy_of, copied_object as copied_object_of, class_from as class_from_of, copied_in_place as copied_in_place_of};
 
 use crate::binding::initial;
 use crate::closures::closure_copy;
 use crate::lists::one_of;
 use crate::objects::object_of;
-use cpp_tree::{ElabFault, IllRule, TKind, TNode, TNodeId, add_binary};
-use cpp_types::{At, Cat, Shape, Ty, copy, equal_shapes};
-use elab_ctx::{Env, Operand, Special, Work, node_at};
+use elab_init::below::{
+    At, Cat, ElabFault, Env, IllRule, Operand, Shape, Special, TKind, TNode, TNodeId, Ty, Work,
+    add_binary, copy, equal_shapes, node_at,
+};
 use elab_init::{
     builder, building, class_number, construct, constructors, copies, copy_in_place, ill,
     is_class_prvalue, is_prvalue_of_class, is_same_or_base, makeable, makers, meant, parameters_at,

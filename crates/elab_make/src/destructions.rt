@@ -1,19 +1,19 @@
 // Destructions of objects (C++14 12.4).
 
 ghost use Rattle.std.specs.Prelude.{◌≡◌, IfOk, map};
-ghost use Rattle.cpp_types.specs.Typ.{typ_of};
-ghost use Rattle.cpp_types.specs.Class.{classes_of};
-ghost use Rattle.cpp_tree.specs.Arena.{trees_of};
-ghost use Rattle.cpp_tree.specs.Typing.{form_in};
-ghost use Rattle.elab_ctx.specs.Ctx.{ctx_of, special_of};
-ghost use Rattle.elab_ctx.specs.Says.{AddsAll};
-ghost use Rattle.elab_rules.specs.Objects.{count_in, stride_of as stride_by, destroyed, destroys_in as destroys_in_of, destroys_at, backwards, destroys as destroys_by};
+ghost use Rattle.elab_init.specs.cpp_types.Typ.{typ_of};
+ghost use Rattle.elab_init.specs.cpp_types.Class.{classes_of};
+ghost use Rattle.elab_init.specs.cpp_tree.Arena.{trees_of};
+ghost use Rattle.elab_init.specs.cpp_tree.Typing.{form_in};
+ghost use Rattle.elab_init.specs.elab_ctx.Ctx.{ctx_of, special_of};
+ghost use Rattle.elab_init.specs.elab_ctx.Says.{AddsAll};
+ghost use Rattle.elab_init.specs.elab_rules.Objects.{count_in, stride_of as stride_by, destroyed, destroys_in as destroys_in_of, destroys_at, backwards, destroys as destroys_by};
 ghost use Rattle.elab_init.specs.Parts.{part_of};
 
 use crate::lists::one_of;
-use cpp_tree::{TKind, TNode, TNodeId, add_leaf};
-use cpp_types::{At, Cat, Shape, Ty};
-use elab_ctx::{Env, Special, size_of};
+use elab_init::below::{
+    At, Cat, Env, Shape, Special, TKind, TNode, TNodeId, Ty, add_leaf, size_of,
+};
 use elab_init::{ObjectPart, element_type, keep_all, parts_of, traits_at};
 use std::alloc::{AllocError, Global};
 

@@ -1,18 +1,18 @@
 // Objects that are built alike.
 
 ghost use Rattle.std.specs.Prelude.{IfOk};
-ghost use Rattle.cpp_types.specs.Typ.{typ_of};
-ghost use Rattle.cpp_types.specs.Class.{classes_of};
-ghost use Rattle.cpp_tree.specs.Trees.{node, none, more};
-ghost use Rattle.cpp_tree.specs.Arena.{trees_of, Adds};
-ghost use Rattle.elab_ctx.specs.Ctx.{ctx_of};
-ghost use Rattle.elab_rules.specs.Objects.{count_in, element_of, size_of as size_by, destroys as destroys_by};
+ghost use Rattle.elab_init.specs.cpp_types.Typ.{typ_of};
+ghost use Rattle.elab_init.specs.cpp_types.Class.{classes_of};
+ghost use Rattle.elab_init.specs.cpp_tree.Trees.{node, none, more};
+ghost use Rattle.elab_init.specs.cpp_tree.Arena.{trees_of, Adds};
+ghost use Rattle.elab_init.specs.elab_ctx.Ctx.{ctx_of};
+ghost use Rattle.elab_init.specs.elab_rules.Objects.{count_in, element_of, size_of as size_by, destroys as destroys_by};
 ghost use Rattle.elab_make.specs.Each.{each_by as each_by_of};
 
 use crate::destructions::{count_of, destroys};
-use cpp_tree::{TKind, TNode, TNodeId, add_leaf, add_node};
-use cpp_types::{At, Cat, Shape, Ty, copy};
-use elab_ctx::{Env, size_of};
+use elab_init::below::{
+    At, Cat, Env, Shape, TKind, TNode, TNodeId, Ty, add_leaf, add_node, copy, size_of,
+};
 use elab_init::{element_type, object_kids};
 use std::alloc::{AllocError, Global};
 

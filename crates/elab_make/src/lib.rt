@@ -1,6 +1,7 @@
 //! What makes objects, as typed nodes: bound references, copies, constructors, words of calls and destructions.
 #![tactic(auto)]
 
+pub mod below;
 pub mod binding;
 pub mod call_words;
 mod closures;

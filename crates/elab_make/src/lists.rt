@@ -2,8 +2,7 @@
 
 ghost use Rattle.std.specs.Prelude.{◌≡◌, ◌∷◌, [], IfOk, MatchOption, drop, slice_get};
 
-use cpp_tree::TNodeId;
-use elab_ctx::Operand;
+use elab_init::below::{Operand, TNodeId};
 use elab_init::keep;
 use std::alloc::{AllocError, Global};
 

@@ -1,16 +1,14 @@
 // Objects for which nothing is written (C++14 8.5 p12).
 
-ghost use Rattle.cpp_types.specs.Typ.{typ_of};
-ghost use Rattle.cpp_tree.specs.Typing.{form_in};
-ghost use Rattle.cpp_tree.specs.Arena.{trees_of};
-ghost use Rattle.elab_ctx.specs.Ctx.{ctx_of, special_of};
-ghost use Rattle.elab_ctx.specs.Says.{Gives};
-ghost use Rattle.elab_rules.specs.Initialising.{default_by as default_by_of, default_in as default_in_of, from_nothing as from_nothing_of};
+ghost use Rattle.elab_init.specs.cpp_types.Typ.{typ_of};
+ghost use Rattle.elab_init.specs.cpp_tree.Typing.{form_in};
+ghost use Rattle.elab_init.specs.cpp_tree.Arena.{trees_of};
+ghost use Rattle.elab_init.specs.elab_ctx.Ctx.{ctx_of, special_of};
+ghost use Rattle.elab_init.specs.elab_ctx.Says.{Gives};
+ghost use Rattle.elab_init.specs.elab_rules.Initialising.{default_by as default_by_of, default_in as default_in_of, from_nothing as from_nothing_of};
 
 use crate::each::each_by;
-use cpp_tree::{ElabFault, IllRule, TKind, TNode, TNodeId};
-use cpp_types::{At, Shape, Ty};
-use elab_ctx::{Env, Special};
+use elab_init::below::{At, ElabFault, Env, IllRule, Shape, Special, TKind, TNode, TNodeId, Ty};
 use elab_init::{element_type, ill, makeable, traits_at, zeros};
 use std::alloc::Global;
 

@@ -1,18 +1,16 @@
 // The objects that expressions stand for (C++14 12.2).
 
 ghost use Rattle.std.specs.Prelude.{◌<◌, IfOk, length};
-ghost use Rattle.cpp_types.specs.Typ.{typ_of};
-ghost use Rattle.cpp_tree.specs.Arena.{trees_of, tree_at};
-ghost use Rattle.elab_ctx.specs.Ctx.{ctx_of, work_of};
-ghost use Rattle.elab_ctx.specs.Says.{Puts};
-ghost use Rattle.elab_rules.specs.Values.{builder as builder_of, temporary as temporary_of};
-ghost use Rattle.elab_rules.specs.Objects.{destroys as destroys_by};
-ghost use Rattle.elab_rules.specs.Initialising.{object_of as object_by};
+ghost use Rattle.elab_init.specs.cpp_types.Typ.{typ_of};
+ghost use Rattle.elab_init.specs.cpp_tree.Arena.{trees_of, tree_at};
+ghost use Rattle.elab_init.specs.elab_ctx.Ctx.{ctx_of, work_of};
+ghost use Rattle.elab_init.specs.elab_ctx.Says.{Puts};
+ghost use Rattle.elab_init.specs.elab_rules.Values.{builder as builder_of, temporary as temporary_of};
+ghost use Rattle.elab_init.specs.elab_rules.Objects.{destroys as destroys_by};
+ghost use Rattle.elab_init.specs.elab_rules.Initialising.{object_of as object_by};
 
 use crate::destructions::destroys;
-use cpp_tree::TNodeId;
-use cpp_types::{At, Ty, copy};
-use elab_ctx::{Env, Work, node_at};
+use elab_init::below::{At, Env, TNodeId, Ty, Work, copy, node_at};
 use elab_init::{builder, is_class_prvalue, temporary};
 use std::alloc::{AllocError, Global};
 

@@ -1,20 +1,19 @@
 // The scalars of an exception, in order (C++14 15.1).
 
 ghost use Rattle.std.specs.Prelude.{◌≡◌, ◌+◌, IfOk, map};
-ghost use Rattle.cpp_types.specs.Typ.{typ_of};
-ghost use Rattle.cpp_types.specs.Class.{classes_of};
-ghost use Rattle.cpp_tree.specs.Arena.{trees_of};
-ghost use Rattle.cpp_tree.specs.Typing.{form_in, kind_in};
-ghost use Rattle.elab_ctx.specs.Says.{AddsAll};
-ghost use Rattle.elab_rules.specs.Objects.{class_fields, fields as fields_by, scalar_field as scalar_field_of};
+ghost use Rattle.elab_init.specs.cpp_types.Typ.{typ_of};
+ghost use Rattle.elab_init.specs.cpp_types.Class.{classes_of};
+ghost use Rattle.elab_init.specs.cpp_tree.Arena.{trees_of};
+ghost use Rattle.elab_init.specs.cpp_tree.Typing.{form_in, kind_in};
+ghost use Rattle.elab_init.specs.elab_ctx.Says.{AddsAll};
+ghost use Rattle.elab_init.specs.elab_rules.Objects.{class_fields, fields as fields_by, scalar_field as scalar_field_of};
 ghost use Rattle.elab_init.specs.Parts.{part_of};
 ghost use Rattle.elab_make.specs.Fields.{fields_at, fields_of, fields_of_each};
 
 use crate::lists::one_of;
-use cpp_tree::{TKind, TNode, TNodeId, add_leaf};
-use cpp_types::{At, Cat, Shape, Ty};
-use elab_conv::types::kind_of;
-use elab_ctx::{Env, size_of};
+use elab_init::below::{
+    At, Cat, Env, Shape, TKind, TNode, TNodeId, Ty, add_leaf, kind_of, size_of,
+};
 use elab_init::{ObjectPart, keep_all, parts_of};
 use std::alloc::{AllocError, Global};
 

@@ -1,14 +1,14 @@
 // Objects from values in parentheses (C++14 8.5 p16).
 
 ghost use Rattle.std.specs.Prelude.{◌≡◌, ◌<◌, ◌∷◌, drop, length, true, None};
-ghost use Rattle.cpp_types.specs.Typ.{typ_of, typ, tx_ex};
-ghost use Rattle.cpp_types.specs.Equal.{form_eq};
-ghost use Rattle.cpp_tree.specs.Typing.{form_in};
-ghost use Rattle.cpp_tree.specs.Arena.{trees_of};
-ghost use Rattle.elab_ctx.specs.Ctx.{ctx_of, work_of};
-ghost use Rattle.elab_ctx.specs.Operands.{operand_in, operands_in, are_in};
-ghost use Rattle.elab_ctx.specs.Says.{Makes};
-ghost use Rattle.elab_rules.specs.Initialising.{constructed as constructed_of, constructed_by as constructed_by_of, is_prvalue_itself as is_prvalue_itself_of, is_exception_itself as is_exception_itself_of, exception_from as exception_from_of, from_values as from_values_of, scalar_from as scalar_from_of};
+ghost use Rattle.elab_init.specs.cpp_types.Typ.{typ_of, typ, tx_ex};
+ghost use Rattle.elab_init.specs.cpp_types.Equal.{form_eq};
+ghost use Rattle.elab_init.specs.cpp_tree.Typing.{form_in};
+ghost use Rattle.elab_init.specs.cpp_tree.Arena.{trees_of};
+ghost use Rattle.elab_init.specs.elab_ctx.Ctx.{ctx_of, work_of};
+ghost use Rattle.elab_init.specs.elab_ctx.Operands.{operand_in, operands_in, are_in};
+ghost use Rattle.elab_init.specs.elab_ctx.Says.{Makes};
+ghost use Rattle.elab_init.specs.elab_rules.Initialising.{constructed as constructed_of, constructed_by as constructed_by_of, is_prvalue_itself as is_prvalue_itself_of, is_exception_itself as is_exception_itself_of, exception_from as exception_from_of, from_values as from_values_of, scalar_from as scalar_from_of};
 ghost use Rattle.elab_make.specs.Others.{other_values};
 
 use crate::binding::initial;
@@ -16,10 +16,10 @@ use crate::call_words::words;
 use crate::copying::{class_from, copied_in_place, place_at};
 use crate::lists::first_operand;
 use crate::nothing::from_nothing;
-use cpp_tree::{ElabFault, IllRule, TNode, TNodeId};
-use cpp_types::{At, Shape, Ty, equal_types};
-use elab_conv::stored;
-use elab_ctx::{Env, Operand, Work, node_at};
+use elab_init::below::{
+    At, ElabFault, Env, IllRule, Operand, Shape, TNode, TNodeId, Ty, Work, equal_types, node_at,
+    stored,
+};
 use elab_init::{
     building, construct, constructors, ill, is_class_type, is_prvalue_of_class, makeable, makers,
     meant, parameters_at,

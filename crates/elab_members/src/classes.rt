@@ -1,16 +1,12 @@
 // Classes: their heads, their members, and behind the brace what stands in these (C++14 clause 9, 9.2 p2).
 
 ghost use Rattle.std.specs.Prelude.{◌≡◌, length, true};
-ghost use Rattle.cpp_ast.specs.Orders.{are_below};
+ghost use Rattle.elab_implicit.specs.cpp_ast.Orders.{are_below};
 
 use crate::early::all_early;
 use crate::late::all_late;
 use class_table::{class_read, members_among};
-use cpp_ast::{NodeId, Nodes};
-use cpp_lex::Tokens;
-use cpp_tree::ElabFault;
-use cpp_types::At;
-use elab_scopes::{MakeLambdas, State};
+use elab_implicit::below::{At, ElabFault, MakeLambdas, NodeId, Nodes, State, Tokens};
 use std::alloc::Global;
 
 /// A class that is only declared.

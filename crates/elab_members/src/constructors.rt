@@ -1,19 +1,15 @@
 // Constructors: the parts of the object, then the block (C++14 12.6.2).
 
 ghost use Rattle.std.specs.Prelude.{◌≡◌, ◌<◌, length, true};
-ghost use Rattle.cpp_ast.specs.Orders.{are_below};
+ghost use Rattle.elab_implicit.specs.cpp_ast.Orders.{are_below};
 
 use crate::written::all_given;
-use class_members::Header;
-use cpp_ast::{NodeId, Nodes};
-use cpp_lex::Tokens;
-use cpp_tree::{ElabFault, TNodeId};
-use elab_entry::{body_made, leave_function, with_parameters};
+use elab_implicit::below::{
+    ElabFault, Header, MakeLambdas, NodeId, Nodes, State, TNodeId, Tokens, body_made,
+    elab_types_node_at as node_at, leave_function, place, statements, with_parameters,
+};
 use elab_implicit::building::{constructor_tree, parts_built};
 use elab_implicit::object::enter_object;
-use elab_scopes::{MakeLambdas, State};
-use elab_stmt::statements;
-use elab_types::syntax::{node_at, place};
 use std::alloc::Global;
 
 // What a constructor does, in its own scope.

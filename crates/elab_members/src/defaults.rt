@@ -2,23 +2,17 @@
 // `this`.
 
 ghost use Rattle.std.specs.Prelude.{◌<◌, length};
-ghost use Rattle.elab_scopes.specs.States.{made};
+ghost use Rattle.elab_implicit.specs.elab_scopes.States.{made};
 
 use crate::syntax::{initialiser_in, kids_in};
-use cpp_ast::{NodeId, NodeKind, Nodes};
-use cpp_lex::Tokens;
-use cpp_tree::{ElabFault, TNodeId};
-use cpp_types::Ty;
-use elab_aggregates::{is_char_array, string_token};
-use elab_braces::{copy_initialised, string_initialiser};
-use elab_ctx::{DefaultInit, Env, Operand};
-use elab_entry::{Inside, copy_tree, leave_function};
+use elab_implicit::below::{
+    DefaultInit, ElabFault, Env, Inside, MakeLambdas, NodeId, NodeKind, Nodes, Operand, State,
+    TNodeId, Tokens, Ty, copy_initialised, copy_tree, elab_types_node_at as node_at, full,
+    full_operand, is_char_array, leave_function, place, spelling, string_initialiser, string_token,
+};
 use elab_implicit::object::enter_object;
 use elab_implicit::parts::{member_of_class, member_type};
 use elab_implicit::places::stands;
-use elab_scopes::full::{full, full_operand};
-use elab_scopes::{MakeLambdas, State};
-use elab_types::syntax::{node_at, place, spelling};
 use std::alloc::{AllocError, Global};
 
 // By a value that was read.

@@ -2,16 +2,12 @@
 
 ghost use Rattle.std.specs.Prelude.{◌<◌, length};
 
-use class_members::Header;
-use cpp_ast::{NodeId, Nodes};
-use cpp_lex::Tokens;
-use cpp_tree::{ElabFault, TNodeId};
-use elab_entry::{body_made, leave_function};
+use elab_implicit::below::{
+    ElabFault, Header, MakeLambdas, NodeId, Nodes, State, TNodeId, Tokens, body_made,
+    elab_types_node_at as node_at, leave_function, place, statements,
+};
 use elab_implicit::ending::destructor_tree;
 use elab_implicit::object::enter_object;
-use elab_scopes::{MakeLambdas, State};
-use elab_stmt::statements;
-use elab_types::syntax::{node_at, place};
 use std::alloc::Global;
 
 // What a destructor does, in its own scope.

@@ -2,19 +2,14 @@
 // text, so one that has a fault stands here as nothing.
 
 ghost use Rattle.std.specs.Prelude.{◌≡◌, ◌<◌, length, true};
-ghost use Rattle.cpp_ast.specs.Orders.{are_below};
+ghost use Rattle.elab_implicit.specs.cpp_ast.Orders.{are_below};
 
 use crate::defaults::{declared_member, default_of};
 use crate::syntax::kids_in;
-use cpp_ast::{NodeId, NodeKind, Nodes};
-use cpp_lex::Tokens;
-use cpp_tree::{ElabFault, TKind, add_leaf};
-use cpp_types::{At, Cat, Shape};
-use elab_ctx::{DefaultInit, Env};
-use elab_entry::{checkpoint_here, undo};
-use elab_names::parts::plain_type;
-use elab_scopes::{MakeLambdas, State};
-use elab_types::syntax::node_at;
+use elab_implicit::below::{
+    At, Cat, DefaultInit, ElabFault, Env, MakeLambdas, NodeId, NodeKind, Nodes, Shape, State,
+    TKind, Tokens, add_leaf, checkpoint_here, elab_types_node_at as node_at, plain_type, undo,
+};
 use std::alloc::{AllocError, Global};
 
 // An initialiser that has a fault, as nothing.

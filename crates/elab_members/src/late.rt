@@ -1,23 +1,19 @@
 // Bodies of members that stand in their class: they are read behind the brace (C++14 9.2 p2).
 
 ghost use Rattle.std.specs.Prelude.{◌≡◌, ◌<◌, length, true};
-ghost use Rattle.cpp_ast.specs.Orders.{are_below};
+ghost use Rattle.elab_implicit.specs.cpp_ast.Orders.{are_below};
 
 use crate::early::late_defaults;
 use crate::methods::method_body;
 use crate::syntax::kids_in;
-use class_members::{Header, Home};
 use class_table::kids::rest_from;
 use class_table::method_of;
 use class_table::texts::body_in;
-use cpp_ast::{NodeId, NodeKind, Nodes};
-use cpp_lex::Tokens;
-use cpp_tree::{ElabFault, FuncKind, IllRule};
-use elab_ctx::Env;
 use elab_decls::first_same;
-use elab_scopes::{MakeLambdas, State};
-use elab_types::specifiers::ill;
-use elab_types::syntax::{node_at, place};
+use elab_implicit::below::{
+    ElabFault, Env, FuncKind, Header, Home, IllRule, MakeLambdas, NodeId, NodeKind, Nodes, State,
+    Tokens, elab_types_node_at as node_at, ill, place,
+};
 use std::alloc::Global;
 
 // The function of the class that a header declares.

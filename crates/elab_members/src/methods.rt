@@ -1,17 +1,14 @@
 // The bodies of members (C++14 9.3, 12.1, 12.4).
 
 ghost use Rattle.std.specs.Prelude.{◌≡◌, ◌<◌, length, true};
-ghost use Rattle.cpp_ast.specs.Orders.{are_below};
+ghost use Rattle.elab_implicit.specs.cpp_ast.Orders.{are_below};
 
 use crate::constructors::constructor_body;
 use crate::destructors::destructor_body;
-use class_members::Header;
-use cpp_ast::{NodeId, Nodes};
-use cpp_lex::Tokens;
-use cpp_tree::{ElabFault, FuncKind};
-use cpp_types::{Shape, Ty};
-use elab_entry::function_body;
-use elab_scopes::{MakeLambdas, State};
+use elab_implicit::below::{
+    ElabFault, FuncKind, Header, MakeLambdas, NodeId, Nodes, Shape, State, Tokens, Ty,
+    function_body,
+};
 use std::alloc::Global;
 
 /// The type of the object of a member function.

@@ -1,25 +1,19 @@
 // Members that are defined outside their class (C++14 9.3 p2, 12.1, 12.4).
 
 ghost use Rattle.std.specs.Prelude.{◌≡◌, ◌<◌, ◌≤◌, length, true, IfOk};
-ghost use Rattle.cpp_ast.specs.Orders.{are_below};
+ghost use Rattle.elab_implicit.specs.cpp_ast.Orders.{are_below};
 
 use crate::methods::method_body;
 use crate::owners::{class_name, owner_named};
-use class_members::overriding::is_destructor_name;
-use class_members::{Header, Storage, has_function, text_sized};
 use class_table::kids::{kid_at, rest_from};
 use class_table::methods::{Method, declared_written, type_written};
 use class_table::texts::{body_end, body_in, text_between, token_end};
 use class_table::{Started, header_in, name_of, special_header, started_from};
-use cpp_ast::{NodeId, Nodes};
-use cpp_lex::Tokens;
-use cpp_tree::{ElabFault, FuncKind, IllRule, Linkage};
-use cpp_types::{At, Shape};
-use elab_ctx::{Env, Work};
 use elab_decls::{agrees, define_function, first_same};
-use elab_names::parts::plain_type;
-use elab_scopes::{MakeLambdas, State};
-use elab_types::specifiers::ill;
+use elab_implicit::below::{
+    At, ElabFault, Env, FuncKind, Header, IllRule, Linkage, MakeLambdas, NodeId, Nodes, Shape,
+    State, Storage, Tokens, Work, has_function, ill, is_destructor_name, plain_type, text_sized,
+};
 use std::alloc::{AllocError, Global};
 
 // The header of a member function that is no constructor and no destructor.

@@ -1,13 +1,9 @@
 // The class before `::` (C++14 9.3 p2).
 
-use cpp_lex::Tokens;
-use cpp_tree::{ElabFault, IllRule};
-use cpp_types::{At, Ty};
-use elab_ctx::{Env, class_at, completion};
-use elab_init::class_number;
-use elab_types::specifiers::ill;
-use elab_types::syntax::spelling;
-use elab_types::types::type_named;
+use elab_implicit::below::{
+    At, ElabFault, Env, IllRule, Tokens, Ty, class_at, class_number, completion, ill, spelling,
+    type_named,
+};
 
 // The class that a type is; it is complete.
 fn owner_class(env: &Env, at: At, ty: &Ty) -> Result<u32, ElabFault> {

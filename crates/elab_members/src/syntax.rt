@@ -1,11 +1,9 @@
 // Kids of syntax nodes.
 
 ghost use Rattle.std.specs.Prelude.{◌≡◌, ◌<◌, ◌+◌, length, true, MatchOption};
-ghost use Rattle.cpp_ast.specs.Orders.{are_below};
+ghost use Rattle.elab_implicit.specs.cpp_ast.Orders.{are_below};
 
-use cpp_ast::{NodeId, NodeKind, Nodes};
-use elab_types::kids::{Kids, kids_of};
-use elab_types::syntax::node_at;
+use elab_implicit::below::{Kids, NodeId, NodeKind, Nodes, elab_types_node_at as node_at, kids_of};
 
 /// The kids of a node, each of which is one of the nodes.
 pub fn kids_in(nodes: &Nodes, id: NodeId) -> &[NodeId]

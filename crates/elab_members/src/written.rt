@@ -1,26 +1,17 @@
 // What is written for the parts of an object in a constructor (C++14 12.6.2).
 
 ghost use Rattle.std.specs.Prelude.{◌≡◌, ◌<◌, length, true};
-ghost use Rattle.cpp_ast.specs.Orders.{are_below};
-ghost use Rattle.elab_ctx.specs.Operands.{are_in};
-ghost use Rattle.elab_scopes.specs.States.{made};
+ghost use Rattle.elab_implicit.specs.cpp_ast.Orders.{are_below};
+ghost use Rattle.elab_implicit.specs.elab_ctx.Operands.{are_in};
+ghost use Rattle.elab_implicit.specs.elab_scopes.States.{made};
 
-use cpp_ast::{NodeId, NodeKind, Nodes};
-use cpp_lex::Tokens;
-use cpp_tree::{ElabFault, IllRule, TNodeId};
-use cpp_types::{At, Ty};
-use elab_braces::{directly_initialised, values_place};
-use elab_conv::types::unqualified_type;
-use elab_ctx::{Env, Operand};
+use elab_implicit::below::{
+    At, ElabFault, Env, IllRule, MakeLambdas, NodeId, NodeKind, Nodes, Operand, State, TNodeId,
+    Tokens, Ty, all_lambdas, class_number, directly_initialised, elab_types_node_at as node_at,
+    full, ill, place, spelling, type_named, unqualified_type, values, values_place,
+};
 use elab_implicit::given::{Given, allow_base, given_for, restore_base};
 use elab_implicit::parts::{base_of_class, member_of_class, member_type};
-use elab_init::class_number;
-use elab_scopes::full::{all_lambdas, full};
-use elab_scopes::reading::values;
-use elab_scopes::{MakeLambdas, State};
-use elab_types::specifiers::ill;
-use elab_types::syntax::{node_at, place, spelling};
-use elab_types::types::type_named;
 use std::alloc::{AllocError, Global};
 
 fn keep_given(list: &mut Vec<Given>, given: Given) -> Result<(), AllocError> {

@@ -1,20 +1,20 @@
 -- Rows by what an expression names.
 use Rattle.std.proofs.Common.{◌≡◌, ℕ, ◌==◌, false, List, [], ◌∷◌, length, Err, refl, sym, ap, ◌∙◌, subst}
-use Rattle.cpp_types.specs.declared.classes.At.{At}
-use Rattle.cpp_tree.specs.declared.faults.ElabFault.{ElabFault}
-use Rattle.cpp_tree.specs.declared.faults.ElabFault.TheVariants.{Ill}
-use Rattle.cpp_tree.specs.declared.faults.IllRule.TheVariants.{BadOperand}
-use Rattle.cpp_tree.specs.declared.arena.TNodeId.{TNodeId}
-use Rattle.cpp_tree.specs.Arena.{trees_at}
-use Rattle.elab_ctx.specs.Says.{Faults, place_in}
-use Rattle.cpp_types.specs.Typ.{Typ, typ, void}
-use Rattle.cpp_types.specs.declared.ranks.Cat.{Cat}
-use Rattle.cpp_types.specs.declared.ranks.Cat.TheVariants.{Lvalue}
-use Rattle.cpp_tree.specs.declared.kinds.TKind.{TKind}
-use Rattle.cpp_tree.specs.declared.kinds.TKind.TheVariants.{Function, Default, Builtin}
-use Rattle.cpp_tree.specs.Trees.{Tree, node, Trees, kind_of, typ_in, cat_of, kids_of}
-use Rattle.elab_ctx.specs.Ctx.{Ctx}
-use Rattle.elab_rules.specs.Names.{resolved, resolved_function}
+use Rattle.elab_conv.specs.cpp_types.declared.classes.At.{At}
+use Rattle.elab_conv.specs.cpp_tree.declared.faults.ElabFault.{ElabFault}
+use Rattle.elab_conv.specs.cpp_tree.declared.faults.ElabFault.TheVariants.{Ill}
+use Rattle.elab_conv.specs.cpp_tree.declared.faults.IllRule.TheVariants.{BadOperand}
+use Rattle.elab_conv.specs.cpp_tree.declared.arena.TNodeId.{TNodeId}
+use Rattle.elab_conv.specs.cpp_tree.Arena.{trees_at}
+use Rattle.elab_conv.specs.elab_ctx.Says.{Faults, place_in}
+use Rattle.elab_conv.specs.cpp_types.Typ.{Typ, typ, void}
+use Rattle.elab_conv.specs.cpp_types.declared.ranks.Cat.{Cat}
+use Rattle.elab_conv.specs.cpp_types.declared.ranks.Cat.TheVariants.{Lvalue}
+use Rattle.elab_conv.specs.cpp_tree.declared.kinds.TKind.{TKind}
+use Rattle.elab_conv.specs.cpp_tree.declared.kinds.TKind.TheVariants.{Function, Default, Builtin}
+use Rattle.elab_conv.specs.cpp_tree.Trees.{Tree, node, Trees, kind_of, typ_in, cat_of, kids_of}
+use Rattle.elab_conv.specs.elab_ctx.Ctx.{Ctx}
+use Rattle.elab_conv.specs.elab_rules.Names.{resolved, resolved_function}
 use Rattle.elab_names.specs.declared.resolving.Callee.{Callee}
 use Rattle.elab_names.specs.declared.resolving.Callee.TheVariants.{Functions}
 use Rattle.elab_names.specs.Callees.{callee_in, callee_at, resolved_by}

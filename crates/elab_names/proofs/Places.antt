@@ -1,10 +1,10 @@
 -- Where members lie.
 use Rattle.std.proofs.Common.{◌≡◌, ℕ, zero, suc, ◌<◌, ◌≤◌, List, [], ◌∷◌, length, map, Option, Some, None, slice_get, refl, sym, ap, ◌∙◌, arith}
-use Rattle.cpp_types.specs.declared.classes.ClassRec.{ClassRec}
-use Rattle.cpp_types.specs.declared.classes.MemberRec.{MemberRec}
-use Rattle.cpp_types.specs.Class.{Class, Member, class_of, member_of}
-use Rattle.cpp_layout.specs.Measured.{HasMember, member_offset}
-use Rattle.elab_rules.specs.Names.{offset_at, offset_of_member, members_in}
+use Rattle.elab_conv.specs.cpp_types.declared.classes.ClassRec.{ClassRec}
+use Rattle.elab_conv.specs.cpp_types.declared.classes.MemberRec.{MemberRec}
+use Rattle.elab_conv.specs.cpp_types.Class.{Class, Member, class_of, member_of}
+use Rattle.elab_conv.specs.cpp_layout.Measured.{HasMember, member_offset}
+use Rattle.elab_conv.specs.elab_rules.Names.{offset_at, offset_of_member, members_in}
 
 length_members : (ms : List MemberRec) → length (map member_of ms) ≡ length ms
 length_members [] = refl

@@ -1,17 +1,17 @@
 -- What an expression names, where it is called or taken as a value.
 use Rattle.std.specs.Prelude.{Result, Ok, Err}
-use Rattle.cpp_types.specs.Typ.{Typ, typ, void}
-use Rattle.cpp_types.specs.declared.ranks.Cat.{Cat}
-use Rattle.cpp_types.specs.declared.ranks.Cat.TheVariants.{Lvalue}
-use Rattle.cpp_tree.specs.declared.kinds.TKind.{TKind}
-use Rattle.cpp_tree.specs.declared.kinds.TKind.TheVariants.{Function, Default, Builtin}
-use Rattle.cpp_tree.specs.declared.faults.ElabFault.{ElabFault}
-use Rattle.cpp_tree.specs.declared.faults.ElabFault.TheVariants.{Ill}
-use Rattle.cpp_tree.specs.declared.faults.IllRule.TheVariants.{OutOfProfile, BadOperand}
-use Rattle.cpp_tree.specs.Trees.{Tree, kind_of, typ_in, cat_of, kids_of}
-use Rattle.elab_ctx.specs.Ctx.{Ctx}
-use Rattle.elab_ctx.specs.Says.{place_in}
-use Rattle.elab_rules.specs.Names.{resolved_function}
+use Rattle.elab_conv.specs.cpp_types.Typ.{Typ, typ, void}
+use Rattle.elab_conv.specs.cpp_types.declared.ranks.Cat.{Cat}
+use Rattle.elab_conv.specs.cpp_types.declared.ranks.Cat.TheVariants.{Lvalue}
+use Rattle.elab_conv.specs.cpp_tree.declared.kinds.TKind.{TKind}
+use Rattle.elab_conv.specs.cpp_tree.declared.kinds.TKind.TheVariants.{Function, Default, Builtin}
+use Rattle.elab_conv.specs.cpp_tree.declared.faults.ElabFault.{ElabFault}
+use Rattle.elab_conv.specs.cpp_tree.declared.faults.ElabFault.TheVariants.{Ill}
+use Rattle.elab_conv.specs.cpp_tree.declared.faults.IllRule.TheVariants.{OutOfProfile, BadOperand}
+use Rattle.elab_conv.specs.cpp_tree.Trees.{Tree, kind_of, typ_in, cat_of, kids_of}
+use Rattle.elab_conv.specs.elab_ctx.Ctx.{Ctx}
+use Rattle.elab_conv.specs.elab_ctx.Says.{place_in}
+use Rattle.elab_conv.specs.elab_rules.Names.{resolved_function}
 use Rattle.elab_names.specs.declared.resolving.Callee.{Callee}
 use Rattle.elab_names.specs.declared.resolving.Callee.TheVariants.{Functions, Get, Known, Value}
 

@@ -1,18 +1,18 @@
 -- What a name was found to be among the members of a class.
 use Rattle.std.specs.Prelude.{ℕ, false, ◌&&◌, Result, Ok, if◌then◌else◌}
-use Rattle.tx_ints.specs.declared.kinds.IntKind.TheVariants.{ULong}
-use Rattle.cpp_types.specs.declared.classes.At.{At}
-use Rattle.cpp_types.specs.declared.ranks.Cat.TheVariants.{Lvalue}
-use Rattle.cpp_tree.specs.declared.kinds.TKind.TheVariants.{Local, Load}
-use Rattle.cpp_tree.specs.declared.faults.ElabFault.{ElabFault}
-use Rattle.cpp_tree.specs.declared.faults.IllRule.TheVariants.{UnknownName}
-use Rattle.cpp_tree.specs.Typing.{form_in, qualified, is_class_typ}
-use Rattle.elab_ctx.specs.Steps.{and_then, expect}
-use Rattle.elab_rules.specs.Values.{retyped}
-use Rattle.elab_ctx.specs.Ctx.{Ctx, This, Lambda}
-use Rattle.cpp_types.specs.Typ.{Typ, typ_of}
-use Rattle.cpp_tree.specs.Trees.{Tree, node, typ_in, none, one}
-use Rattle.elab_rules.specs.Names.{Found, field, methods, is_pointer, held_by, captured_place, is_const_typ, target_of}
+use Rattle.elab_conv.specs.tx_ints.declared.kinds.IntKind.TheVariants.{ULong}
+use Rattle.elab_conv.specs.cpp_types.declared.classes.At.{At}
+use Rattle.elab_conv.specs.cpp_types.declared.ranks.Cat.TheVariants.{Lvalue}
+use Rattle.elab_conv.specs.cpp_tree.declared.kinds.TKind.TheVariants.{Local, Load}
+use Rattle.elab_conv.specs.cpp_tree.declared.faults.ElabFault.{ElabFault}
+use Rattle.elab_conv.specs.cpp_tree.declared.faults.IllRule.TheVariants.{UnknownName}
+use Rattle.elab_conv.specs.cpp_tree.Typing.{form_in, qualified, is_class_typ}
+use Rattle.elab_conv.specs.elab_ctx.Steps.{and_then, expect}
+use Rattle.elab_conv.specs.elab_rules.Values.{retyped}
+use Rattle.elab_conv.specs.elab_ctx.Ctx.{Ctx, This, Lambda}
+use Rattle.elab_conv.specs.cpp_types.Typ.{Typ, typ_of}
+use Rattle.elab_conv.specs.cpp_tree.Trees.{Tree, node, typ_in, none, one}
+use Rattle.elab_conv.specs.elab_rules.Names.{Found, field, methods, is_pointer, held_by, captured_place, is_const_typ, target_of}
 use Rattle.elab_names.specs.declared.members.FoundMember.{FoundMember}
 use Rattle.elab_names.specs.declared.members.FoundMember.TheVariants as found_member
 

@@ -1,22 +1,22 @@
 // What a lambda captured, and `this` (C++14 5.1.2, 9.3.2).
 
 ghost use Rattle.std.specs.Prelude.{◌≡◌, ◌<◌, length, map, MatchOption, None, Some, IfOk};
-ghost use Rattle.cpp_types.specs.Typ.{typ_of};
-ghost use Rattle.cpp_tree.specs.Arena.{trees_of, tree_at, Adds};
-ghost use Rattle.elab_ctx.specs.Ctx.{ctx_of, work_of, this_of, lambda_of, capture_of};
-ghost use Rattle.elab_ctx.specs.Says.{Gives};
-ghost use Rattle.elab_rules.specs.Names.{same_variable as same_variable_of, captured_from, captured_place as captured_place_of, in_capture as in_capture_of, captured_variable as captured_variable_of, is_outer, variable_in, this_in, this_tree as this_tree_of};
+ghost use Rattle.elab_conv.specs.cpp_types.Typ.{typ_of};
+ghost use Rattle.elab_conv.specs.cpp_tree.Arena.{trees_of, tree_at, Adds};
+ghost use Rattle.elab_conv.specs.elab_ctx.Ctx.{ctx_of, work_of, this_of, lambda_of, capture_of};
+ghost use Rattle.elab_conv.specs.elab_ctx.Says.{Gives};
+ghost use Rattle.elab_conv.specs.elab_rules.Names.{same_variable as same_variable_of, captured_from, captured_place as captured_place_of, in_capture as in_capture_of, captured_variable as captured_variable_of, is_outer, variable_in, this_in, this_tree as this_tree_of};
 ghost use Rattle.elab_names.specs.Members.{referred_capture, copied_capture};
 
 use crate::offsets::offset_at;
 use crate::parts::{ill, part_at, qualified_type};
 use crate::variables::{this_pointer, variable_at};
-use cpp_tree::{ElabFault, IllRule, TKind, TNode, TNodeId, add_unary};
-use cpp_types::{At, Cat, Shape, Ty, copy};
+use elab_conv::below::{
+    At, Capture, Cat, ElabFault, Env, IllRule, IntKind, Lambda, Shape, TKind, TNode, TNodeId, This,
+    Ty, Work, add_unary, copy,
+};
 use elab_conv::valued;
-use elab_ctx::{Capture, Env, Lambda, This, Work};
 use std::alloc::{AllocError, Global};
-use tx_ints::IntKind;
 
 /// Whether two captures are of one variable, or both of `this`.
 pub fn is_same_variable(a: Option<u32>, b: Option<u32>) -> bool

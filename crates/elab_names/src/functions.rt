@@ -1,13 +1,12 @@
 // The functions of a name, by their places in the list of functions.
 
 ghost use Rattle.std.specs.Prelude.{◌≡◌, ◌++◌, ◌∷◌, [], map, option_map, IfOk, OnOk, if◌then◌else◌};
-ghost use Rattle.elab_ctx.specs.Ctx.{func_of};
-ghost use Rattle.elab_rules.specs.Initialising.{same_number, places_from};
-ghost use Rattle.elab_rules.specs.Names.{is_plain_kind, is_method as is_method_of, is_free as is_free_of, first_place, methods};
-ghost use Rattle.elab_rules.specs.Calls.{is_closure_call};
+ghost use Rattle.elab_conv.specs.elab_ctx.Ctx.{func_of};
+ghost use Rattle.elab_conv.specs.elab_rules.Initialising.{same_number, places_from};
+ghost use Rattle.elab_conv.specs.elab_rules.Names.{is_plain_kind, is_method as is_method_of, is_free as is_free_of, first_place, methods};
+ghost use Rattle.elab_conv.specs.elab_rules.Calls.{is_closure_call};
 
-use cpp_tree::FuncKind;
-use elab_ctx::FuncDecl;
+use elab_conv::below::{FuncDecl, FuncKind};
 use std::alloc::{AllocError, Global};
 
 /// Whether a class is the one with a number.

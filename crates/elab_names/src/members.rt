@@ -1,15 +1,14 @@
 // Members by their names (C++14 10.2): the class itself first, then its bases; a name hides those of a base.
 
 ghost use Rattle.std.specs.Prelude.{◌≡◌, map, option_map, slice_get, IfOk};
-ghost use Rattle.cpp_types.specs.Class.{classes_of, member_of, base_of};
-ghost use Rattle.cpp_types.specs.Conversion.{chain};
-ghost use Rattle.elab_ctx.specs.Ctx.{ctx_of};
-ghost use Rattle.elab_rules.specs.Names.{field_from, members_in, own_member as own_member_of, found_along, member_found as member_found_of};
+ghost use Rattle.elab_conv.specs.cpp_types.Class.{classes_of, member_of, base_of};
+ghost use Rattle.elab_conv.specs.cpp_types.Conversion.{chain};
+ghost use Rattle.elab_conv.specs.elab_ctx.Ctx.{ctx_of};
+ghost use Rattle.elab_conv.specs.elab_rules.Names.{field_from, members_in, own_member as own_member_of, found_along, member_found as member_found_of};
 ghost use Rattle.elab_names.specs.Members.{found_of};
 
 use crate::functions::first_method;
-use cpp_types::{ClassRec, MemberRec, Ty};
-use elab_ctx::{Env, completion};
+use elab_conv::below::{ClassRec, Env, MemberRec, Ty, completion};
 use std::alloc::AllocError;
 
 /// What a name is among the members of a class.

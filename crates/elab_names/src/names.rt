@@ -1,23 +1,23 @@
 // Names (C++14 3.4.1, 5.1.1): variables of the function stand inside its class, and that inside the file.
 
 ghost use Rattle.std.specs.Prelude.{◌≡◌, ◌<◌, length, Some, None, IfOk, option_map};
-ghost use Rattle.cpp_types.specs.Typ.{typ_of};
-ghost use Rattle.cpp_names.specs.Names.{found_in};
-ghost use Rattle.cpp_names.specs.declared.entity.Entity.{Entity};
-ghost use Rattle.cpp_tree.specs.Arena.{trees_of, tree_at, Adds};
-ghost use Rattle.elab_ctx.specs.Ctx.{ctx_of, work_of};
-ghost use Rattle.elab_ctx.specs.Says.{Gives};
-ghost use Rattle.elab_rules.specs.Names.{member_of as member_of_tree, enumerator_tree, global_tree, of_entity as of_entity_tree, is_local_entity, file_name as file_name_of, implicit_member as implicit_member_of, member_here as member_here_of, named as named_of, field};
+ghost use Rattle.elab_conv.specs.cpp_types.Typ.{typ_of};
+ghost use Rattle.elab_conv.specs.cpp_names.Names.{found_in};
+ghost use Rattle.elab_conv.specs.cpp_names.declared.entity.Entity.{Entity};
+ghost use Rattle.elab_conv.specs.cpp_tree.Arena.{trees_of, tree_at, Adds};
+ghost use Rattle.elab_conv.specs.elab_ctx.Ctx.{ctx_of, work_of};
+ghost use Rattle.elab_conv.specs.elab_ctx.Says.{Gives};
+ghost use Rattle.elab_conv.specs.elab_rules.Names.{member_of as member_of_tree, enumerator_tree, global_tree, of_entity as of_entity_tree, is_local_entity, file_name as file_name_of, implicit_member as implicit_member_of, member_here as member_here_of, named as named_of, field};
 ghost use Rattle.elab_names.specs.Members.{found_of, pointed_tree};
 
 use crate::captures::{this_tree, variable};
 use crate::members::{FoundMember, member_found};
 use crate::offsets::offset_at;
 use crate::parts::{free_functions, ill, member_functions, part_at, qualified_type, retyped};
-use cpp_names::{Entity, EntityKind};
-use cpp_tree::{ElabFault, IllRule, TKind, TNode, TNodeId, add_leaf};
-use cpp_types::{At, Cat, Shape, Ty, copy};
-use elab_ctx::{Env, Work, node_at};
+use elab_conv::below::{
+    At, Cat, ElabFault, Entity, EntityKind, Env, IllRule, Shape, TKind, TNode, TNodeId, Ty, Work,
+    add_leaf, copy, node_at,
+};
 use std::alloc::{AllocError, Global};
 
 // A data member of an object: the qualifiers of the object are those of the member too.

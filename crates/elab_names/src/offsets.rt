@@ -1,13 +1,11 @@
 // Where members lie.
 
 ghost use Rattle.std.specs.Prelude.{◌≡◌, IfOk};
-ghost use Rattle.cpp_types.specs.Class.{classes_of};
-ghost use Rattle.elab_rules.specs.Names.{offset_at as offset_of};
+ghost use Rattle.elab_conv.specs.cpp_types.Class.{classes_of};
+ghost use Rattle.elab_conv.specs.elab_rules.Names.{offset_at as offset_of};
 
 use crate::parts::plain_type;
-use cpp_layout::{offset, size_align};
-use cpp_types::Shape;
-use elab_ctx::{Env, class_at};
+use elab_conv::below::{Env, Shape, class_at, offset, size_align};
 use std::alloc::AllocError;
 
 /// The offset of a member in the objects of a class, by its index. A class that is not complete, or too large, has no

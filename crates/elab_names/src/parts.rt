@@ -1,19 +1,20 @@
 // Parts of objects as typed nodes.
 
 ghost use Rattle.std.specs.Prelude.{◌≡◌, ◌<◌, ◌||◌, length, IfOk};
-ghost use Rattle.cpp_types.specs.Typ.{typ, typ_of, shape_form};
-ghost use Rattle.cpp_tree.specs.Arena.{trees_of, tree_at, Adds};
-ghost use Rattle.cpp_tree.specs.Trees.{none, one};
-ghost use Rattle.cpp_tree.specs.Notation.{plain};
-ghost use Rattle.elab_rules.specs.Values.{part_at as part_of, retyped as retyped_of};
-ghost use Rattle.elab_rules.specs.Names.{functions};
-ghost use Rattle.cpp_tree.specs.Typing.{qualified, is_class_typ};
-ghost use Rattle.cpp_tree.specs.declared.faults.ElabFault.TheVariants.{Ill};
+ghost use Rattle.elab_conv.specs.cpp_types.Typ.{typ, typ_of, shape_form};
+ghost use Rattle.elab_conv.specs.cpp_tree.Arena.{trees_of, tree_at, Adds};
+ghost use Rattle.elab_conv.specs.cpp_tree.Trees.{none, one};
+ghost use Rattle.elab_conv.specs.cpp_tree.Notation.{plain};
+ghost use Rattle.elab_conv.specs.elab_rules.Values.{part_at as part_of, retyped as retyped_of};
+ghost use Rattle.elab_conv.specs.elab_rules.Names.{functions};
+ghost use Rattle.elab_conv.specs.cpp_tree.Typing.{qualified, is_class_typ};
+ghost use Rattle.elab_conv.specs.cpp_tree.declared.faults.ElabFault.TheVariants.{Ill};
 
-use cpp_tree::{ElabFault, IllRule, TKind, TNode, TNodeId, add_binary, add_leaf, add_unary};
-use cpp_types::{At, Cat, Shape, Ty, copy};
+use elab_conv::below::{
+    At, BinOp, Cat, ElabFault, IllRule, IntKind, Shape, TKind, TNode, TNodeId, Ty, add_binary,
+    add_leaf, add_unary, copy,
+};
 use std::alloc::{AllocError, Global};
-use tx_ints::{BinOp, IntKind};
 
 /// A type without qualifiers.
 pub fn plain_type(shape: Shape) -> Ty

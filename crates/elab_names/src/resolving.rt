@@ -1,23 +1,24 @@
 // One function for those that an expression names, where it is no call (C++14 13.4).
 
 ghost use Rattle.std.specs.Prelude.{◌≡◌, ◌<◌, ◌∷◌, [], length, IfOk};
-ghost use Rattle.cpp_types.specs.Typ.{typ_of, signature_of, func};
-ghost use Rattle.cpp_tree.specs.Notation.{plain};
-ghost use Rattle.cpp_types.specs.Conversion.{is_lvalue as is_lvalue_of};
-ghost use Rattle.cpp_tree.specs.Trees.{none};
-ghost use Rattle.cpp_tree.specs.Typing.{is_void as is_void_typ};
-ghost use Rattle.cpp_tree.specs.Arena.{trees_of, tree_at};
-ghost use Rattle.elab_ctx.specs.Ctx.{ctx_of};
-ghost use Rattle.elab_ctx.specs.Says.{Gives};
-ghost use Rattle.elab_rules.specs.Names.{only_function, resolved_function, resolved as resolved_of};
-ghost use Rattle.elab_rules.specs.Initialising.{func_at};
+ghost use Rattle.elab_conv.specs.cpp_types.Typ.{typ_of, signature_of, func};
+ghost use Rattle.elab_conv.specs.cpp_tree.Notation.{plain};
+ghost use Rattle.elab_conv.specs.cpp_types.Conversion.{is_lvalue as is_lvalue_of};
+ghost use Rattle.elab_conv.specs.cpp_tree.Trees.{none};
+ghost use Rattle.elab_conv.specs.cpp_tree.Typing.{is_void as is_void_typ};
+ghost use Rattle.elab_conv.specs.cpp_tree.Arena.{trees_of, tree_at};
+ghost use Rattle.elab_conv.specs.elab_ctx.Ctx.{ctx_of};
+ghost use Rattle.elab_conv.specs.elab_ctx.Says.{Gives};
+ghost use Rattle.elab_conv.specs.elab_rules.Names.{only_function, resolved_function, resolved as resolved_of};
+ghost use Rattle.elab_conv.specs.elab_rules.Initialising.{func_at};
 ghost use Rattle.elab_names.specs.Callees.{callee_in};
 
 use crate::functions::free_places;
 use crate::parts::{ill, plain_type};
-use cpp_tree::{Builtin, ElabFault, IllRule, TKind, TNode, TNodeId, add_leaf};
-use cpp_types::{At, Cat, FnTy, Shape, Ty, copy_function};
-use elab_ctx::{Env, function_at, kids_at, node_at};
+use elab_conv::below::{
+    At, Builtin, Cat, ElabFault, Env, FnTy, IllRule, Shape, TKind, TNode, TNodeId, Ty, add_leaf,
+    copy_function, function_at, kids_at, node_at,
+};
 use std::alloc::{AllocError, Global};
 
 /// What an expression names, where it is called or taken as a value.

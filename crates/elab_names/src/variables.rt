@@ -1,20 +1,20 @@
 // Variables of the function at hand, `this`, and what a lambda captured (C++14 5.1.1, 5.1.2, 9.3.2).
 
 ghost use Rattle.std.specs.Prelude.{◌≡◌, map, unwrap_or, slice_get, None, IfOk};
-ghost use Rattle.cpp_types.specs.Typ.{typ_of};
-ghost use Rattle.cpp_tree.specs.Arena.{trees_of, Adds};
-ghost use Rattle.elab_ctx.specs.Ctx.{ctx_of, work_of, this_of, variable_of};
-ghost use Rattle.elab_ctx.specs.Says.{Gives};
-ghost use Rattle.elab_rules.specs.Names.{held_by as held_by_of, is_pointer as is_pointer_of, variable_tree as variable_tree_of, this_pointer as this_pointer_of, own_variable as own_variable_of, variable_in};
+ghost use Rattle.elab_conv.specs.cpp_types.Typ.{typ_of};
+ghost use Rattle.elab_conv.specs.cpp_tree.Arena.{trees_of, Adds};
+ghost use Rattle.elab_conv.specs.elab_ctx.Ctx.{ctx_of, work_of, this_of, variable_of};
+ghost use Rattle.elab_conv.specs.elab_ctx.Says.{Gives};
+ghost use Rattle.elab_conv.specs.elab_rules.Names.{held_by as held_by_of, is_pointer as is_pointer_of, variable_tree as variable_tree_of, this_pointer as this_pointer_of, own_variable as own_variable_of, variable_in};
 ghost use Rattle.elab_names.specs.Members.{object_tree};
 
 use crate::parts::{ill, is_class_type};
-use cpp_tree::{ElabFault, IllRule, TKind, TNode, TNodeId, add_leaf, add_unary};
-use cpp_types::{At, Cat, Shape, Ty, copy};
+use elab_conv::below::{
+    At, Cat, ElabFault, Env, IllRule, IntKind, Shape, TKind, TNode, TNodeId, This, Ty, Variable,
+    Work, add_leaf, add_unary, copy,
+};
 use elab_conv::types::pointer_to;
-use elab_ctx::{Env, This, Variable, Work};
 use std::alloc::{AllocError, Global};
-use tx_ints::IntKind;
 
 // An address that a slot holds: the slot has the type of its item of the frame.
 fn held_by(

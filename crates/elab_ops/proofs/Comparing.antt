@@ -1,10 +1,10 @@
 -- Comparisons, where an operand is no pointer.
 use Rattle.std.proofs.Common.{◌≡◌, ◌&&◌, Bool, true, false, Option, Some, None, Result, refl}
-use Rattle.tx_ints.specs.declared.kinds.BinOp.{BinOp}
-use Rattle.cpp_types.specs.Typ.{Typ, Form, void, int, enum, null, ptr, ref, array, func, class, closure, tx_ex}
-use Rattle.cpp_types.specs.declared.classes.At.{At}
-use Rattle.elab_ctx.specs.Steps.{Operand}
-use Rattle.elab_rules.specs.Operators.{pointed, comparison_in}
+use Rattle.elab_conv.specs.tx_ints.declared.kinds.BinOp.{BinOp}
+use Rattle.elab_conv.specs.cpp_types.Typ.{Typ, Form, void, int, enum, null, ptr, ref, array, func, class, closure, tx_ex}
+use Rattle.elab_conv.specs.cpp_types.declared.classes.At.{At}
+use Rattle.elab_conv.specs.elab_ctx.Steps.{Operand}
+use Rattle.elab_conv.specs.elab_rules.Operators.{pointed, comparison_in}
 use Rattle.elab_ops.specs.Forms.{with_null, null_with, scalars_compared}
 
 pub with_null_is : (op : BinOp) (at : At) (t : Typ) (f : Form) (a b : Operand) → pointed f ≡ None → comparison_in op at (ptr t) f a b ≡ with_null op at t a b

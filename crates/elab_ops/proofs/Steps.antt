@@ -1,15 +1,15 @@
 -- Two trees and a node over both, in three steps.
 use Rattle.std.proofs.Common.{◌≡◌, ◌<◌, ◌∙◌, List, length, Result, Ok, Err, IfOk, OnOk, refl, sym, ap}
 use Rattle.std.specs.declared.alloc.AllocError.{AllocError}
-use Rattle.cpp_tree.specs.declared.arena.TNodeId.{TNodeId}
-use Rattle.cpp_tree.specs.Trees.{Tree}
-use Rattle.cpp_tree.specs.Arena.{tree_at, Grows, Adds}
-use Rattle.cpp_tree.specs.declared.faults.ElabFault.{ElabFault}
-use Rattle.elab_ctx.specs.Ctx.{Ctx, Work}
-use Rattle.elab_ctx.specs.Steps.{and_then}
-use Rattle.elab_ctx.specs.Says.{Given, Gives}
-use Rattle.elab_ctx.proofs.Looks.{grows_trans, at_grown}
-use Rattle.elab_ctx.proofs.Making.{gives_same, gives_grown}
+use Rattle.elab_conv.specs.cpp_tree.declared.arena.TNodeId.{TNodeId}
+use Rattle.elab_conv.specs.cpp_tree.Trees.{Tree}
+use Rattle.elab_conv.specs.cpp_tree.Arena.{tree_at, Grows, Adds}
+use Rattle.elab_conv.specs.cpp_tree.declared.faults.ElabFault.{ElabFault}
+use Rattle.elab_conv.specs.elab_ctx.Ctx.{Ctx, Work}
+use Rattle.elab_conv.specs.elab_ctx.Steps.{and_then}
+use Rattle.elab_conv.specs.elab_ctx.Says.{Given, Gives}
+use Rattle.elab_conv.proofs.elab_ctx.Looks.{grows_trans, at_grown}
+use Rattle.elab_conv.proofs.elab_ctx.Making.{gives_same, gives_grown}
 
 pub pair_made : (n0 n1 n2 n3 : List Tree) (b x y r : TNodeId) (f : Tree → Tree → Tree) (g : Tree → Tree) (t : Tree) → b.0 < length n0 → Adds n0 n1 x t → Adds n1 n2 y (g (tree_at n1 b)) → Adds n2 n3 r (f (tree_at n2 x) (tree_at n2 y)) → Adds n0 n3 r (f t (g (tree_at n0 b)))
 pair_made n0 n1 n2 n3 b x y r f g t h xs ys rs =

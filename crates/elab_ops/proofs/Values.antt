@@ -1,26 +1,26 @@
 -- What the values of operands are, by the types of the operands.
 use Rattle.std.proofs.Common.{◌≡◌, ◌∙◌, ◌||◌, Bool, true, false, Option, Some, None, Result, Ok, Err, refl, sym, ap, cond}
-use Rattle.tx_ints.specs.declared.kinds.IntKind.{IntKind}
-use Rattle.tx_ints.specs.declared.kinds.IntKind.TheVariants.{Bool as BoolKind, Int}
-use Rattle.tx_ints.specs.declared.kinds.BinOp.TheVariants.{Eq}
-use Rattle.cpp_tree.specs.declared.kinds.TKind.TheVariants.{Conditional}
-use Rattle.cpp_tree.specs.declared.faults.ElabFault.{ElabFault}
-use Rattle.cpp_types.specs.Typ.{Typ, typ, Form, void, int, enum, null, ptr, ref, array, func, class, closure, tx_ex}
-use Rattle.cpp_types.specs.Equal.{form_eq}
-use Rattle.cpp_types.specs.Conversion.{decayed, bound, has_value, step_of}
-use Rattle.cpp_types.specs.declared.classes.At.{At}
-use Rattle.cpp_types.specs.declared.ranks.Cat.TheVariants.{Lvalue, Prvalue}
-use Rattle.cpp_types.specs.declared.ranks.Step.{Step}
-use Rattle.cpp_types.specs.declared.ranks.Binding.TheVariants.{Value}
-use Rattle.cpp_types.specs.declared.ranks.Conversion.{Conversion}
-use Rattle.cpp_tree.specs.declared.faults.IllRule.TheVariants.{NoConversion}
-use Rattle.cpp_tree.specs.Trees.{Tree, node, three, typ_in}
-use Rattle.cpp_tree.specs.Typing.{form_in}
-use Rattle.elab_ctx.specs.Ctx.{Ctx, Work}
-use Rattle.elab_ctx.specs.Steps.{and_then, expect, Operand, Made}
-use Rattle.elab_rules.specs.Values.{valued, stepped, bool_type, number, in_kind}
-use Rattle.elab_rules.specs.Initialising.{bound_by}
-use Rattle.elab_rules.specs.Operators.{value, value_form, arithmetic, is_null, truth, logical, negation, false_at, true_at, compared}
+use Rattle.elab_conv.specs.tx_ints.declared.kinds.IntKind.{IntKind}
+use Rattle.elab_conv.specs.tx_ints.declared.kinds.IntKind.TheVariants.{Bool as BoolKind, Int}
+use Rattle.elab_conv.specs.tx_ints.declared.kinds.BinOp.TheVariants.{Eq}
+use Rattle.elab_conv.specs.cpp_tree.declared.kinds.TKind.TheVariants.{Conditional}
+use Rattle.elab_conv.specs.cpp_tree.declared.faults.ElabFault.{ElabFault}
+use Rattle.elab_conv.specs.cpp_types.Typ.{Typ, typ, Form, void, int, enum, null, ptr, ref, array, func, class, closure, tx_ex}
+use Rattle.elab_conv.specs.cpp_types.Equal.{form_eq}
+use Rattle.elab_conv.specs.cpp_types.Conversion.{decayed, bound, has_value, step_of}
+use Rattle.elab_conv.specs.cpp_types.declared.classes.At.{At}
+use Rattle.elab_conv.specs.cpp_types.declared.ranks.Cat.TheVariants.{Lvalue, Prvalue}
+use Rattle.elab_conv.specs.cpp_types.declared.ranks.Step.{Step}
+use Rattle.elab_conv.specs.cpp_types.declared.ranks.Binding.TheVariants.{Value}
+use Rattle.elab_conv.specs.cpp_types.declared.ranks.Conversion.{Conversion}
+use Rattle.elab_conv.specs.cpp_tree.declared.faults.IllRule.TheVariants.{NoConversion}
+use Rattle.elab_conv.specs.cpp_tree.Trees.{Tree, node, three, typ_in}
+use Rattle.elab_conv.specs.cpp_tree.Typing.{form_in}
+use Rattle.elab_conv.specs.elab_ctx.Ctx.{Ctx, Work}
+use Rattle.elab_conv.specs.elab_ctx.Steps.{and_then, expect, Operand, Made}
+use Rattle.elab_conv.specs.elab_rules.Values.{valued, stepped, bool_type, number, in_kind}
+use Rattle.elab_conv.specs.elab_rules.Initialising.{bound_by}
+use Rattle.elab_conv.specs.elab_rules.Operators.{value, value_form, arithmetic, is_null, truth, logical, negation, false_at, true_at, compared}
 use Rattle.elab_ops.specs.Forms.{value_initial, logical_in, negation_in}
 
 pub form_is : (at : At) (e : Tree) → form_in (typ_in (valued at e)) ≡ decayed (typ_in e)

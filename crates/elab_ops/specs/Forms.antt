@@ -1,23 +1,23 @@
 -- Operators by the forms of their operands' values.
 use Rattle.std.specs.Prelude.{Bool, true, false, Result, Ok, if◌then◌else◌}
-use Rattle.tx_ints.specs.declared.kinds.IntKind.TheVariants.{Int, ULong}
-use Rattle.tx_ints.specs.declared.kinds.BinOp.{BinOp}
-use Rattle.tx_ints.specs.declared.kinds.BinOp.TheVariants.{Eq}
-use Rattle.cpp_types.specs.Typ.{Typ, Form, enum}
-use Rattle.cpp_types.specs.Equal.{form_eq}
-use Rattle.cpp_types.specs.declared.classes.At.{At}
-use Rattle.cpp_tree.specs.declared.faults.ElabFault.{ElabFault}
-use Rattle.cpp_tree.specs.declared.faults.IllRule.TheVariants.{BadOperand, NoConversion}
-use Rattle.cpp_types.specs.declared.ranks.Cat.TheVariants.{Lvalue, Prvalue}
-use Rattle.cpp_tree.specs.declared.kinds.TKind.TheVariants.{Conditional}
-use Rattle.cpp_tree.specs.Trees.{Tree, node, three, typ_in}
-use Rattle.cpp_tree.specs.Typing.{form_in}
-use Rattle.elab_ctx.specs.Ctx.{Ctx}
-use Rattle.elab_ctx.specs.Steps.{and_then, check, expect, Operand}
-use Rattle.cpp_types.specs.declared.ranks.Conversion.{Conversion}
-use Rattle.elab_rules.specs.Values.{valued, stepped, bool_type, retyped, number, in_kind}
-use Rattle.elab_rules.specs.Initialising.{conversion}
-use Rattle.elab_rules.specs.Operators.{value, as_pointer, arithmetic, is_null, pointed, compared, comparison_by, comparison_in, is_comparison, is_sum, sum_of, arithmetic_of, false_at, true_at}
+use Rattle.elab_conv.specs.tx_ints.declared.kinds.IntKind.TheVariants.{Int, ULong}
+use Rattle.elab_conv.specs.tx_ints.declared.kinds.BinOp.{BinOp}
+use Rattle.elab_conv.specs.tx_ints.declared.kinds.BinOp.TheVariants.{Eq}
+use Rattle.elab_conv.specs.cpp_types.Typ.{Typ, Form, enum}
+use Rattle.elab_conv.specs.cpp_types.Equal.{form_eq}
+use Rattle.elab_conv.specs.cpp_types.declared.classes.At.{At}
+use Rattle.elab_conv.specs.cpp_tree.declared.faults.ElabFault.{ElabFault}
+use Rattle.elab_conv.specs.cpp_tree.declared.faults.IllRule.TheVariants.{BadOperand, NoConversion}
+use Rattle.elab_conv.specs.cpp_types.declared.ranks.Cat.TheVariants.{Lvalue, Prvalue}
+use Rattle.elab_conv.specs.cpp_tree.declared.kinds.TKind.TheVariants.{Conditional}
+use Rattle.elab_conv.specs.cpp_tree.Trees.{Tree, node, three, typ_in}
+use Rattle.elab_conv.specs.cpp_tree.Typing.{form_in}
+use Rattle.elab_conv.specs.elab_ctx.Ctx.{Ctx}
+use Rattle.elab_conv.specs.elab_ctx.Steps.{and_then, check, expect, Operand}
+use Rattle.elab_conv.specs.cpp_types.declared.ranks.Conversion.{Conversion}
+use Rattle.elab_conv.specs.elab_rules.Values.{valued, stepped, bool_type, retyped, number, in_kind}
+use Rattle.elab_conv.specs.elab_rules.Initialising.{conversion}
+use Rattle.elab_conv.specs.elab_rules.Operators.{value, as_pointer, arithmetic, is_null, pointed, compared, comparison_by, comparison_in, is_comparison, is_sum, sum_of, arithmetic_of, false_at, true_at}
 
 abbrev pub with_null : BinOp → At → Typ → Operand → Operand → Result Tree ElabFault
 with_null op at t a b = and_then (check at BadOperand (is_null b)) (λ y. Ok (compared op ULong at (value a) (as_pointer t b)))

@@ -1,22 +1,22 @@
 // Arithmetic (C++14 5.3.1, 5.6 to 5.8, 5.11 to 5.13), and operations on values.
 
 ghost use Rattle.std.specs.Prelude.{◌≡◌, ◌<◌, length, IfOk};
-ghost use Rattle.cpp_types.specs.Typ.{typ_of, int};
-ghost use Rattle.cpp_tree.specs.Notation.{plain};
-ghost use Rattle.cpp_tree.specs.Arena.{trees_of, tree_at, Adds};
-ghost use Rattle.elab_ctx.specs.Operands.{operand_in};
-ghost use Rattle.elab_ctx.specs.Says.{Gives};
-ghost use Rattle.elab_rules.specs.Values.{number, operated, in_kind};
-ghost use Rattle.elab_rules.specs.Operators.{value, value_form, arithmetic, as_kind, arithmetic_of, ones, minus, complement, plus};
+ghost use Rattle.elab_conv.specs.cpp_types.Typ.{typ_of, int};
+ghost use Rattle.elab_conv.specs.cpp_tree.Notation.{plain};
+ghost use Rattle.elab_conv.specs.cpp_tree.Arena.{trees_of, tree_at, Adds};
+ghost use Rattle.elab_conv.specs.elab_ctx.Operands.{operand_in};
+ghost use Rattle.elab_conv.specs.elab_ctx.Says.{Gives};
+ghost use Rattle.elab_conv.specs.elab_rules.Values.{number, operated, in_kind};
+ghost use Rattle.elab_conv.specs.elab_rules.Operators.{value, value_form, arithmetic, as_kind, arithmetic_of, ones, minus, complement, plus};
 
 use crate::names::is_shift;
 use crate::operands::{as_kind, ill, int_type, number_kind, value};
-use cpp_tree::{ElabFault, IllRule, TKind, TNode, TNodeId, add_binary, add_leaf};
-use cpp_types::{At, Cat, Ty};
+use elab_conv::below::{
+    At, BinOp, Cat, ElabFault, IllRule, IntKind, Operand, TKind, TNode, TNodeId, Ty, add_binary,
+    add_leaf, promote, usual, value_of_word, word_of,
+};
 use elab_conv::converted;
-use elab_ctx::Operand;
 use std::alloc::{AllocError, Global};
-use tx_ints::{BinOp, IntKind, promote, usual, value_of_word, word_of};
 
 /// A number as a node.
 pub fn number(

@@ -1,24 +1,24 @@
 // Comparisons (C++14 5.9, 5.10), and operators by their operands.
 
 ghost use Rattle.std.specs.Prelude.{◌≡◌, ◌<◌, length, None};
-ghost use Rattle.cpp_types.specs.Typ.{typ_of, ptr};
-ghost use Rattle.cpp_tree.specs.Arena.{trees_of};
-ghost use Rattle.cpp_tree.specs.Typing.{form_in};
-ghost use Rattle.elab_ctx.specs.Ctx.{ctx_of};
-ghost use Rattle.elab_ctx.specs.Operands.{operand_in};
-ghost use Rattle.elab_ctx.specs.Says.{Gives};
-ghost use Rattle.elab_rules.specs.Operators.{comparison_by, comparison_in, binary, pointed};
+ghost use Rattle.elab_conv.specs.cpp_types.Typ.{typ_of, ptr};
+ghost use Rattle.elab_conv.specs.cpp_tree.Arena.{trees_of};
+ghost use Rattle.elab_conv.specs.cpp_tree.Typing.{form_in};
+ghost use Rattle.elab_conv.specs.elab_ctx.Ctx.{ctx_of};
+ghost use Rattle.elab_conv.specs.elab_ctx.Operands.{operand_in};
+ghost use Rattle.elab_conv.specs.elab_ctx.Says.{Gives};
+ghost use Rattle.elab_conv.specs.elab_rules.Operators.{comparison_by, comparison_in, binary, pointed};
 ghost use Rattle.elab_ops.specs.Forms.{with_null, null_with, is_scoped, scalars_compared, binary_in};
 
 use crate::arithmetic::{arithmetic_of, on_numbers, on_values, operated};
 use crate::names::{is_comparison, is_sum};
 use crate::operands::{arithmetic, as_pointer, ill, int_type, is_null, pointed, value, value_type};
 use crate::pointers::sum_of;
-use cpp_tree::{ElabFault, IllRule, TNode, TNodeId};
-use cpp_types::{At, Shape, Ty, equal_shapes, equal_types};
-use elab_ctx::{Env, Operand};
+use elab_conv::below::{
+    At, BinOp, ElabFault, Env, IllRule, IntKind, Operand, Shape, TNode, TNodeId, Ty, equal_shapes,
+    equal_types, usual,
+};
 use std::alloc::Global;
-use tx_ints::{BinOp, IntKind, usual};
 
 // Two numbers of these kinds, in their common kind.
 fn comparison_by(

@@ -1,10 +1,10 @@
 // Names of operators.
 
 ghost use Rattle.std.specs.Prelude.{◌≡◌};
-ghost use Rattle.tx_ints.specs.Integers.{is_shift};
-ghost use Rattle.elab_rules.specs.Operators.{binary_operator, compound_operator, is_comparison, is_sum};
+ghost use Rattle.elab_conv.specs.tx_ints.Integers.{is_shift};
+ghost use Rattle.elab_conv.specs.elab_rules.Operators.{binary_operator, compound_operator, is_comparison, is_sum};
 
-use tx_ints::BinOp;
+use elab_conv::below::BinOp;
 
 /// The operator of two operands with a name, but for `&&` and `||`.
 pub fn binary_operator(name: &[u8]) -> Option<BinOp>

@@ -1,23 +1,22 @@
 // Operands: their values, and what these are.
 
 ghost use Rattle.std.specs.Prelude.{◌≡◌, ◌<◌, length, IfOk, MatchOption, None, Some};
-ghost use Rattle.cpp_types.specs.Typ.{typ_of, int, null};
-ghost use Rattle.cpp_types.specs.Equal.{form_eq};
-ghost use Rattle.cpp_types.specs.Conversion.{decayed};
-ghost use Rattle.cpp_tree.specs.Arena.{trees_of, tree_at, Adds};
-ghost use Rattle.cpp_tree.specs.Notation.{plain};
-ghost use Rattle.cpp_tree.specs.Typing.{form_in};
-ghost use Rattle.elab_ctx.specs.Operands.{operand_in};
-ghost use Rattle.elab_rules.specs.Operators.{value, value_form, arithmetic, as_kind, pointed, is_null, as_pointer};
+ghost use Rattle.elab_conv.specs.cpp_types.Typ.{typ_of, int, null};
+ghost use Rattle.elab_conv.specs.cpp_types.Equal.{form_eq};
+ghost use Rattle.elab_conv.specs.cpp_types.Conversion.{decayed};
+ghost use Rattle.elab_conv.specs.cpp_tree.Arena.{trees_of, tree_at, Adds};
+ghost use Rattle.elab_conv.specs.cpp_tree.Notation.{plain};
+ghost use Rattle.elab_conv.specs.cpp_tree.Typing.{form_in};
+ghost use Rattle.elab_conv.specs.elab_ctx.Operands.{operand_in};
+ghost use Rattle.elab_conv.specs.elab_rules.Operators.{value, value_form, arithmetic, as_kind, pointed, is_null, as_pointer};
 
-use cpp_tree::{ElabFault, IllRule, TKind, TNode, TNodeId, add_unary};
-use cpp_types::{At, Cat, Shape, Ty, copy};
+use elab_conv::below::{
+    At, Cat, ElabFault, IllRule, IntKind, Operand, Shape, TKind, TNode, TNodeId, Ty, add_unary,
+    copy, node_at,
+};
 use elab_conv::types::{decayed_type, pointer_to};
 use elab_conv::{converted, valued};
-use elab_ctx::Operand;
-use elab_ctx::nodes::node_at;
 use std::alloc::{AllocError, Global};
-use tx_ints::IntKind;
 
 /// A fault at a place.
 pub fn ill(at: At, rule: IllRule) -> ElabFault

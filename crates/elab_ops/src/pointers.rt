@@ -1,33 +1,32 @@
 // Pointers and numbers (C++14 5.2.1, 5.3.1, 5.7).
 
 ghost use Rattle.std.specs.Prelude.{◌≡◌, ◌<◌, length, IfOk, Some, None, Ok, List, ℕ};
-ghost use Rattle.tx_ints.specs.declared.kinds.IntKind.TheVariants.{Long, ULong};
-ghost use Rattle.tx_ints.specs.declared.kinds.BinOp.TheVariants.{Mul, Div};
-ghost use Rattle.cpp_types.specs.Typ.{typ_of, int};
-ghost use Rattle.cpp_types.specs.Class.{held};
-ghost use Rattle.cpp_types.specs.Conversion.{is_lvalue};
-ghost use Rattle.cpp_tree.specs.Trees.{typ_in, cat_of};
-ghost use Rattle.cpp_tree.specs.Arena.{trees_of, tree_at, Adds};
-ghost use Rattle.cpp_tree.specs.Notation.{plain};
-ghost use Rattle.cpp_tree.specs.Typing.{form_in, unqualified};
-ghost use Rattle.elab_ctx.specs.Ctx.{ctx_of};
-ghost use Rattle.elab_ctx.specs.Operands.{operand_in};
-ghost use Rattle.elab_ctx.specs.Steps.{and_then};
+ghost use Rattle.elab_conv.specs.tx_ints.declared.kinds.IntKind.TheVariants.{Long, ULong};
+ghost use Rattle.elab_conv.specs.tx_ints.declared.kinds.BinOp.TheVariants.{Mul, Div};
+ghost use Rattle.elab_conv.specs.cpp_types.Typ.{typ_of, int};
+ghost use Rattle.elab_conv.specs.cpp_types.Class.{held};
+ghost use Rattle.elab_conv.specs.cpp_types.Conversion.{is_lvalue};
+ghost use Rattle.elab_conv.specs.cpp_tree.Trees.{typ_in, cat_of};
+ghost use Rattle.elab_conv.specs.cpp_tree.Arena.{trees_of, tree_at, Adds};
+ghost use Rattle.elab_conv.specs.cpp_tree.Notation.{plain};
+ghost use Rattle.elab_conv.specs.cpp_tree.Typing.{form_in, unqualified};
+ghost use Rattle.elab_conv.specs.elab_ctx.Ctx.{ctx_of};
+ghost use Rattle.elab_conv.specs.elab_ctx.Operands.{operand_in};
+ghost use Rattle.elab_conv.specs.elab_ctx.Steps.{and_then};
 ghost use Rattle.elab_ops.specs.Forms.{object_at};
-ghost use Rattle.elab_ctx.specs.Says.{Gives, Tells};
-ghost use Rattle.elab_rules.specs.Objects.{size_of};
-ghost use Rattle.elab_rules.specs.Values.{number, operated, in_kind, size_type, retyped};
-ghost use Rattle.elab_rules.specs.Operators.{value, as_kind, arithmetic, arithmetic_of, is_object_type, is_complete, is_sized, is_function, pointed, movable, sum_of, indirection, address_of, subscript, value_form};
+ghost use Rattle.elab_conv.specs.elab_ctx.Says.{Gives, Tells};
+ghost use Rattle.elab_conv.specs.elab_rules.Objects.{size_of};
+ghost use Rattle.elab_conv.specs.elab_rules.Values.{number, operated, in_kind, size_type, retyped};
+ghost use Rattle.elab_conv.specs.elab_rules.Operators.{value, as_kind, arithmetic, arithmetic_of, is_object_type, is_complete, is_sized, is_function, pointed, movable, sum_of, indirection, address_of, subscript, value_form};
 
 use crate::arithmetic::{arithmetic_of, in_kind, number, on_values, operated, operated_in};
 use crate::operands::{as_kind, ill, int_type, number_kind, pointed, value, value_type};
-use cpp_tree::{ElabFault, IllRule, TKind, TNode, TNodeId, add_unary};
-use cpp_types::copyability::held_class;
-use cpp_types::{At, Cat, Shape, Ty, copy, equal_types};
+use elab_conv::below::{
+    At, BinOp, Cat, ElabFault, Env, IllRule, IntKind, Operand, Shape, TKind, TNode, TNodeId, Ty,
+    add_unary, completion, copy, equal_types, held_class, node_at, size_of,
+};
 use elab_conv::types::{pointer_to, unqualified_type};
-use elab_ctx::{Env, Operand, completion, node_at, size_of};
 use std::alloc::{AllocError, Global};
-use tx_ints::{BinOp, IntKind};
 
 // Whether objects have the type, or could have it.
 fn is_object_type(ty: &Ty) -> bool

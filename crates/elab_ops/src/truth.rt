@@ -1,28 +1,28 @@
 // Truth (C++14 4.12, 5.3.1, 5.14, 5.15).
 
 ghost use Rattle.std.specs.Prelude.{◌≡◌, ◌<◌, length, IfOk, OnOk, if◌then◌else◌};
-ghost use Rattle.tx_ints.specs.declared.kinds.IntKind.TheVariants.{Int};
-ghost use Rattle.tx_ints.specs.declared.kinds.BinOp.TheVariants.{Eq};
-ghost use Rattle.cpp_types.specs.Typ.{typ_of};
-ghost use Rattle.cpp_types.specs.declared.ranks.Cat.TheVariants.{Prvalue};
-ghost use Rattle.cpp_tree.specs.declared.kinds.TKind.TheVariants.{Conditional};
-ghost use Rattle.cpp_tree.specs.Trees.{node, three};
-ghost use Rattle.cpp_tree.specs.Arena.{trees_of, tree_at, Grows, Adds};
-ghost use Rattle.elab_ctx.specs.Ctx.{ctx_of, Work};
-ghost use Rattle.elab_ctx.specs.Operands.{operand_in};
-ghost use Rattle.elab_ctx.specs.Says.{Gives};
-ghost use Rattle.elab_rules.specs.Values.{bool_type, number, in_kind};
-ghost use Rattle.elab_rules.specs.Operators.{truth, logical, negation, compared, false_at, true_at};
+ghost use Rattle.elab_conv.specs.tx_ints.declared.kinds.IntKind.TheVariants.{Int};
+ghost use Rattle.elab_conv.specs.tx_ints.declared.kinds.BinOp.TheVariants.{Eq};
+ghost use Rattle.elab_conv.specs.cpp_types.Typ.{typ_of};
+ghost use Rattle.elab_conv.specs.cpp_types.declared.ranks.Cat.TheVariants.{Prvalue};
+ghost use Rattle.elab_conv.specs.cpp_tree.declared.kinds.TKind.TheVariants.{Conditional};
+ghost use Rattle.elab_conv.specs.cpp_tree.Trees.{node, three};
+ghost use Rattle.elab_conv.specs.cpp_tree.Arena.{trees_of, tree_at, Grows, Adds};
+ghost use Rattle.elab_conv.specs.elab_ctx.Ctx.{ctx_of, Work};
+ghost use Rattle.elab_conv.specs.elab_ctx.Operands.{operand_in};
+ghost use Rattle.elab_conv.specs.elab_ctx.Says.{Gives};
+ghost use Rattle.elab_conv.specs.elab_rules.Values.{bool_type, number, in_kind};
+ghost use Rattle.elab_conv.specs.elab_rules.Operators.{truth, logical, negation, compared, false_at, true_at};
 ghost use Rattle.elab_ops.specs.Forms.{value_initial, logical_in, negation_in};
 
 use crate::arithmetic::{in_kind, number, operated_in};
 use crate::operands::{ill, int_type, value};
-use cpp_tree::{ElabFault, IllRule, TKind, TNode, TNodeId, add_node};
-use cpp_types::{At, Cat, Ty, conversion_between};
+use elab_conv::below::{
+    At, BinOp, Cat, ElabFault, Env, IllRule, IntKind, Operand, TKind, TNode, TNodeId, Ty, add_node,
+    conversion_between, node_at,
+};
 use elab_conv::stepped;
-use elab_ctx::{Env, Operand, node_at};
 use std::alloc::{AllocError, Global};
-use tx_ints::{BinOp, IntKind};
 
 /// A node with three kids.
 pub fn add_three(

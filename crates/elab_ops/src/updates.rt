@@ -1,28 +1,28 @@
 // Compound assignments (C++14 5.17), increments and decrements (5.2.6, 5.3.2).
 
 ghost use Rattle.std.specs.Prelude.{◌≡◌, ◌<◌, length, IfOk, true, false};
-ghost use Rattle.tx_ints.specs.declared.kinds.IntKind.TheVariants.{ULong};
-ghost use Rattle.tx_ints.specs.declared.kinds.BinOp.TheVariants.{Mul};
-ghost use Rattle.cpp_types.specs.Typ.{typ_of, ptr, int, shape_form};
-ghost use Rattle.cpp_types.specs.Conversion.{const_of, const_elements};
-ghost use Rattle.cpp_tree.specs.Arena.{trees_of, tree_at, Adds};
-ghost use Rattle.cpp_tree.specs.Typing.{form_in};
-ghost use Rattle.elab_ctx.specs.Ctx.{ctx_of};
-ghost use Rattle.elab_ctx.specs.Operands.{operand_in};
-ghost use Rattle.elab_ctx.specs.Says.{Gives, Tells};
-ghost use Rattle.elab_rules.specs.Values.{number, operated, size_type};
-ghost use Rattle.elab_rules.specs.Operators.{as_kind, target, updated, compound_numbers, compound_in, compound, step_in, step};
+ghost use Rattle.elab_conv.specs.tx_ints.declared.kinds.IntKind.TheVariants.{ULong};
+ghost use Rattle.elab_conv.specs.tx_ints.declared.kinds.BinOp.TheVariants.{Mul};
+ghost use Rattle.elab_conv.specs.cpp_types.Typ.{typ_of, ptr, int, shape_form};
+ghost use Rattle.elab_conv.specs.cpp_types.Conversion.{const_of, const_elements};
+ghost use Rattle.elab_conv.specs.cpp_tree.Arena.{trees_of, tree_at, Adds};
+ghost use Rattle.elab_conv.specs.cpp_tree.Typing.{form_in};
+ghost use Rattle.elab_conv.specs.elab_ctx.Ctx.{ctx_of};
+ghost use Rattle.elab_conv.specs.elab_ctx.Operands.{operand_in};
+ghost use Rattle.elab_conv.specs.elab_ctx.Says.{Gives, Tells};
+ghost use Rattle.elab_conv.specs.elab_rules.Values.{number, operated, size_type};
+ghost use Rattle.elab_conv.specs.elab_rules.Operators.{as_kind, target, updated, compound_numbers, compound_in, compound, step_in, step};
 
 use crate::arithmetic::number;
 use crate::names::{is_shift, is_sum};
 use crate::operands::{as_kind, ill, number_kind};
 use crate::pointers::{is_lvalue, movable, scaled};
-use cpp_tree::{ElabFault, IllRule, TKind, TNode, TNodeId, add_binary};
-use cpp_types::{At, Cat, Shape, Ty, copy, equal_kinds};
+use elab_conv::below::{
+    At, BinOp, Cat, ElabFault, Env, IllRule, IntKind, Operand, Shape, TKind, TNode, TNodeId, Ty,
+    add_binary, copy, equal_kinds, node_at, promote, size_of, usual,
+};
 use elab_conv::types::unqualified_type;
-use elab_ctx::{Env, Operand, node_at, size_of};
 use std::alloc::{AllocError, Global};
-use tx_ints::{BinOp, IntKind, promote, usual};
 
 // Whether a type is `const`; an array is where its elements are (C++14 3.9.3).
 #[cycle(qualifiers)]

@@ -1,21 +1,21 @@
 -- The members of a lambda's object so far.
 use Rattle.std.proofs.Common.{◌≡◌, ℕ, zero, suc, ◌+◌, ◌<◌, ◌≤◌, true, List, [], ◌∷◌, ◌++◌, length, map, drop, get_or, slice_get, None, Ok, Err, Result, refl, sym, ◌∙◌, ap, arith}
-use Rattle.cpp_types.specs.declared.classes.At.{At}
-use Rattle.cpp_tree.specs.declared.faults.ElabFault.{ElabFault}
-use Rattle.cpp_tree.specs.declared.arena.TNodeId.{TNodeId}
-use Rattle.cpp_tree.specs.Trees.{Tree, Trees, none, more, one}
-use Rattle.cpp_tree.specs.Arena.{tree_at, trees_at, Grows}
-use Rattle.elab_ctx.specs.Ctx.{Ctx, Work, Capture, capture_of}
-use Rattle.elab_ctx.specs.declared.env.Capture.{Capture as CaptureRec}
-use Rattle.elab_ctx.specs.Steps.{and_then, Made, MadeAll}
-use Rattle.elab_ctx.specs.Says.{Faults, MadeAt, AllMade, are_within}
-use Rattle.elab_ctx.proofs.Looks.{grows_refl, grows_trans}
-use Rattle.elab_ctx.proofs.Making.{faults_in, faults_same}
-use Rattle.elab_rules.specs.Objects.{Part, followed_by}
-use Rattle.elab_rules.specs.Expressions.{captured, captured_pieces}
-use Rattle.elab_init.specs.Parts.{part_of}
-use Rattle.elab_init.specs.declared.parts.ObjectPart.{ObjectPart}
-use Rattle.elab_init.proofs.Listing.{followed_none, followed_twice, trees_append, trees_grown, all_within_grown, within_both, within_one, drop_step, drop_past}
+use Rattle.elab_casts.specs.cpp_types.declared.classes.At.{At}
+use Rattle.elab_casts.specs.cpp_tree.declared.faults.ElabFault.{ElabFault}
+use Rattle.elab_casts.specs.cpp_tree.declared.arena.TNodeId.{TNodeId}
+use Rattle.elab_casts.specs.cpp_tree.Trees.{Tree, Trees, none, more, one}
+use Rattle.elab_casts.specs.cpp_tree.Arena.{tree_at, trees_at, Grows}
+use Rattle.elab_casts.specs.elab_ctx.Ctx.{Ctx, Work, Capture, capture_of}
+use Rattle.elab_casts.specs.elab_ctx.declared.env.Capture.{Capture as CaptureRec}
+use Rattle.elab_casts.specs.elab_ctx.Steps.{and_then, Made, MadeAll}
+use Rattle.elab_casts.specs.elab_ctx.Says.{Faults, MadeAt, AllMade, are_within}
+use Rattle.elab_casts.proofs.elab_ctx.Looks.{grows_refl, grows_trans}
+use Rattle.elab_casts.proofs.elab_ctx.Making.{faults_in, faults_same}
+use Rattle.elab_casts.specs.elab_rules.Objects.{Part, followed_by}
+use Rattle.elab_casts.specs.elab_rules.Expressions.{captured, captured_pieces}
+use Rattle.elab_casts.specs.elab_init.Parts.{part_of}
+use Rattle.elab_casts.specs.elab_init.declared.parts.ObjectPart.{ObjectPart}
+use Rattle.elab_casts.proofs.elab_init.Listing.{followed_none, followed_twice, trees_append, trees_grown, all_within_grown, within_both, within_one, drop_step, drop_past}
 use Rattle.elab_rows.specs.Pieces.{piece_tree, one_piece}
 
 -- Steps

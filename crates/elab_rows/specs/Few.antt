@@ -1,6 +1,6 @@
 -- Operands by their number.
 use Rattle.std.specs.Prelude.{◌≡◌, ◌<◌, ℕ, List, [], ◌∷◌}
-use Rattle.elab_ctx.specs.declared.operand.Operand.{Operand}
+use Rattle.elab_casts.specs.elab_ctx.declared.operand.Operand.{Operand}
 use Rattle.elab_rows.specs.declared.few.Few.{Few}
 use Rattle.elab_rows.specs.declared.few.Few.TheVariants as few
 

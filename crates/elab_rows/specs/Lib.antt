@@ -1,3 +1,14 @@
+pub use Rattle.elab_casts.specs.cpp_ast as cpp_ast
+pub use Rattle.elab_casts.specs.cpp_layout as cpp_layout
+pub use Rattle.elab_casts.specs.cpp_lex as cpp_lex
+pub use Rattle.elab_casts.specs.cpp_names as cpp_names
+pub use Rattle.elab_casts.specs.cpp_tree as cpp_tree
+pub use Rattle.elab_casts.specs.cpp_types as cpp_types
+pub use Rattle.elab_casts.specs.elab_ctx as elab_ctx
+pub use Rattle.elab_casts.specs.elab_init as elab_init
+pub use Rattle.elab_casts.specs.elab_rules as elab_rules
+pub use Rattle.elab_types.specs as elab_types
+pub use Rattle.elab_casts.specs.tx_ints as tx_ints
 pub mod Few
 pub mod Pieces
 pub mod Typed

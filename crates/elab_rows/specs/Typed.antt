@@ -1,15 +1,15 @@
 -- What answers that are operands say of what is to be answered.
 use Rattle.std.specs.Prelude.{◌≡◌, ◌<◌, List, map, Result, Ok, Err, true, length, Vec}
 use Rattle.std.specs.declared.alloc.Global.{Global}
-use Rattle.cpp_tree.specs.declared.faults.ElabFault.{ElabFault}
-use Rattle.cpp_tree.specs.Trees.{Tree}
-use Rattle.cpp_tree.specs.Arena.{Grows}
-use Rattle.elab_ctx.specs.Ctx.{Work}
-use Rattle.elab_ctx.specs.Steps.{Typed, TypedAll}
-use Rattle.elab_ctx.specs.Operands.{operand_in, operands_in, are_in}
-use Rattle.elab_ctx.specs.Says.{Faults}
-use Rattle.elab_ctx.specs.declared.operand.Operand.{Operand as OperandRec}
-use Rattle.elab_rules.specs.Types.{Parameter}
+use Rattle.elab_casts.specs.cpp_tree.declared.faults.ElabFault.{ElabFault}
+use Rattle.elab_casts.specs.cpp_tree.Trees.{Tree}
+use Rattle.elab_casts.specs.cpp_tree.Arena.{Grows}
+use Rattle.elab_casts.specs.elab_ctx.Ctx.{Work}
+use Rattle.elab_casts.specs.elab_ctx.Steps.{Typed, TypedAll}
+use Rattle.elab_casts.specs.elab_ctx.Operands.{operand_in, operands_in, are_in}
+use Rattle.elab_casts.specs.elab_ctx.Says.{Faults}
+use Rattle.elab_casts.specs.elab_ctx.declared.operand.Operand.{Operand as OperandRec}
+use Rattle.elab_casts.specs.elab_rules.Types.{Parameter}
 use Rattle.elab_types.specs.Shown.{parameter_of}
 use Rattle.elab_types.specs.declared.records.Parameter.{Parameter as ParameterRec}
 

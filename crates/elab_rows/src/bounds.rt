@@ -1,27 +1,25 @@
 // Arrays with a bound (C++14 8.3.4).
 
 ghost use Rattle.std.specs.Prelude.{◌≡◌, ◌<◌, length, false, true, nat_le, pos, int_lt, MatchOption, IfOk};
-ghost use Rattle.tx_ints.specs.Words.{value_of_word as value_of_word_of};
-ghost use Rattle.cpp_types.specs.Typ.{typ_of, array};
-ghost use Rattle.cpp_tree.specs.Arena.{trees_of};
-ghost use Rattle.cpp_tree.specs.Notation.{plain};
-ghost use Rattle.elab_ctx.specs.Ctx.{ctx_of, work_of};
-ghost use Rattle.elab_ctx.specs.Operands.{operand_in};
-ghost use Rattle.elab_rules.specs.Types.{array_of as array_of_of, is_within_size as is_within_size_of};
-ghost use Rattle.elab_rules.specs.Expressions.{bounded as bounded_of};
+ghost use Rattle.elab_casts.specs.tx_ints.Words.{value_of_word as value_of_word_of};
+ghost use Rattle.elab_casts.specs.cpp_types.Typ.{typ_of, array};
+ghost use Rattle.elab_casts.specs.cpp_tree.Arena.{trees_of};
+ghost use Rattle.elab_casts.specs.cpp_tree.Notation.{plain};
+ghost use Rattle.elab_casts.specs.elab_ctx.Ctx.{ctx_of, work_of};
+ghost use Rattle.elab_casts.specs.elab_ctx.Operands.{operand_in};
+ghost use Rattle.elab_casts.specs.elab_rules.Types.{array_of as array_of_of, is_within_size as is_within_size_of};
+ghost use Rattle.elab_casts.specs.elab_rules.Expressions.{bounded as bounded_of};
 ghost use Rattle.elab_types.specs.Shown.{Says};
 
-use cpp_tree::{ElabFault, IllRule, LimitKind, TNode};
-use cpp_types::{At, Shape, Ty, copy};
+use elab_casts::below::{
+    At, ElabFault, Env, IllRule, IntKind, LimitKind, Operand, Shape, TNode, Ty, Work, arithmetic,
+    copy, node_at, size_of, value_of_word, valued,
+};
 use elab_consts::constant;
-use elab_conv::valued;
-use elab_ctx::{Env, Operand, Work, node_at, size_of};
-use elab_ops::operands::arithmetic;
 use elab_types::declarators::past;
 use elab_types::specifiers::ill;
 use elab_types::types::{is_complete_type, is_element};
 use std::alloc::{AllocError, Global};
-use tx_ints::{IntKind, value_of_word};
 
 // Whether so many elements of a type are no more bytes than a type may have.
 fn is_within_size(env: &Env, ty: &Ty, count: u32) -> Result<bool, AllocError>

@@ -1,22 +1,20 @@
 // Calls, casts, sizes and the objects of lambdas.
 
 ghost use Rattle.std.specs.Prelude.{◌≡◌, ◌<◌, length, map, true};
-ghost use Rattle.cpp_types.specs.Typ.{typ_of};
-ghost use Rattle.cpp_tree.specs.Arena.{trees_of};
-ghost use Rattle.elab_ctx.specs.Ctx.{ctx_of, work_of, closure_of};
-ghost use Rattle.elab_ctx.specs.Operands.{operand_in, operands_in, are_in};
-ghost use Rattle.elab_rules.specs.Calls.{call as call_of};
-ghost use Rattle.elab_rules.specs.Casts.{cast as cast_of, functional as functional_of, size_literal as size_literal_of};
-ghost use Rattle.elab_rules.specs.Expressions.{an_operand, a_tree, chosen_operand, closure_object as closure_object_of};
+ghost use Rattle.elab_casts.specs.cpp_types.Typ.{typ_of};
+ghost use Rattle.elab_casts.specs.cpp_tree.Arena.{trees_of};
+ghost use Rattle.elab_casts.specs.elab_ctx.Ctx.{ctx_of, work_of, closure_of};
+ghost use Rattle.elab_casts.specs.elab_ctx.Operands.{operand_in, operands_in, are_in};
+ghost use Rattle.elab_casts.specs.elab_rules.Calls.{call as call_of};
+ghost use Rattle.elab_casts.specs.elab_rules.Casts.{cast as cast_of, functional as functional_of, size_literal as size_literal_of};
+ghost use Rattle.elab_casts.specs.elab_rules.Expressions.{an_operand, a_tree, chosen_operand, closure_object as closure_object_of};
 ghost use Rattle.elab_rows.specs.Typed.{Types};
 
 use crate::closures::closure_object;
 use crate::few::operand;
-use cpp_tree::ElabFault;
-use cpp_types::{At, Ty};
 use elab_call::call;
+use elab_casts::below::{At, Closure, ElabFault, Env, Operand, Ty, Work};
 use elab_casts::{cast, functional, size_literal};
-use elab_ctx::{Closure, Env, Operand, Work};
 use elab_names::resolved;
 use std::alloc::Global;
 

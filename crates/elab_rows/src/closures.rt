@@ -1,28 +1,25 @@
 // The object of a lambda: what it captured, piece by piece (C++14 5.1.2).
 
 ghost use Rattle.std.specs.Prelude.{◌≡◌, ◌<◌, length, map, None, Some, slice_get, MatchOption, IfOk};
-ghost use Rattle.cpp_types.specs.Typ.{typ_of, closure};
-ghost use Rattle.cpp_types.specs.Class.{classes_of};
-ghost use Rattle.cpp_tree.specs.Trees.{node, two};
-ghost use Rattle.cpp_tree.specs.Notation.{plain};
-ghost use Rattle.cpp_tree.specs.Arena.{trees_of, tree_at, trees_at, Adds};
-ghost use Rattle.elab_ctx.specs.Ctx.{ctx_of, work_of, closure_of, capture_of, special_of};
-ghost use Rattle.elab_ctx.specs.Operands.{operand_in};
-ghost use Rattle.elab_ctx.specs.Says.{Gives, Makes, MakesAll};
-ghost use Rattle.elab_init.specs.Parts.{part_of};
-ghost use Rattle.elab_rules.specs.Values.{stored as stored_of, valued as valued_of};
-ghost use Rattle.elab_rules.specs.Initialising.{copied_part as copied_part_of, copy_of_held as copy_of_held_of, closure_part as closure_part_of};
-ghost use Rattle.elab_rules.specs.Expressions.{same_at as same_at_of, closure_at as closure_at_of, capture_source as capture_source_of, captured_value as captured_value_of, captured as captured_of, captured_pieces as captured_pieces_of, closure_object as closure_object_of};
+ghost use Rattle.elab_casts.specs.cpp_types.Typ.{typ_of, closure};
+ghost use Rattle.elab_casts.specs.cpp_types.Class.{classes_of};
+ghost use Rattle.elab_casts.specs.cpp_tree.Trees.{node, two};
+ghost use Rattle.elab_casts.specs.cpp_tree.Notation.{plain};
+ghost use Rattle.elab_casts.specs.cpp_tree.Arena.{trees_of, tree_at, trees_at, Adds};
+ghost use Rattle.elab_casts.specs.elab_ctx.Ctx.{ctx_of, work_of, closure_of, capture_of, special_of};
+ghost use Rattle.elab_casts.specs.elab_ctx.Operands.{operand_in};
+ghost use Rattle.elab_casts.specs.elab_ctx.Says.{Gives, Makes, MakesAll};
+ghost use Rattle.elab_casts.specs.elab_init.Parts.{part_of};
+ghost use Rattle.elab_casts.specs.elab_rules.Values.{stored as stored_of, valued as valued_of};
+ghost use Rattle.elab_casts.specs.elab_rules.Initialising.{copied_part as copied_part_of, copy_of_held as copy_of_held_of, closure_part as closure_part_of};
+ghost use Rattle.elab_casts.specs.elab_rules.Expressions.{same_at as same_at_of, closure_at as closure_at_of, capture_source as capture_source_of, captured_value as captured_value_of, captured as captured_of, captured_pieces as captured_pieces_of, closure_object as closure_object_of};
 ghost use Rattle.elab_rows.specs.Pieces.{piece_tree, one_piece};
 
-use cpp_tree::{ElabFault, IllRule, TKind, TNode, TNodeId, add_binary, add_node};
-use cpp_types::{At, Cat, Shape, Ty, copy};
-use elab_conv::{stored, valued};
-use elab_ctx::{Capture, Closure, Env, Operand, Special, Work};
-use elab_init::{
-    ObjectPart, class_number, copies, element_type, keep, object_kids, parts_of, traits_at,
+use elab_casts::below::{
+    At, Capture, Cat, Closure, ElabFault, Env, IllRule, ObjectPart, Operand, Shape, Special, TKind,
+    TNode, TNodeId, Ty, Work, add_binary, add_node, class_from, class_number, copies, copy,
+    destroys, each_by, element_type, keep, object_kids, parts_of, stored, traits_at, valued,
 };
-use elab_make::{class_from, destroys, each_by};
 use elab_names::parts::{ill, plain_type};
 use elab_names::{this_tree, variable_at};
 use std::alloc::{AllocError, Global};

@@ -1,12 +1,10 @@
 // Operands by their number.
 
 ghost use Rattle.std.specs.Prelude.{◌≡◌, ℕ, true, false};
-ghost use Rattle.elab_ctx.specs.Operands.{are_in};
+ghost use Rattle.elab_casts.specs.elab_ctx.Operands.{are_in};
 ghost use Rattle.elab_rows.specs.Few.{HasOperands, AreWithin};
 
-use cpp_tree::TNodeId;
-use cpp_types::At;
-use elab_ctx::Operand;
+use elab_casts::below::{At, Operand, TNodeId};
 
 /// The operands of a form, as far as forms with a fixed number of them ask for them.
 #[derive(Clone, Copy)]

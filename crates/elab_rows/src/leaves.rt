@@ -1,34 +1,32 @@
 // Forms without operands: literals, strings, names (C++14 2.14, 5.1).
 
 ghost use Rattle.std.specs.Prelude.{◌≡◌, Ok};
-ghost use Rattle.cpp_lex.specs.Tokens.{lexemes_of};
-ghost use Rattle.cpp_types.specs.Typ.{typ_of, shape_form};
-ghost use Rattle.cpp_tree.specs.Arena.{trees_of};
-ghost use Rattle.cpp_tree.specs.Notation.{plain};
-ghost use Rattle.cpp_tree.specs.Trees.{node, none};
-ghost use Rattle.elab_ctx.specs.Ctx.{ctx_of, work_of};
-ghost use Rattle.elab_ctx.specs.Steps.{spelling as spelling_of};
-ghost use Rattle.elab_rules.specs.Names.{named as named_of, this_tree as this_tree_of};
-ghost use Rattle.elab_rules.specs.Expressions.{operand_at, integer_literal as integer_literal_of, literal_of, truth_word as truth_word_of, a_tree, leaf_or_row, leaf_of};
-ghost use Rattle.elab_rules.specs.Casts.{string_made as string_made_of};
-ghost use Rattle.elab_rules.specs.Strings.{string_bytes as string_bytes_of};
+ghost use Rattle.elab_casts.specs.cpp_lex.Tokens.{lexemes_of};
+ghost use Rattle.elab_casts.specs.cpp_types.Typ.{typ_of, shape_form};
+ghost use Rattle.elab_casts.specs.cpp_tree.Arena.{trees_of};
+ghost use Rattle.elab_casts.specs.cpp_tree.Notation.{plain};
+ghost use Rattle.elab_casts.specs.cpp_tree.Trees.{node, none};
+ghost use Rattle.elab_casts.specs.elab_ctx.Ctx.{ctx_of, work_of};
+ghost use Rattle.elab_casts.specs.elab_ctx.Steps.{spelling as spelling_of};
+ghost use Rattle.elab_casts.specs.elab_rules.Names.{named as named_of, this_tree as this_tree_of};
+ghost use Rattle.elab_casts.specs.elab_rules.Expressions.{operand_at, integer_literal as integer_literal_of, literal_of, truth_word as truth_word_of, a_tree, leaf_or_row, leaf_of};
+ghost use Rattle.elab_casts.specs.elab_rules.Casts.{string_made as string_made_of};
+ghost use Rattle.elab_casts.specs.elab_rules.Strings.{string_bytes as string_bytes_of};
 ghost use Rattle.elab_rows.specs.Typed.{Types};
 
 use crate::few::operand;
 use crate::rows::throw_row;
-use cpp_ast::NodeKind;
-use cpp_lex::{Tokens, int_type};
-use cpp_tree::{Builtin, ElabFault, IllRule, TKind, TNode, TNodeId, add_leaf};
-use cpp_types::{At, Cat, Shape, Ty};
+use elab_casts::below::{
+    At, Builtin, Cat, ElabFault, Env, IllRule, IntKind, NodeKind, Operand, Shape, TKind, TNode,
+    TNodeId, Tokens, Ty, Work, add_leaf, cpp_lex_int_type as int_type,
+};
 use elab_casts::string_made;
 use elab_consts::{string_bytes, word_in};
-use elab_ctx::{Env, Operand, Work};
 use elab_names::parts::plain_type;
 use elab_names::{named, this_tree};
 use elab_types::specifiers::ill;
 use elab_types::syntax::{spelling, value_at};
 use std::alloc::Global;
-use tx_ints::IntKind;
 
 // An integer.
 fn integer_literal(

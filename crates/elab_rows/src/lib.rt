@@ -1,6 +1,7 @@
 //! The typed forms of expressions, each from its operands.
 #![tactic(auto)]
 
+pub mod below;
 pub mod bounds;
 pub mod calls;
 pub mod closures;

@@ -1,16 +1,14 @@
 // Enumerators by the name of their enum (C++14 5.1.1 p11).
 
 ghost use Rattle.std.specs.Prelude.{◌≡◌, IfOk};
-ghost use Rattle.cpp_tree.specs.Arena.{trees_of};
-ghost use Rattle.elab_ctx.specs.Ctx.{ctx_of, work_of};
-ghost use Rattle.elab_rules.specs.Expressions.{a_tree, qualified_name as qualified_name_of, scope_name as scope_name_of};
-ghost use Rattle.elab_ctx.specs.Says.{Gives};
+ghost use Rattle.elab_casts.specs.cpp_tree.Arena.{trees_of};
+ghost use Rattle.elab_casts.specs.elab_ctx.Ctx.{ctx_of, work_of};
+ghost use Rattle.elab_casts.specs.elab_rules.Expressions.{a_tree, qualified_name as qualified_name_of, scope_name as scope_name_of};
+ghost use Rattle.elab_casts.specs.elab_ctx.Says.{Gives};
 ghost use Rattle.elab_rows.specs.Typed.{Types};
 
 use crate::few::operand;
-use cpp_tree::{ElabFault, IllRule, TNodeId};
-use cpp_types::{At, Shape};
-use elab_ctx::{Env, Operand, Work};
+use elab_casts::below::{At, ElabFault, Env, IllRule, Operand, Shape, TNodeId, Work};
 use elab_names::of_entity;
 use elab_types::specifiers::ill;
 use elab_types::types::type_named;

@@ -1,23 +1,19 @@
 // Operators by their spelling.
 
 ghost use Rattle.std.specs.Prelude.{◌≡◌, ◌<◌, length};
-ghost use Rattle.cpp_tree.specs.Arena.{trees_of};
-ghost use Rattle.elab_ctx.specs.Ctx.{ctx_of, work_of};
-ghost use Rattle.elab_ctx.specs.Operands.{operand_in};
-ghost use Rattle.elab_ctx.specs.Says.{Gives, Makes};
-ghost use Rattle.elab_rules.specs.Expressions.{unary_of, operator_of, assignment_of, postfix_operator as postfix_operator_of};
+ghost use Rattle.elab_casts.specs.cpp_tree.Arena.{trees_of};
+ghost use Rattle.elab_casts.specs.elab_ctx.Ctx.{ctx_of, work_of};
+ghost use Rattle.elab_casts.specs.elab_ctx.Operands.{operand_in};
+ghost use Rattle.elab_casts.specs.elab_ctx.Says.{Gives, Makes};
+ghost use Rattle.elab_casts.specs.elab_rules.Expressions.{unary_of, operator_of, assignment_of, postfix_operator as postfix_operator_of};
 
-use cpp_tree::{ElabFault, IllRule, TNodeId};
-use cpp_types::At;
-use elab_ctx::{Env, Operand, Work};
-use elab_forms::assignment;
-use elab_ops::{
-    address_of, binary, binary_operator, complement, compound, compound_operator, indirection,
-    logical, minus, negation, plus, step,
+use elab_casts::below::{
+    At, BinOp, ElabFault, Env, IllRule, Operand, TNodeId, Work, address_of, assignment, binary,
+    binary_operator, complement, compound, compound_operator, indirection, logical, minus,
+    negation, plus, step,
 };
 use elab_types::specifiers::ill;
 use std::alloc::Global;
-use tx_ints::BinOp;
 
 /// An operator before its operand.
 pub fn unary(

@@ -1,25 +1,22 @@
 // Forms over operands.
 
 ghost use Rattle.std.specs.Prelude.{◌≡◌, ℕ, List, length, true};
-ghost use Rattle.cpp_lex.specs.Tokens.{Lexeme, lexemes_of};
-ghost use Rattle.cpp_ast.specs.declared.kinds.NodeKind.TheVariants as syntax;
-ghost use Rattle.cpp_tree.specs.Arena.{trees_of};
-ghost use Rattle.elab_ctx.specs.Ctx.{ctx_of, work_of};
-ghost use Rattle.elab_ctx.specs.Operands.{operands_in, are_in};
-ghost use Rattle.elab_rules.specs.Expressions.{row_of};
+ghost use Rattle.elab_casts.specs.cpp_lex.Tokens.{Lexeme, lexemes_of};
+ghost use Rattle.elab_casts.specs.cpp_ast.declared.kinds.NodeKind.TheVariants as syntax;
+ghost use Rattle.elab_casts.specs.cpp_tree.Arena.{trees_of};
+ghost use Rattle.elab_casts.specs.elab_ctx.Ctx.{ctx_of, work_of};
+ghost use Rattle.elab_casts.specs.elab_ctx.Operands.{operands_in, are_in};
+ghost use Rattle.elab_casts.specs.elab_rules.Expressions.{row_of};
 ghost use Rattle.elab_rows.specs.Typed.{Types};
 
 use crate::few::{Few, counted, operand};
 use crate::over::{assigned, operator, postfix_operator, unary};
-use cpp_ast::NodeKind;
-use cpp_lex::Tokens;
-use cpp_tree::{ElabFault, IllRule};
-use cpp_types::At;
 use elab_call::member_access;
+use elab_casts::below::{
+    At, ElabFault, Env, IllRule, NodeKind, Operand, Tokens, Work, comma, conditional, indirection,
+    step, subscript,
+};
 use elab_casts::throw;
-use elab_ctx::{Env, Operand, Work};
-use elab_forms::{comma, conditional};
-use elab_ops::{indirection, step, subscript};
 use elab_types::specifiers::ill;
 use elab_types::syntax::{spelling, token_place};
 use std::alloc::Global;

@@ -1,25 +1,25 @@
 -- Casts, `sizeof`, `throw` and literals (C++14 2.14, 5.2.3, 5.2.9, 5.3.3, 5.4, 15.1).
 use Rattle.std.specs.Prelude.{ℕ, suc, ◌==◌, nat_le, Bool, true, false, not, ◌&&◌, ◌||◌, List, [], ◌∷◌, ◌++◌, length, map, Option, Some, None, is_some, Result, Ok, Err, if◌then◌else◌, slice_get, unwrap_or, codes, decimal}
-use Rattle.tx_ints.specs.declared.kinds.IntKind.{IntKind}
-use Rattle.tx_ints.specs.declared.kinds.IntKind.TheVariants.{Bool as BoolKind, Char, ULong}
-use Rattle.cpp_types.specs.Typ.{Typ, typ, Form, void, int, enum, null, ptr, ref, array, func, class, closure, tx_ex}
-use Rattle.cpp_types.specs.Class.{Class, held}
-use Rattle.cpp_types.specs.Conversion.{referred, is_lvalue}
-use Rattle.cpp_types.specs.declared.classes.At.{At}
-use Rattle.cpp_types.specs.declared.ranks.Cat.{Cat}
-use Rattle.cpp_types.specs.declared.ranks.Cat.TheVariants.{Lvalue, Prvalue}
-use Rattle.cpp_tree.specs.declared.kinds.TKind.{TKind}
-use Rattle.cpp_tree.specs.declared.kinds.TKind.TheVariants.{Literal, Throw, Rethrow, Retype, Materialize, Global as GlobalNode, Store}
-use Rattle.cpp_tree.specs.declared.program.Linkage.TheVariants.{Internal}
-use Rattle.cpp_tree.specs.declared.program.CellKind.TheVariants.{Number}
-use Rattle.cpp_tree.specs.declared.faults.ElabFault.{ElabFault}
-use Rattle.cpp_tree.specs.declared.faults.ElabFault.TheVariants.{Ill, Limit}
-use Rattle.cpp_tree.specs.declared.faults.LimitKind.TheVariants.{Exception}
-use Rattle.cpp_tree.specs.declared.faults.IllRule.TheVariants.{NoConversion, BadOperand, BadInit, Incomplete, BadThrow, NotTriviallyCopyable, NoCopy}
-use Rattle.cpp_tree.specs.Trees.{Tree, node, Trees, none, more, one, two, typ_in, cat_of}
-use Rattle.cpp_tree.specs.Units.{Global, Cell}
-use Rattle.cpp_tree.specs.Notation.{plain}
-use Rattle.cpp_tree.specs.Typing.{form_in, is_volatile_typ, unqualified, is_class_typ, is_void, kind_in, is_class_prvalue}
+use Rattle.elab_ctx.specs.tx_ints.declared.kinds.IntKind.{IntKind}
+use Rattle.elab_ctx.specs.tx_ints.declared.kinds.IntKind.TheVariants.{Bool as BoolKind, Char, ULong}
+use Rattle.elab_ctx.specs.cpp_types.Typ.{Typ, typ, Form, void, int, enum, null, ptr, ref, array, func, class, closure, tx_ex}
+use Rattle.elab_ctx.specs.cpp_types.Class.{Class, held}
+use Rattle.elab_ctx.specs.cpp_types.Conversion.{referred, is_lvalue}
+use Rattle.elab_ctx.specs.cpp_types.declared.classes.At.{At}
+use Rattle.elab_ctx.specs.cpp_types.declared.ranks.Cat.{Cat}
+use Rattle.elab_ctx.specs.cpp_types.declared.ranks.Cat.TheVariants.{Lvalue, Prvalue}
+use Rattle.elab_ctx.specs.cpp_tree.declared.kinds.TKind.{TKind}
+use Rattle.elab_ctx.specs.cpp_tree.declared.kinds.TKind.TheVariants.{Literal, Throw, Rethrow, Retype, Materialize, Global as GlobalNode, Store}
+use Rattle.elab_ctx.specs.cpp_tree.declared.program.Linkage.TheVariants.{Internal}
+use Rattle.elab_ctx.specs.cpp_tree.declared.program.CellKind.TheVariants.{Number}
+use Rattle.elab_ctx.specs.cpp_tree.declared.faults.ElabFault.{ElabFault}
+use Rattle.elab_ctx.specs.cpp_tree.declared.faults.ElabFault.TheVariants.{Ill, Limit}
+use Rattle.elab_ctx.specs.cpp_tree.declared.faults.LimitKind.TheVariants.{Exception}
+use Rattle.elab_ctx.specs.cpp_tree.declared.faults.IllRule.TheVariants.{NoConversion, BadOperand, BadInit, Incomplete, BadThrow, NotTriviallyCopyable, NoCopy}
+use Rattle.elab_ctx.specs.cpp_tree.Trees.{Tree, node, Trees, none, more, one, two, typ_in, cat_of}
+use Rattle.elab_ctx.specs.cpp_tree.Units.{Global, Cell}
+use Rattle.elab_ctx.specs.cpp_tree.Notation.{plain}
+use Rattle.elab_ctx.specs.cpp_tree.Typing.{form_in, is_volatile_typ, unqualified, is_class_typ, is_void, kind_in, is_class_prvalue}
 use Rattle.elab_ctx.specs.Ctx.{Ctx, Work}
 use Rattle.elab_ctx.specs.Steps.{and_then, expect, check, Operand, Made}
 use Rattle.elab_rules.specs.Values.{size_type, retyped, number, valued, converted}

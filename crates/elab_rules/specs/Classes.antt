@@ -2,30 +2,30 @@
 use Rattle.std.specs.Prelude.{ℕ, suc, ◌==◌, nat_le, Bool, true, false, not, ◌&&◌, ◌||◌, List, [], ◌∷◌, ◌++◌, length, map, Option, Some, None, is_some, is_none, Result, Ok, Err, if◌then◌else◌, slice_get, slice_set, codes, unwrap_or, count_by, filter}
 use Rattle.std.specs.List.{list_all, list_any}
 use Rattle.std.specs.Str.{bytes_eq}
-use Rattle.cpp_types.specs.Typ.{Typ, typ, Form, void, ref, func, class, tx_ex, signature, Typs, none as no_typs, more as and_typ}
-use Rattle.cpp_types.specs.Equal.{typ_eq, typs_eq, flag_eq}
-use Rattle.cpp_types.specs.Class.{Class, Member, Function, held, completion_of}
-use Rattle.cpp_types.specs.Conversion.{volatile_of}
-use Rattle.cpp_types.specs.Trivial.{is_destructor_name, is_copy_constructor, is_plain}
-use Rattle.cpp_types.specs.declared.classes.At.{At}
-use Rattle.cpp_types.specs.declared.classes.Safety.{Safety}
-use Rattle.cpp_types.specs.declared.classes.Safety.TheVariants.{Safe, Dynamic}
-use Rattle.cpp_lex.specs.Tokens.{Lexeme}
-use Rattle.cpp_layout.specs.Layout.{class_extent}
-use Rattle.cpp_ast.specs.declared.kinds.NodeKind.TheVariants as k
-use Rattle.cpp_ast.specs.Trees as syntax
-use Rattle.cpp_tree.specs.declared.program.FuncKind.{FuncKind}
-use Rattle.cpp_tree.specs.declared.program.FuncKind.TheVariants.{Plain, Constructor, Destructor}
-use Rattle.cpp_tree.specs.declared.program.Linkage.TheVariants.{Inline}
-use Rattle.cpp_tree.specs.declared.faults.ElabFault.{ElabFault}
-use Rattle.cpp_tree.specs.declared.faults.ElabFault.TheVariants.{Ill, Override, Limit}
-use Rattle.cpp_tree.specs.declared.faults.LimitKind.TheVariants.{Size}
-use Rattle.cpp_tree.specs.declared.faults.OverrideRule.{OverrideRule}
-use Rattle.cpp_tree.specs.declared.faults.OverrideRule.TheVariants.{OverrideNothing, OverridesFinal, BaseFinal, ReturnDiffers, LooserNoexcept, DynamicOverSafe, DynamicNotVirtual}
-use Rattle.cpp_tree.specs.declared.faults.IllRule.TheVariants.{UnknownName, Redeclared, BadDeclaration, Incomplete, AbstractObject, OutOfProfile}
-use Rattle.cpp_tree.specs.Units.{SlotFunc, Param}
-use Rattle.cpp_tree.specs.Notation.{plain}
-use Rattle.cpp_tree.specs.Typing.{form_in}
+use Rattle.elab_ctx.specs.cpp_types.Typ.{Typ, typ, Form, void, ref, func, class, tx_ex, signature, Typs, none as no_typs, more as and_typ}
+use Rattle.elab_ctx.specs.cpp_types.Equal.{typ_eq, typs_eq, flag_eq}
+use Rattle.elab_ctx.specs.cpp_types.Class.{Class, Member, Function, held, completion_of}
+use Rattle.elab_ctx.specs.cpp_types.Conversion.{volatile_of}
+use Rattle.elab_ctx.specs.cpp_types.Trivial.{is_destructor_name, is_copy_constructor, is_plain}
+use Rattle.elab_ctx.specs.cpp_types.declared.classes.At.{At}
+use Rattle.elab_ctx.specs.cpp_types.declared.classes.Safety.{Safety}
+use Rattle.elab_ctx.specs.cpp_types.declared.classes.Safety.TheVariants.{Safe, Dynamic}
+use Rattle.elab_ctx.specs.cpp_lex.Tokens.{Lexeme}
+use Rattle.elab_ctx.specs.cpp_layout.Layout.{class_extent}
+use Rattle.elab_ctx.specs.cpp_ast.declared.kinds.NodeKind.TheVariants as k
+use Rattle.elab_ctx.specs.cpp_ast.Trees as syntax
+use Rattle.elab_ctx.specs.cpp_tree.declared.program.FuncKind.{FuncKind}
+use Rattle.elab_ctx.specs.cpp_tree.declared.program.FuncKind.TheVariants.{Plain, Constructor, Destructor}
+use Rattle.elab_ctx.specs.cpp_tree.declared.program.Linkage.TheVariants.{Inline}
+use Rattle.elab_ctx.specs.cpp_tree.declared.faults.ElabFault.{ElabFault}
+use Rattle.elab_ctx.specs.cpp_tree.declared.faults.ElabFault.TheVariants.{Ill, Override, Limit}
+use Rattle.elab_ctx.specs.cpp_tree.declared.faults.LimitKind.TheVariants.{Size}
+use Rattle.elab_ctx.specs.cpp_tree.declared.faults.OverrideRule.{OverrideRule}
+use Rattle.elab_ctx.specs.cpp_tree.declared.faults.OverrideRule.TheVariants.{OverrideNothing, OverridesFinal, BaseFinal, ReturnDiffers, LooserNoexcept, DynamicOverSafe, DynamicNotVirtual}
+use Rattle.elab_ctx.specs.cpp_tree.declared.faults.IllRule.TheVariants.{UnknownName, Redeclared, BadDeclaration, Incomplete, AbstractObject, OutOfProfile}
+use Rattle.elab_ctx.specs.cpp_tree.Units.{SlotFunc, Param}
+use Rattle.elab_ctx.specs.cpp_tree.Notation.{plain}
+use Rattle.elab_ctx.specs.cpp_tree.Typing.{form_in}
 use Rattle.elab_ctx.specs.Ctx.{Ctx, Func, Special, absent, trivial, function, Traits}
 use Rattle.elab_ctx.specs.Steps.{and_then, expect, check, each_of, at_of, spelling}
 use Rattle.elab_rules.specs.Objects.{no_traits, traits_at, element_of}

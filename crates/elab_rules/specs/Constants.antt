@@ -1,19 +1,19 @@
 -- Constant expressions (C++14 5.19, cut to integers and addresses of functions and globals).
 use Rattle.std.specs.Prelude.{ℕ, ◌==◌, Bool, true, false, not, ◌&&◌, List, [], ◌∷◌, ◌^◌, Option, Some, None, Result, Ok, Err, if◌then◌else◌, slice_get, option_map, option_and_then, ℤ}
-use Rattle.tx_ints.specs.declared.kinds.IntKind.{IntKind}
-use Rattle.tx_ints.specs.declared.kinds.IntKind.TheVariants.{ULong}
-use Rattle.tx_ints.specs.declared.kinds.BinOp.{BinOp}
-use Rattle.tx_ints.specs.declared.kinds.ArithTrap.{ArithTrap}
-use Rattle.tx_ints.specs.Integers.{apply_of, is_shift}
-use Rattle.tx_ints.specs.Words.{word_of, value_of_word}
-use Rattle.cpp_types.specs.Typ.{Typ, typ, Form, int, enum, ptr}
-use Rattle.cpp_types.specs.declared.ranks.Cat.TheVariants.{Lvalue, Prvalue}
-use Rattle.cpp_tree.specs.declared.kinds.TKind.{TKind}
-use Rattle.cpp_tree.specs.declared.kinds.TKind.TheVariants.{Literal, Load, Convert, Retype, Binary, Conditional, Global as GlobalNode, Function}
-use Rattle.cpp_tree.specs.declared.program.CellKind.{CellKind}
-use Rattle.cpp_tree.specs.declared.program.CellKind.TheVariants.{Number}
-use Rattle.cpp_tree.specs.Trees.{Tree, node, Trees, none, more}
-use Rattle.cpp_tree.specs.Units.{Global, Cell}
+use Rattle.elab_ctx.specs.tx_ints.declared.kinds.IntKind.{IntKind}
+use Rattle.elab_ctx.specs.tx_ints.declared.kinds.IntKind.TheVariants.{ULong}
+use Rattle.elab_ctx.specs.tx_ints.declared.kinds.BinOp.{BinOp}
+use Rattle.elab_ctx.specs.tx_ints.declared.kinds.ArithTrap.{ArithTrap}
+use Rattle.elab_ctx.specs.tx_ints.Integers.{apply_of, is_shift}
+use Rattle.elab_ctx.specs.tx_ints.Words.{word_of, value_of_word}
+use Rattle.elab_ctx.specs.cpp_types.Typ.{Typ, typ, Form, int, enum, ptr}
+use Rattle.elab_ctx.specs.cpp_types.declared.ranks.Cat.TheVariants.{Lvalue, Prvalue}
+use Rattle.elab_ctx.specs.cpp_tree.declared.kinds.TKind.{TKind}
+use Rattle.elab_ctx.specs.cpp_tree.declared.kinds.TKind.TheVariants.{Literal, Load, Convert, Retype, Binary, Conditional, Global as GlobalNode, Function}
+use Rattle.elab_ctx.specs.cpp_tree.declared.program.CellKind.{CellKind}
+use Rattle.elab_ctx.specs.cpp_tree.declared.program.CellKind.TheVariants.{Number}
+use Rattle.elab_ctx.specs.cpp_tree.Trees.{Tree, node, Trees, none, more}
+use Rattle.elab_ctx.specs.cpp_tree.Units.{Global, Cell}
 
 -- a word in a kind
 abbrev pub word_in : IntKind → ℕ → ℕ

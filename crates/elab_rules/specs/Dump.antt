@@ -1,32 +1,32 @@
 -- Typed trees as text: a line for each node, deeper ones indented, with the offset of its place, and its category and type where it has one.
 use Rattle.std.specs.Prelude.{ℕ, zero, suc, Bool, true, false, List, [], ◌∷◌, ◌++◌, ◌+◌, ◌/◌, ◌%◌, nat_lt, length, map, Option, Some, None, Result, Ok, Err, if◌then◌else◌, slice_get, codes}
 use Rattle.std.specs.Str.{bytes_eq}
-use Rattle.tx_events.specs.declared.BlockKind.{BlockKind}
-use Rattle.tx_events.specs.declared.BlockKind.TheVariants.{NoExcept, Cancel, Commit}
-use Rattle.tx_ints.specs.declared.kinds.IntKind.{IntKind}
-use Rattle.tx_ints.specs.declared.kinds.IntKind.TheVariants.{Bool as BoolKind, Char, SChar, UChar, Short, UShort, Int, UInt, Long, ULong, LLong, ULLong}
-use Rattle.tx_ints.specs.declared.kinds.BinOp.{BinOp}
-use Rattle.tx_ints.specs.declared.kinds.BinOp.TheVariants.{Add, Sub, Mul, Div, Rem, Shl, Shr, And, Xor, Or, Lt, Gt, Le, Ge, Eq, Ne}
-use Rattle.cpp_types.specs.Typ.{Typ, typ, void, null, class, int, ptr, array, closure}
-use Rattle.cpp_types.specs.Equal.{typ_eq}
-use Rattle.cpp_types.specs.Spelling.{spelling as type_spelling, before, behind}
-use Rattle.cpp_types.specs.declared.classes.At.{At}
-use Rattle.cpp_types.specs.declared.ranks.Cat.{Cat}
-use Rattle.cpp_types.specs.declared.ranks.Cat.TheVariants.{Lvalue, Prvalue}
-use Rattle.cpp_tree.specs.declared.kinds.TKind.{TKind}
-use Rattle.cpp_tree.specs.declared.kinds.TKind.TheVariants as forms
-use Rattle.cpp_tree.specs.declared.kinds.Builtin.{Builtin}
-use Rattle.cpp_tree.specs.declared.kinds.Builtin.TheVariants.{PutChar, GetChar, Spawn, Join, Abort}
-use Rattle.cpp_tree.specs.declared.faults.ElabFault.{ElabFault}
-use Rattle.cpp_tree.specs.declared.faults.ElabFault.TheVariants.{Ill}
-use Rattle.cpp_tree.specs.Trees.{Tree, node, Trees, none, more}
-use Rattle.cpp_tree.specs.Notation.{plain}
+use Rattle.elab_ctx.specs.tx_events.declared.BlockKind.{BlockKind}
+use Rattle.elab_ctx.specs.tx_events.declared.BlockKind.TheVariants.{NoExcept, Cancel, Commit}
+use Rattle.elab_ctx.specs.tx_ints.declared.kinds.IntKind.{IntKind}
+use Rattle.elab_ctx.specs.tx_ints.declared.kinds.IntKind.TheVariants.{Bool as BoolKind, Char, SChar, UChar, Short, UShort, Int, UInt, Long, ULong, LLong, ULLong}
+use Rattle.elab_ctx.specs.tx_ints.declared.kinds.BinOp.{BinOp}
+use Rattle.elab_ctx.specs.tx_ints.declared.kinds.BinOp.TheVariants.{Add, Sub, Mul, Div, Rem, Shl, Shr, And, Xor, Or, Lt, Gt, Le, Ge, Eq, Ne}
+use Rattle.elab_ctx.specs.cpp_types.Typ.{Typ, typ, void, null, class, int, ptr, array, closure}
+use Rattle.elab_ctx.specs.cpp_types.Equal.{typ_eq}
+use Rattle.elab_ctx.specs.cpp_types.Spelling.{spelling as type_spelling, before, behind}
+use Rattle.elab_ctx.specs.cpp_types.declared.classes.At.{At}
+use Rattle.elab_ctx.specs.cpp_types.declared.ranks.Cat.{Cat}
+use Rattle.elab_ctx.specs.cpp_types.declared.ranks.Cat.TheVariants.{Lvalue, Prvalue}
+use Rattle.elab_ctx.specs.cpp_tree.declared.kinds.TKind.{TKind}
+use Rattle.elab_ctx.specs.cpp_tree.declared.kinds.TKind.TheVariants as forms
+use Rattle.elab_ctx.specs.cpp_tree.declared.kinds.Builtin.{Builtin}
+use Rattle.elab_ctx.specs.cpp_tree.declared.kinds.Builtin.TheVariants.{PutChar, GetChar, Spawn, Join, Abort}
+use Rattle.elab_ctx.specs.cpp_tree.declared.faults.ElabFault.{ElabFault}
+use Rattle.elab_ctx.specs.cpp_tree.declared.faults.ElabFault.TheVariants.{Ill}
+use Rattle.elab_ctx.specs.cpp_tree.Trees.{Tree, node, Trees, none, more}
+use Rattle.elab_ctx.specs.cpp_tree.Notation.{plain}
 use Rattle.elab_rules.specs.Initialising.{func_at}
 use Rattle.elab_rules.specs.Globals.{symbol_of, global_symbol, symbol_behind}
 use Rattle.elab_rules.specs.Statements.{State, Body}
-use Rattle.cpp_types.specs.Class.{Class, Function}
-use Rattle.cpp_tree.specs.declared.program.FuncKind.{FuncKind}
-use Rattle.cpp_tree.specs.declared.program.FuncKind.TheVariants.{ClosureCall}
+use Rattle.elab_ctx.specs.cpp_types.Class.{Class, Function}
+use Rattle.elab_ctx.specs.cpp_tree.declared.program.FuncKind.{FuncKind}
+use Rattle.elab_ctx.specs.cpp_tree.declared.program.FuncKind.TheVariants.{ClosureCall}
 use Rattle.elab_ctx.specs.Ctx.{Func}
 
 -- a number in decimal digits, which the checker computes

@@ -1,29 +1,29 @@
 -- The typed form of an expression, a type-id and a declarator: what stands in it first, from left to right, then the form itself.
 use Rattle.std.specs.Prelude.{ℕ, suc, ◌==◌, Bool, true, false, not, ◌&&◌, ◌||◌, List, [], ◌∷◌, ◌++◌, length, Option, Some, None, is_some, Result, Ok, Err, if◌then◌else◌, slice_get, codes}
 use Rattle.std.specs.Str.{bytes_eq}
-use Rattle.tx_ints.specs.declared.kinds.IntKind.{IntKind}
-use Rattle.tx_ints.specs.declared.kinds.IntKind.TheVariants.{Char, Int, Bool as BoolKind, ULong}
-use Rattle.tx_ints.specs.declared.kinds.BinOp.{BinOp}
-use Rattle.tx_ints.specs.declared.kinds.BinOp.TheVariants.{Add, Sub}
-use Rattle.cpp_types.specs.Typ.{Typ, typ, Form, void, int, enum, null, ptr, ref, array, func, class, closure, tx_ex}
-use Rattle.cpp_types.specs.declared.classes.At.{At}
-use Rattle.cpp_types.specs.declared.ranks.Cat.TheVariants.{Lvalue, Prvalue}
-use Rattle.cpp_lex.specs.Tokens.{Lexeme}
-use Rattle.cpp_lex.specs.Ints.{int_type_of}
-use Rattle.cpp_ast.specs.declared.kinds.NodeKind.{NodeKind}
-use Rattle.cpp_ast.specs.declared.kinds.NodeKind.TheVariants as k
-use Rattle.cpp_ast.specs.Trees as syntax
-use Rattle.cpp_names.specs.Names.{found_in}
-use Rattle.cpp_names.specs.declared.entity.Entity.{Entity}
-use Rattle.cpp_tree.specs.declared.kinds.TKind.{TKind}
-use Rattle.cpp_tree.specs.declared.kinds.TKind.TheVariants.{Literal, Builtin as BuiltinNode, Pieces, Piece, CopyFrom}
-use Rattle.cpp_tree.specs.declared.kinds.Builtin.TheVariants.{Abort}
-use Rattle.cpp_tree.specs.declared.faults.ElabFault.{ElabFault}
-use Rattle.cpp_tree.specs.declared.faults.ElabFault.TheVariants.{Ill}
-use Rattle.cpp_tree.specs.declared.faults.IllRule.TheVariants.{UnknownName, BadDeclaration, BadOperand, NotConstant, NotTriviallyCopyable, NoMember, OutOfProfile}
-use Rattle.cpp_tree.specs.Trees.{Tree, node, Trees, none, more, one, typ_in, cat_of, two}
-use Rattle.cpp_tree.specs.Notation.{plain}
-use Rattle.cpp_tree.specs.Typing.{form_in}
+use Rattle.elab_ctx.specs.tx_ints.declared.kinds.IntKind.{IntKind}
+use Rattle.elab_ctx.specs.tx_ints.declared.kinds.IntKind.TheVariants.{Char, Int, Bool as BoolKind, ULong}
+use Rattle.elab_ctx.specs.tx_ints.declared.kinds.BinOp.{BinOp}
+use Rattle.elab_ctx.specs.tx_ints.declared.kinds.BinOp.TheVariants.{Add, Sub}
+use Rattle.elab_ctx.specs.cpp_types.Typ.{Typ, typ, Form, void, int, enum, null, ptr, ref, array, func, class, closure, tx_ex}
+use Rattle.elab_ctx.specs.cpp_types.declared.classes.At.{At}
+use Rattle.elab_ctx.specs.cpp_types.declared.ranks.Cat.TheVariants.{Lvalue, Prvalue}
+use Rattle.elab_ctx.specs.cpp_lex.Tokens.{Lexeme}
+use Rattle.elab_ctx.specs.cpp_lex.Ints.{int_type_of}
+use Rattle.elab_ctx.specs.cpp_ast.declared.kinds.NodeKind.{NodeKind}
+use Rattle.elab_ctx.specs.cpp_ast.declared.kinds.NodeKind.TheVariants as k
+use Rattle.elab_ctx.specs.cpp_ast.Trees as syntax
+use Rattle.elab_ctx.specs.cpp_names.Names.{found_in}
+use Rattle.elab_ctx.specs.cpp_names.declared.entity.Entity.{Entity}
+use Rattle.elab_ctx.specs.cpp_tree.declared.kinds.TKind.{TKind}
+use Rattle.elab_ctx.specs.cpp_tree.declared.kinds.TKind.TheVariants.{Literal, Builtin as BuiltinNode, Pieces, Piece, CopyFrom}
+use Rattle.elab_ctx.specs.cpp_tree.declared.kinds.Builtin.TheVariants.{Abort}
+use Rattle.elab_ctx.specs.cpp_tree.declared.faults.ElabFault.{ElabFault}
+use Rattle.elab_ctx.specs.cpp_tree.declared.faults.ElabFault.TheVariants.{Ill}
+use Rattle.elab_ctx.specs.cpp_tree.declared.faults.IllRule.TheVariants.{UnknownName, BadDeclaration, BadOperand, NotConstant, NotTriviallyCopyable, NoMember, OutOfProfile}
+use Rattle.elab_ctx.specs.cpp_tree.Trees.{Tree, node, Trees, none, more, one, typ_in, cat_of, two}
+use Rattle.elab_ctx.specs.cpp_tree.Notation.{plain}
+use Rattle.elab_ctx.specs.cpp_tree.Typing.{form_in}
 use Rattle.elab_ctx.specs.Ctx.{Ctx, Work, Capture, Closure}
 use Rattle.elab_ctx.specs.Steps.{and_then, expect, check, Operand, Made, MadeAll, Typed, TypedAll, at_of, spelling, value_at, token_place}
 use Rattle.elab_rules.specs.Values.{retyped, valued, stored, part_at}

@@ -1,37 +1,37 @@
 -- Functions: declarations that agree, and bodies (C++14 3.5, 7.1.1, 7.1.2, 8.3.5, 8.4; the TS, [dcl.fct]).
 use Rattle.std.specs.Prelude.{ℕ, zero, suc, ◌+◌, ◌==◌, nat_le, Bool, true, false, not, ◌&&◌, ◌||◌, List, [], ◌∷◌, ◌++◌, length, map, Option, Some, None, is_some, is_none, Result, Ok, Err, if◌then◌else◌, slice_get, slice_set, slice_range, codes, drop}
 use Rattle.std.specs.Str.{bytes_eq}
-use Rattle.tx_ints.specs.declared.kinds.IntKind.TheVariants.{Int, ULong}
-use Rattle.cpp_types.specs.Typ.{Typ, typ, Form, void, int, enum, null, ptr, ref, array, func, class, closure, tx_ex, Signature, signature, Typs, none as no_typs}
-use Rattle.cpp_types.specs.Equal.{typ_eq, typs_eq, flag_eq}
-use Rattle.cpp_types.specs.Class.{Function, held}
-use Rattle.cpp_types.specs.declared.classes.At.{At}
-use Rattle.cpp_types.specs.declared.classes.Safety.{Safety}
-use Rattle.cpp_types.specs.declared.classes.Safety.TheVariants.{None as NoSafety, Safe, Dynamic}
-use Rattle.cpp_types.specs.declared.ranks.Cat.TheVariants.{Lvalue, Prvalue}
-use Rattle.cpp_lex.specs.Tokens.{Lexeme}
-use Rattle.cpp_ast.specs.declared.kinds.NodeKind.TheVariants as k
-use Rattle.cpp_ast.specs.Trees as syntax
-use Rattle.cpp_layout.specs.Layout.{frame_size, extent_of}
-use Rattle.cpp_names.specs.declared.entity.Entity.{Entity}
-use Rattle.cpp_names.specs.declared.entity.EntityKind.{EntityKind}
-use Rattle.cpp_names.specs.declared.entity.EntityKind.TheVariants as entities
-use Rattle.cpp_names.specs.Names.{innermost_of, with_name}
-use Rattle.cpp_tree.specs.declared.kinds.TKind.{TKind}
-use Rattle.cpp_tree.specs.declared.kinds.TKind.TheVariants as forms
-use Rattle.cpp_tree.specs.declared.program.FuncKind.{FuncKind}
-use Rattle.cpp_tree.specs.declared.program.FuncKind.TheVariants.{Plain, Constructor, Destructor, ClosureCall}
-use Rattle.cpp_tree.specs.declared.program.Linkage.{Linkage}
-use Rattle.cpp_tree.specs.declared.program.Linkage.TheVariants.{External, Internal, Inline}
-use Rattle.cpp_tree.specs.declared.faults.ElabFault.{ElabFault}
-use Rattle.cpp_tree.specs.declared.faults.ElabFault.TheVariants.{Ill, Override, Limit}
-use Rattle.cpp_tree.specs.declared.faults.OverrideRule.TheVariants.{DynamicNotVirtual}
-use Rattle.cpp_tree.specs.declared.faults.LimitKind.TheVariants.{Frame}
-use Rattle.cpp_tree.specs.declared.faults.IllRule.TheVariants.{Redeclared, TypeDiffers, SafetyDiffers, BadDeclaration, Incomplete, BadMain, OutOfProfile}
-use Rattle.cpp_tree.specs.Trees.{Tree, node, Trees, none, more, one, two, typ_in}
-use Rattle.cpp_tree.specs.Units.{Param}
-use Rattle.cpp_tree.specs.Notation.{plain}
-use Rattle.cpp_tree.specs.Typing.{form_in, unqualified, is_void, is_class_typ}
+use Rattle.elab_ctx.specs.tx_ints.declared.kinds.IntKind.TheVariants.{Int, ULong}
+use Rattle.elab_ctx.specs.cpp_types.Typ.{Typ, typ, Form, void, int, enum, null, ptr, ref, array, func, class, closure, tx_ex, Signature, signature, Typs, none as no_typs}
+use Rattle.elab_ctx.specs.cpp_types.Equal.{typ_eq, typs_eq, flag_eq}
+use Rattle.elab_ctx.specs.cpp_types.Class.{Function, held}
+use Rattle.elab_ctx.specs.cpp_types.declared.classes.At.{At}
+use Rattle.elab_ctx.specs.cpp_types.declared.classes.Safety.{Safety}
+use Rattle.elab_ctx.specs.cpp_types.declared.classes.Safety.TheVariants.{None as NoSafety, Safe, Dynamic}
+use Rattle.elab_ctx.specs.cpp_types.declared.ranks.Cat.TheVariants.{Lvalue, Prvalue}
+use Rattle.elab_ctx.specs.cpp_lex.Tokens.{Lexeme}
+use Rattle.elab_ctx.specs.cpp_ast.declared.kinds.NodeKind.TheVariants as k
+use Rattle.elab_ctx.specs.cpp_ast.Trees as syntax
+use Rattle.elab_ctx.specs.cpp_layout.Layout.{frame_size, extent_of}
+use Rattle.elab_ctx.specs.cpp_names.declared.entity.Entity.{Entity}
+use Rattle.elab_ctx.specs.cpp_names.declared.entity.EntityKind.{EntityKind}
+use Rattle.elab_ctx.specs.cpp_names.declared.entity.EntityKind.TheVariants as entities
+use Rattle.elab_ctx.specs.cpp_names.Names.{innermost_of, with_name}
+use Rattle.elab_ctx.specs.cpp_tree.declared.kinds.TKind.{TKind}
+use Rattle.elab_ctx.specs.cpp_tree.declared.kinds.TKind.TheVariants as forms
+use Rattle.elab_ctx.specs.cpp_tree.declared.program.FuncKind.{FuncKind}
+use Rattle.elab_ctx.specs.cpp_tree.declared.program.FuncKind.TheVariants.{Plain, Constructor, Destructor, ClosureCall}
+use Rattle.elab_ctx.specs.cpp_tree.declared.program.Linkage.{Linkage}
+use Rattle.elab_ctx.specs.cpp_tree.declared.program.Linkage.TheVariants.{External, Internal, Inline}
+use Rattle.elab_ctx.specs.cpp_tree.declared.faults.ElabFault.{ElabFault}
+use Rattle.elab_ctx.specs.cpp_tree.declared.faults.ElabFault.TheVariants.{Ill, Override, Limit}
+use Rattle.elab_ctx.specs.cpp_tree.declared.faults.OverrideRule.TheVariants.{DynamicNotVirtual}
+use Rattle.elab_ctx.specs.cpp_tree.declared.faults.LimitKind.TheVariants.{Frame}
+use Rattle.elab_ctx.specs.cpp_tree.declared.faults.IllRule.TheVariants.{Redeclared, TypeDiffers, SafetyDiffers, BadDeclaration, Incomplete, BadMain, OutOfProfile}
+use Rattle.elab_ctx.specs.cpp_tree.Trees.{Tree, node, Trees, none, more, one, two, typ_in}
+use Rattle.elab_ctx.specs.cpp_tree.Units.{Param}
+use Rattle.elab_ctx.specs.cpp_tree.Notation.{plain}
+use Rattle.elab_ctx.specs.cpp_tree.Typing.{form_in, unqualified, is_void, is_class_typ}
 use Rattle.elab_ctx.specs.declared.env.Label.TheVariants.{Outside}
 use Rattle.elab_ctx.specs.Ctx.{Ctx, Work, Func, Variable, This, Returns, known, Lambda, with_item, with_variable, next_place}
 use Rattle.elab_ctx.specs.Steps.{and_then, expect, check, at_of, spelling}

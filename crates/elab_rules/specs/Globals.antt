@@ -1,37 +1,37 @@
 -- Variables at file scope, with constant initialisers, and enums (C++14 3.5, 3.6.2, 7.1.1, 7.2).
 use Rattle.std.specs.Prelude.{ℕ, zero, suc, pred, ◌+◌, ◌*◌, ◌%◌, ◌^◌, ◌==◌, Bool, true, false, not, ◌&&◌, ◌||◌, List, [], ◌∷◌, ◌++◌, length, map, Option, Some, None, is_some, is_none, Result, Ok, Err, if◌then◌else◌, slice_get, slice_set, codes, unwrap_or, ℤ, pos, ◌+ℤ◌}
 use Rattle.std.specs.Str.{bytes_eq}
-use Rattle.tx_ints.specs.declared.kinds.IntKind.{IntKind}
-use Rattle.tx_ints.specs.declared.kinds.IntKind.TheVariants.{Int, ULong}
-use Rattle.tx_ints.specs.Integers.{is_in_range}
-use Rattle.tx_ints.specs.Words.{word_of, value_of_word}
-use Rattle.cpp_types.specs.Typ.{Typ, typ, Form, void, int, enum, null, ptr, ref, array, func, class, closure, tx_ex, Signature}
-use Rattle.cpp_types.specs.Equal.{typ_eq}
-use Rattle.cpp_types.specs.Class.{Class, held, Function}
-use Rattle.cpp_types.specs.Spelling.{spelling as type_spelling, listed}
-use Rattle.cpp_types.specs.declared.classes.At.{At}
-use Rattle.cpp_types.specs.declared.ranks.Cat.TheVariants.{Lvalue, Prvalue}
-use Rattle.cpp_lex.specs.Tokens.{Lexeme}
-use Rattle.cpp_layout.specs.Layout.{kind_size}
-use Rattle.cpp_ast.specs.declared.kinds.NodeKind.TheVariants as k
-use Rattle.cpp_ast.specs.Trees as syntax
-use Rattle.cpp_names.specs.declared.entity.Entity.{Entity}
-use Rattle.cpp_names.specs.declared.entity.EntityKind.{EntityKind}
-use Rattle.cpp_names.specs.declared.entity.EntityKind.TheVariants as entities
-use Rattle.cpp_names.specs.Names.{innermost_of, with_name}
-use Rattle.cpp_tree.specs.declared.kinds.TKind.{TKind}
-use Rattle.cpp_tree.specs.declared.kinds.TKind.TheVariants as forms
-use Rattle.cpp_tree.specs.declared.program.Linkage.{Linkage}
-use Rattle.cpp_tree.specs.declared.program.Linkage.TheVariants.{External, Internal, Inline}
-use Rattle.cpp_tree.specs.declared.program.CellKind.{CellKind}
-use Rattle.cpp_tree.specs.declared.program.CellKind.TheVariants.{Number, GlobalAddr, FuncAddr}
-use Rattle.cpp_tree.specs.declared.faults.ElabFault.{ElabFault}
-use Rattle.cpp_tree.specs.declared.faults.ElabFault.TheVariants.{Ill}
-use Rattle.cpp_tree.specs.declared.faults.IllRule.TheVariants.{Redeclared, TypeDiffers, BadDeclaration, NotConstant, Narrowing, BadMain, Incomplete, OutOfProfile, BadOperand}
-use Rattle.cpp_tree.specs.Trees.{Tree, node, Trees, none, more, one, typ_in}
-use Rattle.cpp_tree.specs.Units.{Global, Cell}
-use Rattle.cpp_tree.specs.Notation.{plain}
-use Rattle.cpp_tree.specs.Typing.{form_in, unqualified}
+use Rattle.elab_ctx.specs.tx_ints.declared.kinds.IntKind.{IntKind}
+use Rattle.elab_ctx.specs.tx_ints.declared.kinds.IntKind.TheVariants.{Int, ULong}
+use Rattle.elab_ctx.specs.tx_ints.Integers.{is_in_range}
+use Rattle.elab_ctx.specs.tx_ints.Words.{word_of, value_of_word}
+use Rattle.elab_ctx.specs.cpp_types.Typ.{Typ, typ, Form, void, int, enum, null, ptr, ref, array, func, class, closure, tx_ex, Signature}
+use Rattle.elab_ctx.specs.cpp_types.Equal.{typ_eq}
+use Rattle.elab_ctx.specs.cpp_types.Class.{Class, held, Function}
+use Rattle.elab_ctx.specs.cpp_types.Spelling.{spelling as type_spelling, listed}
+use Rattle.elab_ctx.specs.cpp_types.declared.classes.At.{At}
+use Rattle.elab_ctx.specs.cpp_types.declared.ranks.Cat.TheVariants.{Lvalue, Prvalue}
+use Rattle.elab_ctx.specs.cpp_lex.Tokens.{Lexeme}
+use Rattle.elab_ctx.specs.cpp_layout.Layout.{kind_size}
+use Rattle.elab_ctx.specs.cpp_ast.declared.kinds.NodeKind.TheVariants as k
+use Rattle.elab_ctx.specs.cpp_ast.Trees as syntax
+use Rattle.elab_ctx.specs.cpp_names.declared.entity.Entity.{Entity}
+use Rattle.elab_ctx.specs.cpp_names.declared.entity.EntityKind.{EntityKind}
+use Rattle.elab_ctx.specs.cpp_names.declared.entity.EntityKind.TheVariants as entities
+use Rattle.elab_ctx.specs.cpp_names.Names.{innermost_of, with_name}
+use Rattle.elab_ctx.specs.cpp_tree.declared.kinds.TKind.{TKind}
+use Rattle.elab_ctx.specs.cpp_tree.declared.kinds.TKind.TheVariants as forms
+use Rattle.elab_ctx.specs.cpp_tree.declared.program.Linkage.{Linkage}
+use Rattle.elab_ctx.specs.cpp_tree.declared.program.Linkage.TheVariants.{External, Internal, Inline}
+use Rattle.elab_ctx.specs.cpp_tree.declared.program.CellKind.{CellKind}
+use Rattle.elab_ctx.specs.cpp_tree.declared.program.CellKind.TheVariants.{Number, GlobalAddr, FuncAddr}
+use Rattle.elab_ctx.specs.cpp_tree.declared.faults.ElabFault.{ElabFault}
+use Rattle.elab_ctx.specs.cpp_tree.declared.faults.ElabFault.TheVariants.{Ill}
+use Rattle.elab_ctx.specs.cpp_tree.declared.faults.IllRule.TheVariants.{Redeclared, TypeDiffers, BadDeclaration, NotConstant, Narrowing, BadMain, Incomplete, OutOfProfile, BadOperand}
+use Rattle.elab_ctx.specs.cpp_tree.Trees.{Tree, node, Trees, none, more, one, typ_in}
+use Rattle.elab_ctx.specs.cpp_tree.Units.{Global, Cell}
+use Rattle.elab_ctx.specs.cpp_tree.Notation.{plain}
+use Rattle.elab_ctx.specs.cpp_tree.Typing.{form_in, unqualified}
 use Rattle.elab_ctx.specs.Ctx.{Ctx, Work, Func, Named, Enumerator, Special, trivial}
 use Rattle.elab_ctx.specs.Steps.{and_then, expect, check, Operand, Made, Typed, TypedAll, at_of, spelling}
 use Rattle.elab_rules.specs.Objects.{element_of, traits_at}
@@ -46,8 +46,8 @@ use Rattle.elab_rules.specs.Expressions.{expression_of, operands_of, chosen_oper
 use Rattle.elab_rules.specs.Statements.{State, default_object, copy_initialised, directly_initialised, is_bounded, bound_by_initialiser, is_trivial}
 use Rattle.elab_rules.specs.Sizes.{typ_sized}
 use Rattle.elab_rules.specs.Functions.{Storage}
-use Rattle.cpp_tree.specs.declared.program.FuncKind.{FuncKind}
-use Rattle.cpp_tree.specs.declared.program.FuncKind.TheVariants.{ClosureCall}
+use Rattle.elab_ctx.specs.cpp_tree.declared.program.FuncKind.{FuncKind}
+use Rattle.elab_ctx.specs.cpp_tree.declared.program.FuncKind.TheVariants.{ClosureCall}
 
 -- Symbols
 

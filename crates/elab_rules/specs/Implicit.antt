@@ -1,19 +1,19 @@
 -- The bodies of implicit members, for those to which something refers (C++14 12.1 p5, 12.4 p6, 12.8 p13 to p15).
 use Rattle.std.specs.Prelude.{ℕ, zero, suc, ◌==◌, Bool, false, ◌&&◌, ◌||◌, List, [], ◌∷◌, length, Option, Some, None, Result, Ok, if◌then◌else◌, slice_get}
 use Rattle.std.specs.List.{list_any}
-use Rattle.cpp_types.specs.Typ.{Typ, typ, ref, class, Typs, none as no_typs, more as and_typ}
-use Rattle.cpp_types.specs.Class.{Member}
-use Rattle.cpp_types.specs.declared.classes.At.{At}
-use Rattle.cpp_types.specs.declared.ranks.Cat.TheVariants.{Prvalue}
-use Rattle.cpp_tree.specs.declared.kinds.TKind.{TKind}
-use Rattle.cpp_tree.specs.declared.kinds.TKind.TheVariants as forms
-use Rattle.cpp_tree.specs.declared.program.FuncKind.{FuncKind}
-use Rattle.cpp_tree.specs.declared.program.FuncKind.TheVariants.{Destructor}
-use Rattle.cpp_tree.specs.declared.faults.ElabFault.{ElabFault}
-use Rattle.cpp_tree.specs.Trees.{Tree, node, Trees, none, more, one, two}
-use Rattle.cpp_tree.specs.Units.{SlotFunc}
-use Rattle.cpp_tree.specs.Notation.{plain}
-use Rattle.cpp_tree.specs.Typing.{is_class_typ, qualified}
+use Rattle.elab_ctx.specs.cpp_types.Typ.{Typ, typ, ref, class, Typs, none as no_typs, more as and_typ}
+use Rattle.elab_ctx.specs.cpp_types.Class.{Member}
+use Rattle.elab_ctx.specs.cpp_types.declared.classes.At.{At}
+use Rattle.elab_ctx.specs.cpp_types.declared.ranks.Cat.TheVariants.{Prvalue}
+use Rattle.elab_ctx.specs.cpp_tree.declared.kinds.TKind.{TKind}
+use Rattle.elab_ctx.specs.cpp_tree.declared.kinds.TKind.TheVariants as forms
+use Rattle.elab_ctx.specs.cpp_tree.declared.program.FuncKind.{FuncKind}
+use Rattle.elab_ctx.specs.cpp_tree.declared.program.FuncKind.TheVariants.{Destructor}
+use Rattle.elab_ctx.specs.cpp_tree.declared.faults.ElabFault.{ElabFault}
+use Rattle.elab_ctx.specs.cpp_tree.Trees.{Tree, node, Trees, none, more, one, two}
+use Rattle.elab_ctx.specs.cpp_tree.Units.{SlotFunc}
+use Rattle.elab_ctx.specs.cpp_tree.Notation.{plain}
+use Rattle.elab_ctx.specs.cpp_tree.Typing.{is_class_typ, qualified}
 use Rattle.elab_ctx.specs.Ctx.{Ctx, Func, with_item}
 use Rattle.elab_ctx.specs.Steps.{and_then, Operand, Made}
 use Rattle.elab_rules.specs.Values.{part_at, stored, valued}

@@ -1,31 +1,31 @@
 -- What initialises an object: conversions, bindings, constructors and copies (C++14 8.5, 12.1, 12.8, 13.3.1).
 use Rattle.std.specs.Prelude.{◌==◌, ◌&&◌, ◌||◌, not, ℕ, suc, Bool, true, false, List, [], ◌∷◌, ◌++◌, length, map, Option, Some, None, is_some, is_none, option_map, Result, Ok, Err, if◌then◌else◌, slice_get, unwrap_or}
-use Rattle.cpp_types.specs.Typ.{Typ, typ, Form, void, int, enum, null, ptr, ref, array, func, class, closure, tx_ex, Signature, signature, Typs, none as no_typs, more as and_typ}
-use Rattle.cpp_types.specs.Equal.{kind_eq, typ_eq, form_eq}
-use Rattle.cpp_types.specs.Class.{Class, completion_of}
-use Rattle.cpp_types.specs.Conversion.{conversion_of, base_steps, referred, is_object_form}
-use Rattle.cpp_types.specs.declared.classes.At.{At}
-use Rattle.cpp_types.specs.declared.ranks.Cat.{Cat}
-use Rattle.cpp_types.specs.declared.ranks.Cat.TheVariants.{Lvalue, Prvalue}
-use Rattle.cpp_types.specs.declared.ranks.Step.{Step}
-use Rattle.cpp_types.specs.declared.ranks.Step.TheVariants.{Identity}
-use Rattle.cpp_types.specs.declared.ranks.Binding.{Binding}
-use Rattle.cpp_types.specs.declared.ranks.Binding.TheVariants.{Value, Direct, Temporary}
-use Rattle.cpp_types.specs.declared.ranks.Conversion.{Conversion}
+use Rattle.elab_ctx.specs.cpp_types.Typ.{Typ, typ, Form, void, int, enum, null, ptr, ref, array, func, class, closure, tx_ex, Signature, signature, Typs, none as no_typs, more as and_typ}
+use Rattle.elab_ctx.specs.cpp_types.Equal.{kind_eq, typ_eq, form_eq}
+use Rattle.elab_ctx.specs.cpp_types.Class.{Class, completion_of}
+use Rattle.elab_ctx.specs.cpp_types.Conversion.{conversion_of, base_steps, referred, is_object_form}
+use Rattle.elab_ctx.specs.cpp_types.declared.classes.At.{At}
+use Rattle.elab_ctx.specs.cpp_types.declared.ranks.Cat.{Cat}
+use Rattle.elab_ctx.specs.cpp_types.declared.ranks.Cat.TheVariants.{Lvalue, Prvalue}
+use Rattle.elab_ctx.specs.cpp_types.declared.ranks.Step.{Step}
+use Rattle.elab_ctx.specs.cpp_types.declared.ranks.Step.TheVariants.{Identity}
+use Rattle.elab_ctx.specs.cpp_types.declared.ranks.Binding.{Binding}
+use Rattle.elab_ctx.specs.cpp_types.declared.ranks.Binding.TheVariants.{Value, Direct, Temporary}
+use Rattle.elab_ctx.specs.cpp_types.declared.ranks.Conversion.{Conversion}
 use Rattle.cpp_overload.specs.Overload.{Candidate, Argument}
 use Rattle.cpp_overload.specs.Choosing.{Choice, best, none_viable, none_best, chosen}
-use Rattle.cpp_tree.specs.declared.kinds.TKind.{TKind}
-use Rattle.cpp_tree.specs.declared.kinds.TKind.TheVariants.{Retype, Materialize, Store, Construct, CopyConstruct, CopyFrom, Pieces, Piece, Elements, Conditional, Comma, FullExpression}
-use Rattle.cpp_tree.specs.declared.program.FuncKind.{FuncKind}
-use Rattle.cpp_tree.specs.declared.program.FuncKind.TheVariants.{Constructor, Plain, ClosureCall}
-use Rattle.cpp_tree.specs.declared.program.Linkage.TheVariants.{External}
-use Rattle.cpp_types.specs.declared.classes.Safety.TheVariants.{None as NoSafety}
-use Rattle.cpp_tree.specs.declared.faults.ElabFault.{ElabFault}
-use Rattle.cpp_tree.specs.declared.faults.ElabFault.TheVariants.{Ill}
-use Rattle.cpp_tree.specs.declared.faults.IllRule.TheVariants.{NoConversion, NoViable, Ambiguous, Incomplete, AbstractObject, NoDefault, NoCopy, BadInit, OutOfProfile, BadDeclaration}
-use Rattle.cpp_tree.specs.Trees.{Tree, node, Trees, none, more, one, two, three, kind_of, typ_in, cat_of, kids_of, nowhere}
-use Rattle.cpp_tree.specs.Notation.{plain}
-use Rattle.cpp_tree.specs.Typing.{form_in, is_volatile_typ, unqualified, qualified, is_class_typ, kind_in, is_class_prvalue}
+use Rattle.elab_ctx.specs.cpp_tree.declared.kinds.TKind.{TKind}
+use Rattle.elab_ctx.specs.cpp_tree.declared.kinds.TKind.TheVariants.{Retype, Materialize, Store, Construct, CopyConstruct, CopyFrom, Pieces, Piece, Elements, Conditional, Comma, FullExpression}
+use Rattle.elab_ctx.specs.cpp_tree.declared.program.FuncKind.{FuncKind}
+use Rattle.elab_ctx.specs.cpp_tree.declared.program.FuncKind.TheVariants.{Constructor, Plain, ClosureCall}
+use Rattle.elab_ctx.specs.cpp_tree.declared.program.Linkage.TheVariants.{External}
+use Rattle.elab_ctx.specs.cpp_types.declared.classes.Safety.TheVariants.{None as NoSafety}
+use Rattle.elab_ctx.specs.cpp_tree.declared.faults.ElabFault.{ElabFault}
+use Rattle.elab_ctx.specs.cpp_tree.declared.faults.ElabFault.TheVariants.{Ill}
+use Rattle.elab_ctx.specs.cpp_tree.declared.faults.IllRule.TheVariants.{NoConversion, NoViable, Ambiguous, Incomplete, AbstractObject, NoDefault, NoCopy, BadInit, OutOfProfile, BadDeclaration}
+use Rattle.elab_ctx.specs.cpp_tree.Trees.{Tree, node, Trees, none, more, one, two, three, kind_of, typ_in, cat_of, kids_of, nowhere}
+use Rattle.elab_ctx.specs.cpp_tree.Notation.{plain}
+use Rattle.elab_ctx.specs.cpp_tree.Typing.{form_in, is_volatile_typ, unqualified, qualified, is_class_typ, kind_in, is_class_prvalue}
 use Rattle.elab_ctx.specs.Ctx.{Ctx, Work, Func, Traits, Special, absent, trivial, function, with_item, next_place}
 use Rattle.elab_ctx.specs.Steps.{and_then, expect, check, Operand, Made, MadeAll}
 use Rattle.elab_rules.specs.Values.{place_of, retyped, valued, stepped, stored, builder, temporary, converted}

@@ -2,24 +2,24 @@
 use Rattle.std.specs.Prelude.{ℕ, Bool, true, false, not, ◌&&◌, ◌||◌, List, [], ◌∷◌, ◌++◌, length, map, Option, Some, None, is_some, Result, Ok, Err, if◌then◌else◌, slice_get, codes, count_by}
 use Rattle.std.specs.List.{list_all, list_any}
 use Rattle.std.specs.Str.{bytes_eq}
-use Rattle.cpp_types.specs.Typ.{Typ, typ, Form, void, ptr, ref, func, closure, Signature, signature, none as no_typs}
-use Rattle.cpp_types.specs.Class.{Member, Function, held}
-use Rattle.cpp_types.specs.Conversion.{referred, volatile_of}
-use Rattle.cpp_types.specs.declared.classes.At.{At}
-use Rattle.cpp_lex.specs.Tokens.{Lexeme}
-use Rattle.cpp_names.specs.Names.{found_in}
-use Rattle.cpp_names.specs.declared.entity.Entity.{Entity}
-use Rattle.cpp_ast.specs.declared.kinds.NodeKind.TheVariants as k
-use Rattle.cpp_ast.specs.Trees as syntax
-use Rattle.cpp_tree.specs.declared.kinds.TKind.TheVariants as forms
-use Rattle.cpp_tree.specs.declared.program.FuncKind.TheVariants.{ClosureCall}
-use Rattle.cpp_tree.specs.declared.program.Linkage.TheVariants.{Internal}
-use Rattle.cpp_tree.specs.declared.faults.ElabFault.{ElabFault}
-use Rattle.cpp_tree.specs.declared.faults.ElabFault.TheVariants.{Ill, Override}
-use Rattle.cpp_tree.specs.declared.faults.OverrideRule.TheVariants.{DynamicNotVirtual}
-use Rattle.cpp_tree.specs.declared.faults.IllRule.TheVariants.{UnknownName, BadInit, Capture as CaptureRule, Incomplete, OutOfProfile}
-use Rattle.cpp_tree.specs.Notation.{plain}
-use Rattle.cpp_tree.specs.Typing.{form_in}
+use Rattle.elab_ctx.specs.cpp_types.Typ.{Typ, typ, Form, void, ptr, ref, func, closure, Signature, signature, none as no_typs}
+use Rattle.elab_ctx.specs.cpp_types.Class.{Member, Function, held}
+use Rattle.elab_ctx.specs.cpp_types.Conversion.{referred, volatile_of}
+use Rattle.elab_ctx.specs.cpp_types.declared.classes.At.{At}
+use Rattle.elab_ctx.specs.cpp_lex.Tokens.{Lexeme}
+use Rattle.elab_ctx.specs.cpp_names.Names.{found_in}
+use Rattle.elab_ctx.specs.cpp_names.declared.entity.Entity.{Entity}
+use Rattle.elab_ctx.specs.cpp_ast.declared.kinds.NodeKind.TheVariants as k
+use Rattle.elab_ctx.specs.cpp_ast.Trees as syntax
+use Rattle.elab_ctx.specs.cpp_tree.declared.kinds.TKind.TheVariants as forms
+use Rattle.elab_ctx.specs.cpp_tree.declared.program.FuncKind.TheVariants.{ClosureCall}
+use Rattle.elab_ctx.specs.cpp_tree.declared.program.Linkage.TheVariants.{Internal}
+use Rattle.elab_ctx.specs.cpp_tree.declared.faults.ElabFault.{ElabFault}
+use Rattle.elab_ctx.specs.cpp_tree.declared.faults.ElabFault.TheVariants.{Ill, Override}
+use Rattle.elab_ctx.specs.cpp_tree.declared.faults.OverrideRule.TheVariants.{DynamicNotVirtual}
+use Rattle.elab_ctx.specs.cpp_tree.declared.faults.IllRule.TheVariants.{UnknownName, BadInit, Capture as CaptureRule, Incomplete, OutOfProfile}
+use Rattle.elab_ctx.specs.cpp_tree.Notation.{plain}
+use Rattle.elab_ctx.specs.cpp_tree.Typing.{form_in}
 use Rattle.elab_ctx.specs.declared.env.Label.TheVariants.{Outside}
 use Rattle.elab_ctx.specs.Ctx.{Ctx, Work, Func, Variable, This, Returns, known, deduced, absent, trivial, Traits, Capture}
 use Rattle.elab_ctx.specs.Steps.{and_then, expect, check, each_of, at_of, spelling}

@@ -2,25 +2,25 @@
 use Rattle.std.specs.Prelude.{ℕ, suc, ◌==◌, Bool, true, false, not, ◌&&◌, ◌||◌, List, [], ◌∷◌, ◌++◌, drop, Option, Some, None, is_some, is_none, Result, Ok, Err, if◌then◌else◌, slice_get, slice_set}
 use Rattle.std.specs.List.{list_any}
 use Rattle.std.specs.Str.{bytes_eq}
-use Rattle.tx_ints.specs.declared.kinds.IntKind.TheVariants.{ULong}
-use Rattle.cpp_types.specs.Typ.{Typ, typ, void, ptr, class}
-use Rattle.cpp_types.specs.Class.{Class, Member, completion_of}
-use Rattle.cpp_types.specs.Trivial.{is_destructor_name}
-use Rattle.cpp_types.specs.declared.classes.At.{At}
-use Rattle.cpp_types.specs.declared.ranks.Cat.TheVariants.{Lvalue, Prvalue}
-use Rattle.cpp_lex.specs.Tokens.{Lexeme}
-use Rattle.cpp_ast.specs.declared.kinds.NodeKind.TheVariants as k
-use Rattle.cpp_ast.specs.Trees as syntax
-use Rattle.cpp_tree.specs.declared.kinds.TKind.TheVariants as forms
-use Rattle.cpp_tree.specs.declared.program.FuncKind.{FuncKind}
-use Rattle.cpp_tree.specs.declared.program.FuncKind.TheVariants.{Plain, Constructor, Destructor}
-use Rattle.cpp_tree.specs.declared.program.Linkage.TheVariants.{Inline}
-use Rattle.cpp_tree.specs.declared.faults.ElabFault.{ElabFault}
-use Rattle.cpp_tree.specs.declared.faults.ElabFault.TheVariants.{Ill}
-use Rattle.cpp_tree.specs.declared.faults.IllRule.TheVariants.{UnknownName, Redeclared, TypeDiffers, BadDeclaration, Incomplete, NoMember, OutOfProfile}
-use Rattle.cpp_tree.specs.Trees.{Tree, node, Trees, none, more, one, two}
-use Rattle.cpp_tree.specs.Notation.{plain}
-use Rattle.cpp_tree.specs.Typing.{form_in, unqualified}
+use Rattle.elab_ctx.specs.tx_ints.declared.kinds.IntKind.TheVariants.{ULong}
+use Rattle.elab_ctx.specs.cpp_types.Typ.{Typ, typ, void, ptr, class}
+use Rattle.elab_ctx.specs.cpp_types.Class.{Class, Member, completion_of}
+use Rattle.elab_ctx.specs.cpp_types.Trivial.{is_destructor_name}
+use Rattle.elab_ctx.specs.cpp_types.declared.classes.At.{At}
+use Rattle.elab_ctx.specs.cpp_types.declared.ranks.Cat.TheVariants.{Lvalue, Prvalue}
+use Rattle.elab_ctx.specs.cpp_lex.Tokens.{Lexeme}
+use Rattle.elab_ctx.specs.cpp_ast.declared.kinds.NodeKind.TheVariants as k
+use Rattle.elab_ctx.specs.cpp_ast.Trees as syntax
+use Rattle.elab_ctx.specs.cpp_tree.declared.kinds.TKind.TheVariants as forms
+use Rattle.elab_ctx.specs.cpp_tree.declared.program.FuncKind.{FuncKind}
+use Rattle.elab_ctx.specs.cpp_tree.declared.program.FuncKind.TheVariants.{Plain, Constructor, Destructor}
+use Rattle.elab_ctx.specs.cpp_tree.declared.program.Linkage.TheVariants.{Inline}
+use Rattle.elab_ctx.specs.cpp_tree.declared.faults.ElabFault.{ElabFault}
+use Rattle.elab_ctx.specs.cpp_tree.declared.faults.ElabFault.TheVariants.{Ill}
+use Rattle.elab_ctx.specs.cpp_tree.declared.faults.IllRule.TheVariants.{UnknownName, Redeclared, TypeDiffers, BadDeclaration, Incomplete, NoMember, OutOfProfile}
+use Rattle.elab_ctx.specs.cpp_tree.Trees.{Tree, node, Trees, none, more, one, two}
+use Rattle.elab_ctx.specs.cpp_tree.Notation.{plain}
+use Rattle.elab_ctx.specs.cpp_tree.Typing.{form_in, unqualified}
 use Rattle.elab_ctx.specs.Ctx.{Ctx, Func, This, Default}
 use Rattle.elab_ctx.specs.Steps.{and_then, expect, check, each_of, Made, TypedAll, at_of, spelling, token_place}
 use Rattle.elab_rules.specs.Values.{size_type, part_at}

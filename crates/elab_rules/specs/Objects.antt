@@ -1,17 +1,17 @@
 -- Objects part by part: zeros, copies and destructions (C++14 8.5, 12.4, 12.8).
 use Rattle.std.specs.Prelude.{ℕ, zero, suc, Bool, true, false, ◌||◌, ◌+◌, ◌*◌, List, [], ◌∷◌, ◌++◌, Option, Some, None, slice_get, unwrap_or, option_and_then, option_map, take, map, length, if◌then◌else◌}
-use Rattle.tx_ints.specs.declared.kinds.IntKind.{IntKind}
-use Rattle.cpp_types.specs.Typ.{Typ, typ, Form, void, int, enum, null, ptr, ref, array, func, class, closure, tx_ex}
-use Rattle.cpp_types.specs.Class.{Class, Member, completion_of}
-use Rattle.cpp_types.specs.declared.classes.At.{At}
-use Rattle.cpp_types.specs.declared.ranks.Cat.TheVariants.{Lvalue, Prvalue}
-use Rattle.cpp_layout.specs.Layout.{extent_of, Extent}
-use Rattle.cpp_layout.specs.Measured.{member_offset}
-use Rattle.cpp_tree.specs.declared.kinds.TKind.{TKind}
-use Rattle.cpp_tree.specs.declared.kinds.TKind.TheVariants.{Literal, Store, CopyScalar, CopyConstruct, Construct, Pieces, Piece, Elements, Destroy, Field}
-use Rattle.cpp_tree.specs.Trees.{Tree, node, Trees, none, more, one, two}
-use Rattle.cpp_tree.specs.Notation.{plain}
-use Rattle.cpp_tree.specs.Typing.{form_in, is_volatile_typ, unqualified, qualified, kind_in}
+use Rattle.elab_ctx.specs.tx_ints.declared.kinds.IntKind.{IntKind}
+use Rattle.elab_ctx.specs.cpp_types.Typ.{Typ, typ, Form, void, int, enum, null, ptr, ref, array, func, class, closure, tx_ex}
+use Rattle.elab_ctx.specs.cpp_types.Class.{Class, Member, completion_of}
+use Rattle.elab_ctx.specs.cpp_types.declared.classes.At.{At}
+use Rattle.elab_ctx.specs.cpp_types.declared.ranks.Cat.TheVariants.{Lvalue, Prvalue}
+use Rattle.elab_ctx.specs.cpp_layout.Layout.{extent_of, Extent}
+use Rattle.elab_ctx.specs.cpp_layout.Measured.{member_offset}
+use Rattle.elab_ctx.specs.cpp_tree.declared.kinds.TKind.{TKind}
+use Rattle.elab_ctx.specs.cpp_tree.declared.kinds.TKind.TheVariants.{Literal, Store, CopyScalar, CopyConstruct, Construct, Pieces, Piece, Elements, Destroy, Field}
+use Rattle.elab_ctx.specs.cpp_tree.Trees.{Tree, node, Trees, none, more, one, two}
+use Rattle.elab_ctx.specs.cpp_tree.Notation.{plain}
+use Rattle.elab_ctx.specs.cpp_tree.Typing.{form_in, is_volatile_typ, unqualified, qualified, kind_in}
 use Rattle.elab_ctx.specs.Ctx.{Ctx, Traits, Special, absent, trivial, function}
 use Rattle.elab_rules.specs.Values.{stored, stored_as}
 

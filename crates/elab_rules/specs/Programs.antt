@@ -1,14 +1,14 @@
 -- The typed program of some units (C++14 2.1, 3.5): each unit has its own names; classes keep their numbers through all of them.
 use Rattle.std.specs.Prelude.{ℕ, suc, ◌+◌, ◌==◌, Bool, true, false, List, [], ◌∷◌, ◌++◌, length, Option, Some, None, is_some, Result, Ok, find}
-use Rattle.cpp_types.specs.Typ.{Typ, typ, class}
-use Rattle.cpp_types.specs.Class.{Class}
-use Rattle.cpp_lex.specs.Tokens.{Lexeme}
-use Rattle.cpp_ast.specs.declared.kinds.NodeKind.TheVariants as k
-use Rattle.cpp_ast.specs.Trees as syntax
-use Rattle.cpp_tree.specs.declared.faults.ElabFault.{ElabFault}
-use Rattle.cpp_tree.specs.Trees.{Tree}
-use Rattle.cpp_tree.specs.Units.{Func as TypedFunc, Definition, Unit, TypedProgram}
-use Rattle.cpp_tree.specs.Typing.{is_class_typ}
+use Rattle.elab_ctx.specs.cpp_types.Typ.{Typ, typ, class}
+use Rattle.elab_ctx.specs.cpp_types.Class.{Class}
+use Rattle.elab_ctx.specs.cpp_lex.Tokens.{Lexeme}
+use Rattle.elab_ctx.specs.cpp_ast.declared.kinds.NodeKind.TheVariants as k
+use Rattle.elab_ctx.specs.cpp_ast.Trees as syntax
+use Rattle.elab_ctx.specs.cpp_tree.declared.faults.ElabFault.{ElabFault}
+use Rattle.elab_ctx.specs.cpp_tree.Trees.{Tree}
+use Rattle.elab_ctx.specs.cpp_tree.Units.{Func as TypedFunc, Definition, Unit, TypedProgram}
+use Rattle.elab_ctx.specs.cpp_tree.Typing.{is_class_typ}
 use Rattle.elab_ctx.specs.Ctx.{Ctx, Func, Traits}
 use Rattle.elab_ctx.specs.Steps.{and_then, spelling}
 use Rattle.elab_rules.specs.Initialising.{signature_result}

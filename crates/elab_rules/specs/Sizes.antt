@@ -1,12 +1,12 @@
 -- How long types, symbols and texts are, counted without writing them: none is longer than 1,048,576 bytes (profile).
 use Rattle.std.specs.Prelude.{ℕ, ◌+◌, nat_lt, nat_le, Bool, true, false, ◌||◌, List, [], ◌∷◌, length, Option, Some, None, Result, Ok, Err, if◌then◌else◌, slice_get}
-use Rattle.cpp_types.specs.Typ.{Typ, typ, Form, void, int, enum, null, ptr, ref, array, func, class, closure, tx_ex, Signature, signature, Typs, none, more}
-use Rattle.cpp_types.specs.Class.{Class, Function}
-use Rattle.cpp_types.specs.Spelling.{kind_spelling, name_of}
-use Rattle.cpp_types.specs.declared.classes.At.{At}
-use Rattle.cpp_tree.specs.declared.faults.ElabFault.{ElabFault}
-use Rattle.cpp_tree.specs.declared.faults.ElabFault.TheVariants.{Limit}
-use Rattle.cpp_tree.specs.declared.faults.LimitKind.TheVariants.{Size}
+use Rattle.elab_ctx.specs.cpp_types.Typ.{Typ, typ, Form, void, int, enum, null, ptr, ref, array, func, class, closure, tx_ex, Signature, signature, Typs, none, more}
+use Rattle.elab_ctx.specs.cpp_types.Class.{Class, Function}
+use Rattle.elab_ctx.specs.cpp_types.Spelling.{kind_spelling, name_of}
+use Rattle.elab_ctx.specs.cpp_types.declared.classes.At.{At}
+use Rattle.elab_ctx.specs.cpp_tree.declared.faults.ElabFault.{ElabFault}
+use Rattle.elab_ctx.specs.cpp_tree.declared.faults.ElabFault.TheVariants.{Limit}
+use Rattle.elab_ctx.specs.cpp_tree.declared.faults.LimitKind.TheVariants.{Size}
 
 -- the decimal digits of a number below 10,000,000, as offsets and bounds are
 abbrev pub digit_count : ℕ → ℕ

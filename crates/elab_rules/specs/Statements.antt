@@ -3,36 +3,36 @@ use Rattle.std.specs.Prelude.{ℕ, zero, suc, ◌+◌, ◌==◌, nat_le, Bool, t
 use Rattle.std.specs.List.{list_any}
 use Rattle.std.specs.Str.{bytes_eq}
 use Rattle.std.specs.Ordering.{int_eq}
-use Rattle.tx_events.specs.declared.BlockKind.{BlockKind}
-use Rattle.tx_events.specs.declared.BlockKind.TheVariants.{NoExcept, Cancel, Commit}
-use Rattle.tx_ints.specs.declared.kinds.IntKind.{IntKind}
-use Rattle.tx_ints.specs.declared.kinds.IntKind.TheVariants.{Int, ULong, Bool as BoolKind}
-use Rattle.tx_ints.specs.Integers.{promote_of, convert_of}
-use Rattle.tx_ints.specs.Words.{value_of_word}
-use Rattle.cpp_types.specs.Typ.{Typ, typ, Form, void, int, enum, null, ptr, ref, array, func, class, closure, tx_ex}
-use Rattle.cpp_types.specs.Equal.{typ_eq}
-use Rattle.cpp_types.specs.Class.{held}
-use Rattle.cpp_types.specs.Conversion.{referred, conversion_of}
-use Rattle.cpp_types.specs.declared.classes.At.{At}
-use Rattle.cpp_types.specs.declared.ranks.Cat.TheVariants.{Lvalue, Prvalue}
-use Rattle.cpp_types.specs.declared.ranks.Binding.{Binding}
-use Rattle.cpp_types.specs.declared.ranks.Binding.TheVariants.{Value, Direct, Temporary}
-use Rattle.cpp_types.specs.declared.ranks.Conversion.{Conversion}
-use Rattle.cpp_lex.specs.Tokens.{Lexeme}
-use Rattle.cpp_ast.specs.declared.kinds.NodeKind.{NodeKind}
-use Rattle.cpp_ast.specs.declared.kinds.NodeKind.TheVariants as k
-use Rattle.cpp_ast.specs.Trees as syntax
-use Rattle.cpp_names.specs.declared.entity.Entity.{Entity}
-use Rattle.cpp_names.specs.declared.entity.EntityKind.TheVariants as entities
-use Rattle.cpp_names.specs.Names.{innermost_of}
-use Rattle.cpp_tree.specs.declared.kinds.TKind.{TKind}
-use Rattle.cpp_tree.specs.declared.kinds.TKind.TheVariants as forms
-use Rattle.cpp_tree.specs.declared.faults.ElabFault.{ElabFault}
-use Rattle.cpp_tree.specs.declared.faults.ElabFault.TheVariants.{Ill, JumpIntoBlock}
-use Rattle.cpp_tree.specs.declared.faults.IllRule.TheVariants.{Redeclared, TypeDiffers, BadDeclaration, NotConstant, NoConversion, Incomplete, NoDefault, BadInit, Narrowing, BadReturn, BadBreak, BadCatch, BadCase, JumpPastInit, OutOfProfile}
-use Rattle.cpp_tree.specs.Trees.{Tree, node, Trees, none, more, one, two, three, typ_in, cat_of, kind_of}
-use Rattle.cpp_tree.specs.Notation.{plain}
-use Rattle.cpp_tree.specs.Typing.{form_in, unqualified, is_void, is_class_typ, kind_in, is_class_prvalue, is_reference}
+use Rattle.elab_ctx.specs.tx_events.declared.BlockKind.{BlockKind}
+use Rattle.elab_ctx.specs.tx_events.declared.BlockKind.TheVariants.{NoExcept, Cancel, Commit}
+use Rattle.elab_ctx.specs.tx_ints.declared.kinds.IntKind.{IntKind}
+use Rattle.elab_ctx.specs.tx_ints.declared.kinds.IntKind.TheVariants.{Int, ULong, Bool as BoolKind}
+use Rattle.elab_ctx.specs.tx_ints.Integers.{promote_of, convert_of}
+use Rattle.elab_ctx.specs.tx_ints.Words.{value_of_word}
+use Rattle.elab_ctx.specs.cpp_types.Typ.{Typ, typ, Form, void, int, enum, null, ptr, ref, array, func, class, closure, tx_ex}
+use Rattle.elab_ctx.specs.cpp_types.Equal.{typ_eq}
+use Rattle.elab_ctx.specs.cpp_types.Class.{held}
+use Rattle.elab_ctx.specs.cpp_types.Conversion.{referred, conversion_of}
+use Rattle.elab_ctx.specs.cpp_types.declared.classes.At.{At}
+use Rattle.elab_ctx.specs.cpp_types.declared.ranks.Cat.TheVariants.{Lvalue, Prvalue}
+use Rattle.elab_ctx.specs.cpp_types.declared.ranks.Binding.{Binding}
+use Rattle.elab_ctx.specs.cpp_types.declared.ranks.Binding.TheVariants.{Value, Direct, Temporary}
+use Rattle.elab_ctx.specs.cpp_types.declared.ranks.Conversion.{Conversion}
+use Rattle.elab_ctx.specs.cpp_lex.Tokens.{Lexeme}
+use Rattle.elab_ctx.specs.cpp_ast.declared.kinds.NodeKind.{NodeKind}
+use Rattle.elab_ctx.specs.cpp_ast.declared.kinds.NodeKind.TheVariants as k
+use Rattle.elab_ctx.specs.cpp_ast.Trees as syntax
+use Rattle.elab_ctx.specs.cpp_names.declared.entity.Entity.{Entity}
+use Rattle.elab_ctx.specs.cpp_names.declared.entity.EntityKind.TheVariants as entities
+use Rattle.elab_ctx.specs.cpp_names.Names.{innermost_of}
+use Rattle.elab_ctx.specs.cpp_tree.declared.kinds.TKind.{TKind}
+use Rattle.elab_ctx.specs.cpp_tree.declared.kinds.TKind.TheVariants as forms
+use Rattle.elab_ctx.specs.cpp_tree.declared.faults.ElabFault.{ElabFault}
+use Rattle.elab_ctx.specs.cpp_tree.declared.faults.ElabFault.TheVariants.{Ill, JumpIntoBlock}
+use Rattle.elab_ctx.specs.cpp_tree.declared.faults.IllRule.TheVariants.{Redeclared, TypeDiffers, BadDeclaration, NotConstant, NoConversion, Incomplete, NoDefault, BadInit, Narrowing, BadReturn, BadBreak, BadCatch, BadCase, JumpPastInit, OutOfProfile}
+use Rattle.elab_ctx.specs.cpp_tree.Trees.{Tree, node, Trees, none, more, one, two, three, typ_in, cat_of, kind_of}
+use Rattle.elab_ctx.specs.cpp_tree.Notation.{plain}
+use Rattle.elab_ctx.specs.cpp_tree.Typing.{form_in, unqualified, is_void, is_class_typ, kind_in, is_class_prvalue, is_reference}
 use Rattle.elab_ctx.specs.declared.env.Label.{Label}
 use Rattle.elab_ctx.specs.declared.env.Label.TheVariants.{Outside, Direct as DirectLabel, Inside, InBlock}
 use Rattle.elab_ctx.specs.Ctx.{Ctx, Work, Variable, Returns, known, deduced, Labels, Func, Special, absent, trivial, function, opened, closed, with_variable, with_item, next_place}

@@ -1,7 +1,7 @@
 -- The bytes of a string literal (C++14 2.14.3, 2.14.5), by reading its spelling once from the left.
 use Rattle.std.specs.Prelude.{ℕ, zero, suc, ◌+◌, ◌-◌, ◌*◌, nat_le, nat_eq, Bool, true, false, ◌&&◌, List, [], ◌∷◌, ◌++◌, fold, Option, Some, None, if◌then◌else◌, unwrap_or}
-use Rattle.cpp_lex.specs.Bytes.{digit_value, is_digit}
-use Rattle.cpp_lex.specs.Quoted.{simple_escape}
+use Rattle.elab_ctx.specs.cpp_lex.Bytes.{digit_value, is_digit}
+use Rattle.elab_ctx.specs.cpp_lex.Quoted.{simple_escape}
 
 -- where the reading is: in text, behind a backslash, or in a number with so many octal digits left, or a hexadecimal one
 pub data Mode : Type 0 where

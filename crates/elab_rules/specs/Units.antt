@@ -1,21 +1,21 @@
 -- The declarations of a unit in the order of the text (C++14 3.5, clause 7).
 use Rattle.std.specs.Prelude.{ℕ, Bool, true, false, List, [], ◌∷◌, Option, Some, None, is_some, Result, Ok, Err, if◌then◌else◌, codes, slice_get}
 use Rattle.std.specs.Str.{bytes_eq}
-use Rattle.tx_ints.specs.declared.kinds.IntKind.TheVariants.{Int, Long}
-use Rattle.cpp_types.specs.Typ.{Typ, Form, void, int, ptr, func, Signature, signature, Typs, none as no_typs, more as and_typ}
-use Rattle.cpp_types.specs.declared.classes.At.{At}
-use Rattle.cpp_lex.specs.Tokens.{Lexeme}
-use Rattle.cpp_ast.specs.declared.kinds.NodeKind.TheVariants as k
-use Rattle.cpp_ast.specs.Trees as syntax
-use Rattle.cpp_names.specs.declared.entity.EntityKind.TheVariants as entities
-use Rattle.cpp_tree.specs.declared.kinds.Builtin.{Builtin}
-use Rattle.cpp_tree.specs.declared.kinds.Builtin.TheVariants.{PutChar, GetChar, Spawn, Join}
-use Rattle.cpp_tree.specs.declared.program.FuncKind.TheVariants.{Plain, Constructor, Destructor}
-use Rattle.cpp_tree.specs.declared.faults.ElabFault.{ElabFault}
-use Rattle.cpp_tree.specs.declared.faults.ElabFault.TheVariants.{Ill}
-use Rattle.cpp_tree.specs.declared.faults.IllRule.TheVariants.{BadDeclaration, OutOfProfile}
-use Rattle.cpp_tree.specs.Notation.{plain}
-use Rattle.cpp_tree.specs.Typing.{form_in}
+use Rattle.elab_ctx.specs.tx_ints.declared.kinds.IntKind.TheVariants.{Int, Long}
+use Rattle.elab_ctx.specs.cpp_types.Typ.{Typ, Form, void, int, ptr, func, Signature, signature, Typs, none as no_typs, more as and_typ}
+use Rattle.elab_ctx.specs.cpp_types.declared.classes.At.{At}
+use Rattle.elab_ctx.specs.cpp_lex.Tokens.{Lexeme}
+use Rattle.elab_ctx.specs.cpp_ast.declared.kinds.NodeKind.TheVariants as k
+use Rattle.elab_ctx.specs.cpp_ast.Trees as syntax
+use Rattle.elab_ctx.specs.cpp_names.declared.entity.EntityKind.TheVariants as entities
+use Rattle.elab_ctx.specs.cpp_tree.declared.kinds.Builtin.{Builtin}
+use Rattle.elab_ctx.specs.cpp_tree.declared.kinds.Builtin.TheVariants.{PutChar, GetChar, Spawn, Join}
+use Rattle.elab_ctx.specs.cpp_tree.declared.program.FuncKind.TheVariants.{Plain, Constructor, Destructor}
+use Rattle.elab_ctx.specs.cpp_tree.declared.faults.ElabFault.{ElabFault}
+use Rattle.elab_ctx.specs.cpp_tree.declared.faults.ElabFault.TheVariants.{Ill}
+use Rattle.elab_ctx.specs.cpp_tree.declared.faults.IllRule.TheVariants.{BadDeclaration, OutOfProfile}
+use Rattle.elab_ctx.specs.cpp_tree.Notation.{plain}
+use Rattle.elab_ctx.specs.cpp_tree.Typing.{form_in}
 use Rattle.elab_ctx.specs.declared.env.Label.TheVariants.{Outside}
 use Rattle.elab_ctx.specs.Ctx.{Func, known}
 use Rattle.elab_ctx.specs.Steps.{and_then, check, each_of, at_of, spelling}

@@ -1,19 +1,19 @@
 -- Statements, one behind the other.
 use Rattle.std.proofs.Common.{◌≡◌, ◌<◌, ◌≤◌, ◌+◌, ◌++◌, ◌∷◌, ℕ, true, List, [], length, drop, get_or, refl, sym, ap, ◌∙◌, subst, Result, Ok, Err}
-use Rattle.cpp_ast.specs.Trees as syntax
-use Rattle.cpp_ast.specs.declared.arena.NodeId.{NodeId}
-use Rattle.cpp_tree.specs.declared.faults.ElabFault.{ElabFault}
-use Rattle.cpp_tree.specs.declared.faults.ElabFault.TheVariants.{Ill, Override, JumpIntoBlock, Limit, Memory}
-use Rattle.cpp_tree.specs.declared.arena.TNodeId.{TNodeId}
-use Rattle.cpp_tree.specs.Trees.{Tree, Trees, none, one}
-use Rattle.cpp_tree.specs.Arena.{tree_at, trees_at}
-use Rattle.elab_ctx.specs.Steps.{and_then}
-use Rattle.elab_ctx.specs.Says.{Faults, are_within}
-use Rattle.elab_ctx.proofs.Making.{faults_in, faults_same}
-use Rattle.elab_init.proofs.Listing.{trees_append, trees_grown, all_within_grown, within_both, within_one, followed_twice, followed_none, drop_step, drop_past}
-use Rattle.elab_rules.specs.Objects.{followed_by}
-use Rattle.elab_rules.specs.Statements.{State, Done, done, joined}
-use Rattle.elab_types.specs.Syntax.{tree_at as syntax_at, trees_at as syntaxes_at}
+use Rattle.elab_expr.specs.cpp_ast.Trees as syntax
+use Rattle.elab_expr.specs.cpp_ast.declared.arena.NodeId.{NodeId}
+use Rattle.elab_expr.specs.cpp_tree.declared.faults.ElabFault.{ElabFault}
+use Rattle.elab_expr.specs.cpp_tree.declared.faults.ElabFault.TheVariants.{Ill, Override, JumpIntoBlock, Limit, Memory}
+use Rattle.elab_expr.specs.cpp_tree.declared.arena.TNodeId.{TNodeId}
+use Rattle.elab_expr.specs.cpp_tree.Trees.{Tree, Trees, none, one}
+use Rattle.elab_expr.specs.cpp_tree.Arena.{tree_at, trees_at}
+use Rattle.elab_expr.specs.elab_ctx.Steps.{and_then}
+use Rattle.elab_expr.specs.elab_ctx.Says.{Faults, are_within}
+use Rattle.elab_expr.proofs.elab_ctx.Making.{faults_in, faults_same}
+use Rattle.elab_expr.proofs.elab_init.Listing.{trees_append, trees_grown, all_within_grown, within_both, within_one, followed_twice, followed_none, drop_step, drop_past}
+use Rattle.elab_expr.specs.elab_rules.Objects.{followed_by}
+use Rattle.elab_expr.specs.elab_rules.Statements.{State, Done, done, joined}
+use Rattle.elab_expr.specs.elab_types.Syntax.{tree_at as syntax_at, trees_at as syntaxes_at}
 use Rattle.elab_scopes.specs.declared.state.State.{State as StateRec}
 use Rattle.elab_scopes.specs.States.{state_of, made, Grown}
 use Rattle.elab_scopes.specs.Says.{OneDone, AllDone, DoesAll, behind}

@@ -1,13 +1,13 @@
 -- A handler of a declared type.
 use Rattle.std.proofs.Common.{◌≡◌, ◌∙◌, ℕ, List, Option, Result, refl, sym, ap}
-use Rattle.cpp_lex.specs.Tokens.{Lexeme}
-use Rattle.cpp_types.specs.declared.classes.At.{At}
-use Rattle.cpp_ast.specs.declared.arena.At.{At as SyntaxAt}
-use Rattle.cpp_ast.specs.declared.kinds.NodeKind.TheVariants as k
-use Rattle.cpp_ast.specs.Trees as syntax
-use Rattle.cpp_tree.specs.declared.faults.ElabFault.{ElabFault}
-use Rattle.elab_ctx.specs.Steps.{at_of}
-use Rattle.elab_rules.specs.Statements.{State, handler_type}
+use Rattle.elab_expr.specs.cpp_lex.Tokens.{Lexeme}
+use Rattle.elab_expr.specs.cpp_types.declared.classes.At.{At}
+use Rattle.elab_expr.specs.cpp_ast.declared.arena.At.{At as SyntaxAt}
+use Rattle.elab_expr.specs.cpp_ast.declared.kinds.NodeKind.TheVariants as k
+use Rattle.elab_expr.specs.cpp_ast.Trees as syntax
+use Rattle.elab_expr.specs.cpp_tree.declared.faults.ElabFault.{ElabFault}
+use Rattle.elab_expr.specs.elab_ctx.Steps.{at_of}
+use Rattle.elab_expr.specs.elab_rules.Statements.{State, handler_type}
 use Rattle.elab_scopes.specs.declared.state.State.{State as StateRec}
 use Rattle.elab_scopes.specs.declared.state.Caught.{Caught as CaughtRec}
 use Rattle.elab_scopes.specs.Caught.{Catches, parameter_caught}

@@ -1,26 +1,26 @@
 -- Small steps: names that are declared twice, results by their type, values of `switch`.
 use Rattle.std.proofs.Common.{◌≡◌, ◌∙◌, ℕ, Bool, true, false, nat_lt, lt-ltb, arith, length, List, [], ◌∷◌, Some, Result, Ok, Err, refl, sym, ap, subst}
-use Rattle.cpp_types.specs.Typ.{Typ, typ, void, int, enum, null, ptr, ref, array, func, class, closure, tx_ex, typ_of}
-use Rattle.cpp_types.specs.declared.classes.At.{At}
-use Rattle.cpp_names.specs.declared.entity.Entity.{Entity}
-use Rattle.cpp_names.specs.Names.{innermost_of}
-use Rattle.cpp_tree.specs.declared.faults.ElabFault.{ElabFault}
-use Rattle.cpp_tree.specs.declared.faults.ElabFault.TheVariants.{Ill}
-use Rattle.cpp_tree.specs.declared.faults.IllRule.TheVariants.{Redeclared}
-use Rattle.cpp_tree.specs.declared.arena.TNodeId.{TNodeId}
-use Rattle.cpp_tree.specs.Trees.{Tree, typ_in}
-use Rattle.cpp_tree.specs.Arena.{tree_at, trees_at, Adds}
-use Rattle.cpp_tree.specs.declared.kinds.TKind.{TKind}
-use Rattle.cpp_tree.specs.declared.kinds.TKind.TheVariants.{Materialize}
-use Rattle.elab_ctx.proofs.Looks.{grows_trans}
-use Rattle.elab_ctx.specs.Operands.{operand_in}
-use Rattle.elab_ctx.specs.declared.operand.Operand.{Operand as OperandRec}
-use Rattle.elab_rules.specs.Operators.{value}
-use Rattle.cpp_tree.specs.Typing.{form_in, is_void, is_class_typ}
-use Rattle.elab_ctx.specs.Ctx.{Ctx}
-use Rattle.elab_ctx.specs.Steps.{and_then, check, Operand}
-use Rattle.elab_ctx.specs.Says.{Faults}
-use Rattle.elab_rules.specs.Statements.{State, Done, Full, Switched, Caught, full, is_temporary_with, is_fresh, return_value, switched_type, switch_value}
+use Rattle.elab_expr.specs.cpp_types.Typ.{Typ, typ, void, int, enum, null, ptr, ref, array, func, class, closure, tx_ex, typ_of}
+use Rattle.elab_expr.specs.cpp_types.declared.classes.At.{At}
+use Rattle.elab_expr.specs.cpp_names.declared.entity.Entity.{Entity}
+use Rattle.elab_expr.specs.cpp_names.Names.{innermost_of}
+use Rattle.elab_expr.specs.cpp_tree.declared.faults.ElabFault.{ElabFault}
+use Rattle.elab_expr.specs.cpp_tree.declared.faults.ElabFault.TheVariants.{Ill}
+use Rattle.elab_expr.specs.cpp_tree.declared.faults.IllRule.TheVariants.{Redeclared}
+use Rattle.elab_expr.specs.cpp_tree.declared.arena.TNodeId.{TNodeId}
+use Rattle.elab_expr.specs.cpp_tree.Trees.{Tree, typ_in}
+use Rattle.elab_expr.specs.cpp_tree.Arena.{tree_at, trees_at, Adds}
+use Rattle.elab_expr.specs.cpp_tree.declared.kinds.TKind.{TKind}
+use Rattle.elab_expr.specs.cpp_tree.declared.kinds.TKind.TheVariants.{Materialize}
+use Rattle.elab_expr.proofs.elab_ctx.Looks.{grows_trans}
+use Rattle.elab_expr.specs.elab_ctx.Operands.{operand_in}
+use Rattle.elab_expr.specs.elab_ctx.declared.operand.Operand.{Operand as OperandRec}
+use Rattle.elab_expr.specs.elab_rules.Operators.{value}
+use Rattle.elab_expr.specs.cpp_tree.Typing.{form_in, is_void, is_class_typ}
+use Rattle.elab_expr.specs.elab_ctx.Ctx.{Ctx}
+use Rattle.elab_expr.specs.elab_ctx.Steps.{and_then, check, Operand}
+use Rattle.elab_expr.specs.elab_ctx.Says.{Faults}
+use Rattle.elab_expr.specs.elab_rules.Statements.{State, Done, Full, Switched, Caught, full, is_temporary_with, is_fresh, return_value, switched_type, switch_value}
 use Rattle.elab_scopes.specs.declared.state.State.{State as StateRec}
 use Rattle.elab_scopes.specs.Returning.{return_object, return_scalar}
 use Rattle.elab_scopes.specs.Wholes.{value_at, switched_on}

@@ -1,21 +1,21 @@
 -- A label from its expression, step by step.
 use Rattle.std.proofs.Common.{◌≡◌, ℕ, Bool, List, refl, sym, ap, ◌∙◌, Result, Ok, Err}
-use Rattle.cpp_lex.specs.Tokens.{Lexeme}
-use Rattle.cpp_types.specs.declared.classes.At.{At}
-use Rattle.cpp_ast.specs.Trees as syntax
-use Rattle.cpp_tree.specs.declared.faults.ElabFault.{ElabFault}
-use Rattle.cpp_tree.specs.declared.faults.IllRule.TheVariants.{NotConstant, Narrowing}
-use Rattle.cpp_tree.specs.declared.arena.TNodeId.{TNodeId}
-use Rattle.cpp_tree.specs.Trees.{typ_in}
-use Rattle.cpp_tree.specs.Typing.{form_in, kind_in}
-use Rattle.elab_ctx.specs.Steps.{and_then, expect, check, Made, Typed}
-use Rattle.elab_ctx.specs.Says.{Faults}
-use Rattle.elab_ctx.proofs.Making.{faults_in, faults_same}
-use Rattle.elab_rules.specs.Initialising.{initial}
-use Rattle.elab_rules.specs.Constants.{constant}
-use Rattle.elab_rules.specs.Operators.{value}
-use Rattle.elab_rules.specs.Expressions.{expression_of, chosen_operand}
-use Rattle.elab_rules.specs.Statements.{State, label_here, case_fits, case_label}
+use Rattle.elab_expr.specs.cpp_lex.Tokens.{Lexeme}
+use Rattle.elab_expr.specs.cpp_types.declared.classes.At.{At}
+use Rattle.elab_expr.specs.cpp_ast.Trees as syntax
+use Rattle.elab_expr.specs.cpp_tree.declared.faults.ElabFault.{ElabFault}
+use Rattle.elab_expr.specs.cpp_tree.declared.faults.IllRule.TheVariants.{NotConstant, Narrowing}
+use Rattle.elab_expr.specs.cpp_tree.declared.arena.TNodeId.{TNodeId}
+use Rattle.elab_expr.specs.cpp_tree.Trees.{typ_in}
+use Rattle.elab_expr.specs.cpp_tree.Typing.{form_in, kind_in}
+use Rattle.elab_expr.specs.elab_ctx.Steps.{and_then, expect, check, Made, Typed}
+use Rattle.elab_expr.specs.elab_ctx.Says.{Faults}
+use Rattle.elab_expr.proofs.elab_ctx.Making.{faults_in, faults_same}
+use Rattle.elab_expr.specs.elab_rules.Initialising.{initial}
+use Rattle.elab_expr.specs.elab_rules.Constants.{constant}
+use Rattle.elab_expr.specs.elab_rules.Operators.{value}
+use Rattle.elab_expr.specs.elab_rules.Expressions.{expression_of, chosen_operand}
+use Rattle.elab_expr.specs.elab_rules.Statements.{State, label_here, case_fits, case_label}
 use Rattle.elab_scopes.specs.Labelled.{word_of, label_word, case_word, case_of}
 use Rattle.elab_scopes.specs.declared.state.State.{State as StateRec}
 use Rattle.elab_scopes.specs.States.{state_of}

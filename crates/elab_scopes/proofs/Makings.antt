@@ -1,10 +1,10 @@
 -- The lambdas of several expressions, one behind the other.
 use Rattle.std.proofs.Common.{◌≡◌, refl, ap, ◌∙◌, Result, Ok}
-use Rattle.cpp_tree.specs.declared.faults.ElabFault.{ElabFault}
-use Rattle.elab_ctx.specs.Steps.{and_then}
-use Rattle.elab_ctx.specs.Says.{Faults}
-use Rattle.elab_ctx.proofs.Making.{faults_in, faults_same}
-use Rattle.elab_rules.specs.Statements.{State}
+use Rattle.elab_expr.specs.cpp_tree.declared.faults.ElabFault.{ElabFault}
+use Rattle.elab_expr.specs.elab_ctx.Steps.{and_then}
+use Rattle.elab_expr.specs.elab_ctx.Says.{Faults}
+use Rattle.elab_expr.proofs.elab_ctx.Making.{faults_in, faults_same}
+use Rattle.elab_expr.specs.elab_rules.Statements.{State}
 use Rattle.elab_scopes.specs.declared.state.State.{State as StateRec}
 use Rattle.elab_scopes.specs.States.{state_of, Grown}
 use Rattle.elab_scopes.specs.Says.{Changed}

@@ -1,15 +1,15 @@
 -- What stays of a state, in several steps.
 use Rattle.std.proofs.Common.{◌≡◌, ◌<◌, ◌++◌, ℕ, List, [], length, refl, sym, ap, ◌∙◌, append_assoc, append-nil, subst, Result, Ok, Err, IfOk}
 use Rattle.std.specs.declared.alloc.AllocError.{AllocError}
-use Rattle.cpp_tree.specs.declared.faults.ElabFault.{ElabFault}
-use Rattle.cpp_tree.specs.declared.arena.TNodeId.{TNodeId}
-use Rattle.cpp_tree.specs.Trees.{Tree, one}
-use Rattle.cpp_tree.specs.Arena.{tree_at, Grows}
-use Rattle.elab_ctx.specs.Ctx.{Labels, ctx_of}
-use Rattle.elab_ctx.specs.Steps.{and_then}
-use Rattle.elab_ctx.proofs.Looks.{grows_refl, grows_trans}
-use Rattle.elab_ctx.proofs.Making.{faults_same}
-use Rattle.elab_rules.specs.Statements.{State, Done, Switched, done}
+use Rattle.elab_expr.specs.cpp_tree.declared.faults.ElabFault.{ElabFault}
+use Rattle.elab_expr.specs.cpp_tree.declared.arena.TNodeId.{TNodeId}
+use Rattle.elab_expr.specs.cpp_tree.Trees.{Tree, one}
+use Rattle.elab_expr.specs.cpp_tree.Arena.{tree_at, Grows}
+use Rattle.elab_expr.specs.elab_ctx.Ctx.{Labels, ctx_of}
+use Rattle.elab_expr.specs.elab_ctx.Steps.{and_then}
+use Rattle.elab_expr.proofs.elab_ctx.Looks.{grows_refl, grows_trans}
+use Rattle.elab_expr.proofs.elab_ctx.Making.{faults_same}
+use Rattle.elab_expr.specs.elab_rules.Statements.{State, Done, Switched, done}
 use Rattle.elab_scopes.specs.declared.state.State.{State as StateRec}
 use Rattle.elab_scopes.specs.declared.state.SwitchedOn.{SwitchedOn}
 use Rattle.elab_scopes.specs.States.{state_of, made, KeepsLabels, Grown}

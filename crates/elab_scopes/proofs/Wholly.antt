@@ -1,19 +1,19 @@
 -- What is made of a full-expression, as a whole.
 use Rattle.std.proofs.Common.{◌≡◌, ◌<◌, List, sym, ap, ◌∙◌, Result, Ok, IfOk}
 use Rattle.std.specs.declared.alloc.AllocError.{AllocError}
-use Rattle.cpp_types.specs.declared.classes.At.{At}
-use Rattle.cpp_tree.specs.declared.faults.ElabFault.{ElabFault}
-use Rattle.cpp_tree.specs.declared.arena.TNodeId.{TNodeId}
-use Rattle.cpp_tree.specs.Trees.{Tree, one}
-use Rattle.cpp_tree.specs.Arena.{tree_at, Adds}
-use Rattle.elab_ctx.specs.Ctx.{Work, work_of}
-use Rattle.elab_ctx.specs.Steps.{and_then, Made}
-use Rattle.elab_ctx.specs.Says.{MadeAt}
-use Rattle.elab_rules.specs.Statements.{State, Full, done, full, full_made, with_work}
+use Rattle.elab_expr.specs.cpp_types.declared.classes.At.{At}
+use Rattle.elab_expr.specs.cpp_tree.declared.faults.ElabFault.{ElabFault}
+use Rattle.elab_expr.specs.cpp_tree.declared.arena.TNodeId.{TNodeId}
+use Rattle.elab_expr.specs.cpp_tree.Trees.{Tree, one}
+use Rattle.elab_expr.specs.cpp_tree.Arena.{tree_at, Adds}
+use Rattle.elab_expr.specs.elab_ctx.Ctx.{Work, work_of}
+use Rattle.elab_expr.specs.elab_ctx.Steps.{and_then, Made}
+use Rattle.elab_expr.specs.elab_ctx.Says.{MadeAt}
+use Rattle.elab_expr.specs.elab_rules.Statements.{State, Full, done, full, full_made, with_work}
 use Rattle.elab_scopes.specs.declared.state.State.{State as StateRec}
 use Rattle.elab_scopes.specs.States.{state_of, made, Grown}
 use Rattle.elab_scopes.specs.Says.{OneDone}
-use Rattle.elab_ctx.proofs.Looks.{grows_trans}
+use Rattle.elab_expr.proofs.elab_ctx.Looks.{grows_trans}
 use Rattle.elab_scopes.proofs.Standing.{grown_by, one_grown, last_grown}
 
 whole_is : (a b : StateRec) (at : At) (id : TNodeId) (m : Made) → tree_at (made b) id ≡ m.tree → work_of b.work ≡ m.work → with_work (state_of b) (work_of b.work) ≡ with_work (state_of a) (work_of b.work) → done (one (full at m.tree)) (with_work (state_of a) m.work) ≡ done (one (full at (tree_at (made b) id))) (with_work (state_of b) (work_of b.work))

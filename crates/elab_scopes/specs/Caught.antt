@@ -1,18 +1,18 @@
 -- Variables with their places, and what handlers catch.
 use Rattle.std.specs.Prelude.{◌≡◌, ℕ, true, List, length, Option, Result, Ok, Err}
-use Rattle.cpp_types.specs.Typ.{Typ, typ_of}
-use Rattle.cpp_types.specs.declared.classes.At.{At}
-use Rattle.cpp_tree.specs.declared.faults.ElabFault.{ElabFault}
-use Rattle.cpp_tree.specs.declared.faults.IllRule.TheVariants.{Redeclared}
-use Rattle.cpp_tree.specs.Arena.{trees_at}
-use Rattle.elab_ctx.specs.Ctx.{next_place}
-use Rattle.elab_ctx.specs.Steps.{and_then, check}
-use Rattle.elab_ctx.specs.Says.{Faults, are_within}
-use Rattle.elab_rules.specs.Statements.{State, Caught, placed_variable, is_fresh, caught_type, named_handler}
-use Rattle.elab_rules.specs.Types.{Declared}
-use Rattle.elab_rules.specs.Expressions.{type_of_specifiers, declared_by}
-use Rattle.cpp_lex.specs.Tokens.{Lexeme}
-use Rattle.cpp_ast.specs.Trees as syntax
+use Rattle.elab_expr.specs.cpp_types.Typ.{Typ, typ_of}
+use Rattle.elab_expr.specs.cpp_types.declared.classes.At.{At}
+use Rattle.elab_expr.specs.cpp_tree.declared.faults.ElabFault.{ElabFault}
+use Rattle.elab_expr.specs.cpp_tree.declared.faults.IllRule.TheVariants.{Redeclared}
+use Rattle.elab_expr.specs.cpp_tree.Arena.{trees_at}
+use Rattle.elab_expr.specs.elab_ctx.Ctx.{next_place}
+use Rattle.elab_expr.specs.elab_ctx.Steps.{and_then, check}
+use Rattle.elab_expr.specs.elab_ctx.Says.{Faults, are_within}
+use Rattle.elab_expr.specs.elab_rules.Statements.{State, Caught, placed_variable, is_fresh, caught_type, named_handler}
+use Rattle.elab_expr.specs.elab_rules.Types.{Declared}
+use Rattle.elab_expr.specs.elab_rules.Expressions.{type_of_specifiers, declared_by}
+use Rattle.elab_expr.specs.cpp_lex.Tokens.{Lexeme}
+use Rattle.elab_expr.specs.cpp_ast.Trees as syntax
 use Rattle.elab_scopes.specs.declared.state.State.{State as StateRec}
 use Rattle.elab_scopes.specs.declared.state.Caught.{Caught as CaughtRec}
 use Rattle.elab_scopes.specs.States.{state_of, made, Grown}

@@ -1,22 +1,22 @@
 -- Labels of a `switch`, step by step.
 use Rattle.std.specs.Prelude.{ℕ, ◌==◌, not, List, [], ◌∷◌, ◌++◌, Result, Ok}
 use Rattle.std.specs.List.{list_any}
-use Rattle.cpp_types.specs.declared.classes.At.{At}
-use Rattle.cpp_lex.specs.Tokens.{Lexeme}
-use Rattle.cpp_ast.specs.Trees as syntax
-use Rattle.cpp_tree.specs.declared.faults.ElabFault.{ElabFault}
-use Rattle.cpp_tree.specs.declared.faults.IllRule.TheVariants.{NotConstant, Narrowing, BadCase}
-use Rattle.cpp_tree.specs.declared.kinds.TKind.TheVariants as forms
-use Rattle.cpp_tree.specs.Trees.{Tree, none, one, typ_in}
-use Rattle.cpp_tree.specs.Typing.{form_in, kind_in}
-use Rattle.cpp_tree.specs.Units.{Global}
-use Rattle.elab_ctx.specs.Ctx.{Ctx, Work}
-use Rattle.elab_ctx.specs.Steps.{and_then, expect, check, Operand, Made, Typed}
-use Rattle.elab_rules.specs.Initialising.{initial}
-use Rattle.elab_rules.specs.Constants.{constant}
-use Rattle.elab_rules.specs.Operators.{value}
-use Rattle.elab_rules.specs.Expressions.{expression_of, chosen_operand}
-use Rattle.elab_rules.specs.Statements.{State, Done, done, statement, case_fits, with_labels}
+use Rattle.elab_expr.specs.cpp_types.declared.classes.At.{At}
+use Rattle.elab_expr.specs.cpp_lex.Tokens.{Lexeme}
+use Rattle.elab_expr.specs.cpp_ast.Trees as syntax
+use Rattle.elab_expr.specs.cpp_tree.declared.faults.ElabFault.{ElabFault}
+use Rattle.elab_expr.specs.cpp_tree.declared.faults.IllRule.TheVariants.{NotConstant, Narrowing, BadCase}
+use Rattle.elab_expr.specs.cpp_tree.declared.kinds.TKind.TheVariants as forms
+use Rattle.elab_expr.specs.cpp_tree.Trees.{Tree, none, one, typ_in}
+use Rattle.elab_expr.specs.cpp_tree.Typing.{form_in, kind_in}
+use Rattle.elab_expr.specs.cpp_tree.Units.{Global}
+use Rattle.elab_expr.specs.elab_ctx.Ctx.{Ctx, Work}
+use Rattle.elab_expr.specs.elab_ctx.Steps.{and_then, expect, check, Operand, Made, Typed}
+use Rattle.elab_expr.specs.elab_rules.Initialising.{initial}
+use Rattle.elab_expr.specs.elab_rules.Constants.{constant}
+use Rattle.elab_expr.specs.elab_rules.Operators.{value}
+use Rattle.elab_expr.specs.elab_rules.Expressions.{expression_of, chosen_operand}
+use Rattle.elab_expr.specs.elab_rules.Statements.{State, Done, done, statement, case_fits, with_labels}
 
 -- the word of a label, from its value and that value in the type of the labels
 abbrev pub word_of : Ctx → List Global → At → Tree → Tree → Result ℕ ElabFault

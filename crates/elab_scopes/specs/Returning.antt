@@ -1,17 +1,17 @@
 -- `return`, step by step.
 use Rattle.std.specs.Prelude.{false, ◌||◌, Option, Some, None, Result}
-use Rattle.cpp_types.specs.Typ.{Typ}
-use Rattle.cpp_types.specs.declared.classes.At.{At}
-use Rattle.cpp_tree.specs.declared.faults.ElabFault.{ElabFault}
-use Rattle.cpp_tree.specs.declared.faults.IllRule.TheVariants.{BadReturn}
-use Rattle.cpp_tree.specs.declared.kinds.TKind.TheVariants as forms
-use Rattle.cpp_tree.specs.Trees.{Tree, none, one, two, typ_in, kind_of}
-use Rattle.cpp_tree.specs.Typing.{is_void, unqualified}
-use Rattle.elab_ctx.specs.Ctx.{Returns, known, deduced}
-use Rattle.elab_ctx.specs.Steps.{and_then, check, Made}
-use Rattle.elab_rules.specs.Initialising.{initial, class_from}
-use Rattle.elab_rules.specs.Operators.{value, is_throw}
-use Rattle.elab_rules.specs.Statements.{State, Done, Full, done, full, with_work, statement, return_node, result_object, with_deduced, same_deduction}
+use Rattle.elab_expr.specs.cpp_types.Typ.{Typ}
+use Rattle.elab_expr.specs.cpp_types.declared.classes.At.{At}
+use Rattle.elab_expr.specs.cpp_tree.declared.faults.ElabFault.{ElabFault}
+use Rattle.elab_expr.specs.cpp_tree.declared.faults.IllRule.TheVariants.{BadReturn}
+use Rattle.elab_expr.specs.cpp_tree.declared.kinds.TKind.TheVariants as forms
+use Rattle.elab_expr.specs.cpp_tree.Trees.{Tree, none, one, two, typ_in, kind_of}
+use Rattle.elab_expr.specs.cpp_tree.Typing.{is_void, unqualified}
+use Rattle.elab_expr.specs.elab_ctx.Ctx.{Returns, known, deduced}
+use Rattle.elab_expr.specs.elab_ctx.Steps.{and_then, check, Made}
+use Rattle.elab_expr.specs.elab_rules.Initialising.{initial, class_from}
+use Rattle.elab_expr.specs.elab_rules.Operators.{value, is_throw}
+use Rattle.elab_expr.specs.elab_rules.Statements.{State, Done, Full, done, full, with_work, statement, return_node, result_object, with_deduced, same_deduction}
 
 abbrev pub void_returned : At → At → Tree → Tree
 void_returned at place e = statement (forms.Block false) at (two (full place e) (return_node at none))

@@ -1,18 +1,18 @@
 -- What answers say of what is to be answered, and of the state behind it.
 use Rattle.std.specs.Prelude.{◌≡◌, ◌<◌, ℕ, true, List, length, Option, Result, Ok, Err}
-use Rattle.cpp_types.specs.Typ.{Typ, typ_of}
-use Rattle.cpp_types.specs.declared.classes.At.{At}
-use Rattle.cpp_tree.specs.declared.faults.ElabFault.{ElabFault}
-use Rattle.cpp_tree.specs.declared.faults.IllRule.TheVariants.{Redeclared}
-use Rattle.cpp_tree.specs.declared.arena.TNodeId.{TNodeId}
-use Rattle.cpp_tree.specs.Trees.{Trees, one}
-use Rattle.cpp_tree.specs.Arena.{tree_at, trees_at}
-use Rattle.elab_ctx.specs.declared.operand.Operand.{Operand as OperandRec}
-use Rattle.elab_ctx.specs.Ctx.{Ctx, with_variable}
-use Rattle.elab_ctx.specs.Steps.{and_then, check}
-use Rattle.elab_ctx.specs.Says.{Faults, are_within}
-use Rattle.elab_rules.specs.Objects.{followed_by}
-use Rattle.elab_rules.specs.Statements.{State, Done, Full, Switched, done, is_fresh, next_variable}
+use Rattle.elab_expr.specs.cpp_types.Typ.{Typ, typ_of}
+use Rattle.elab_expr.specs.cpp_types.declared.classes.At.{At}
+use Rattle.elab_expr.specs.cpp_tree.declared.faults.ElabFault.{ElabFault}
+use Rattle.elab_expr.specs.cpp_tree.declared.faults.IllRule.TheVariants.{Redeclared}
+use Rattle.elab_expr.specs.cpp_tree.declared.arena.TNodeId.{TNodeId}
+use Rattle.elab_expr.specs.cpp_tree.Trees.{Trees, one}
+use Rattle.elab_expr.specs.cpp_tree.Arena.{tree_at, trees_at}
+use Rattle.elab_expr.specs.elab_ctx.declared.operand.Operand.{Operand as OperandRec}
+use Rattle.elab_expr.specs.elab_ctx.Ctx.{Ctx, with_variable}
+use Rattle.elab_expr.specs.elab_ctx.Steps.{and_then, check}
+use Rattle.elab_expr.specs.elab_ctx.Says.{Faults, are_within}
+use Rattle.elab_expr.specs.elab_rules.Objects.{followed_by}
+use Rattle.elab_expr.specs.elab_rules.Statements.{State, Done, Full, Switched, done, is_fresh, next_variable}
 use Rattle.elab_scopes.specs.declared.state.State.{State as StateRec}
 use Rattle.elab_scopes.specs.declared.state.SwitchedOn.{SwitchedOn}
 use Rattle.elab_scopes.specs.States.{state_of, made, full_in, Grown}

@@ -1,12 +1,12 @@
 -- The state as the code keeps it, and what stays of it.
 use Rattle.std.specs.Prelude.{◌≡◌, ◌++◌, ℕ, List, map, length, take}
-use Rattle.cpp_types.specs.Typ.{typ_of}
-use Rattle.cpp_tree.specs.Trees.{Tree}
-use Rattle.cpp_tree.specs.Arena.{trees_of, tree_at, Grows}
-use Rattle.elab_ctx.specs.Ctx.{Ctx, Labels, ctx_of, work_of, closed}
-use Rattle.elab_ctx.specs.Operands.{operand_in}
-use Rattle.elab_ctx.specs.declared.operand.Operand.{Operand as OperandRec}
-use Rattle.elab_rules.specs.Statements.{Body, State, Full}
+use Rattle.elab_expr.specs.cpp_types.Typ.{typ_of}
+use Rattle.elab_expr.specs.cpp_tree.Trees.{Tree}
+use Rattle.elab_expr.specs.cpp_tree.Arena.{trees_of, tree_at, Grows}
+use Rattle.elab_expr.specs.elab_ctx.Ctx.{Ctx, Labels, ctx_of, work_of, closed}
+use Rattle.elab_expr.specs.elab_ctx.Operands.{operand_in}
+use Rattle.elab_expr.specs.elab_ctx.declared.operand.Operand.{Operand as OperandRec}
+use Rattle.elab_expr.specs.elab_rules.Statements.{Body, State, Full}
 use Rattle.elab_scopes.specs.declared.state.Body.{Body as BodyRec}
 use Rattle.elab_scopes.specs.declared.state.State.{State as StateRec}
 use Rattle.elab_scopes.specs.declared.state.Mark.{Mark}

@@ -1,13 +1,13 @@
 -- What is made of a full-expression, and what it is made of.
 use Rattle.std.specs.Prelude.{Result, Ok, false}
-use Rattle.cpp_types.specs.Typ.{Typ}
-use Rattle.cpp_types.specs.declared.classes.At.{At}
-use Rattle.cpp_tree.specs.declared.faults.ElabFault.{ElabFault}
-use Rattle.cpp_tree.specs.Trees.{Tree, typ_in}
-use Rattle.cpp_tree.specs.Typing.{form_in}
-use Rattle.elab_ctx.specs.Steps.{and_then}
-use Rattle.elab_rules.specs.Operators.{value, truth, dropped}
-use Rattle.elab_rules.specs.Statements.{Done, Full, Switched, full, full_made, switched_type, switch_value}
+use Rattle.elab_expr.specs.cpp_types.Typ.{Typ}
+use Rattle.elab_expr.specs.cpp_types.declared.classes.At.{At}
+use Rattle.elab_expr.specs.cpp_tree.declared.faults.ElabFault.{ElabFault}
+use Rattle.elab_expr.specs.cpp_tree.Trees.{Tree, typ_in}
+use Rattle.elab_expr.specs.cpp_tree.Typing.{form_in}
+use Rattle.elab_expr.specs.elab_ctx.Steps.{and_then}
+use Rattle.elab_expr.specs.elab_rules.Operators.{value, truth, dropped}
+use Rattle.elab_expr.specs.elab_rules.Statements.{Done, Full, Switched, full, full_made, switched_type, switch_value}
 
 abbrev pub dropped_whole : Full → Result Done ElabFault
 dropped_whole f = full_made f (Ok (dropped f.state.ctx f.state.work f.operand))

@@ -1,23 +1,22 @@
 // Full-expressions (C++14 1.9 p10, 12.2): their lambdas before them, their temporaries until their end.
 
 ghost use Rattle.std.specs.Prelude.{◌≡◌, ◌<◌, List, length, IfOk, true};
-ghost use Rattle.cpp_lex.specs.Tokens.{lexemes_of};
-ghost use Rattle.cpp_ast.specs.Orders.{are_below};
-ghost use Rattle.cpp_tree.specs.Trees.{Tree};
-ghost use Rattle.cpp_tree.specs.Arena.{trees_of, tree_at, trees_at, Adds};
-ghost use Rattle.elab_rules.specs.Statements.{is_temporary_with as is_temporary_with_of, holds_temporary as holds_temporary_of, full as full_of, full_operand as full_operand_of, all_lambdas as all_lambdas_of};
-ghost use Rattle.elab_types.specs.Syntax.{syntax_of, tree_at as syntax_at, trees_at as syntaxes_at};
+ghost use Rattle.elab_expr.specs.cpp_lex.Tokens.{lexemes_of};
+ghost use Rattle.elab_expr.specs.cpp_ast.Orders.{are_below};
+ghost use Rattle.elab_expr.specs.cpp_tree.Trees.{Tree};
+ghost use Rattle.elab_expr.specs.cpp_tree.Arena.{trees_of, tree_at, trees_at, Adds};
+ghost use Rattle.elab_expr.specs.elab_rules.Statements.{is_temporary_with as is_temporary_with_of, holds_temporary as holds_temporary_of, full as full_of, full_operand as full_operand_of, all_lambdas as all_lambdas_of};
+ghost use Rattle.elab_expr.specs.elab_types.Syntax.{syntax_of, tree_at as syntax_at, trees_at as syntaxes_at};
 ghost use Rattle.elab_scopes.specs.States.{state_of};
 ghost use Rattle.elab_scopes.specs.Says.{Changes, Fulls};
 
 use crate::lambdas::MakeLambdas;
 use crate::reading::operand;
 use crate::state::State;
-use cpp_ast::{NodeId, Nodes};
-use cpp_lex::Tokens;
-use cpp_tree::{ElabFault, TKind, TNode, TNodeId, add_unary};
-use cpp_types::{At, copy};
-use elab_ctx::{Operand, kids_at, node_at};
+use elab_expr::below::{
+    At, ElabFault, NodeId, Nodes, Operand, TKind, TNode, TNodeId, Tokens, add_unary, copy, kids_at,
+    node_at,
+};
 use std::alloc::{AllocError, Global};
 
 // Whether a node is a temporary that is destroyed.

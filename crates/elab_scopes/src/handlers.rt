@@ -1,31 +1,26 @@
 // What handlers catch (C++14 15.3).
 
 ghost use Rattle.std.specs.Prelude.{◌≡◌, ◌<◌, length};
-ghost use Rattle.cpp_lex.specs.Tokens.{lexemes_of};
-ghost use Rattle.cpp_types.specs.Typ.{typ_of};
-ghost use Rattle.cpp_tree.specs.Typing.{form_in};
-ghost use Rattle.elab_ctx.specs.Ctx.{ctx_of};
-ghost use Rattle.elab_ctx.specs.Says.{Tells};
-ghost use Rattle.elab_rules.specs.Objects.{traits_at as traits_at_of};
-ghost use Rattle.elab_rules.specs.Statements.{caught_form as caught_form_of, caught_type as caught_type_of, named_handler as named_handler_of, handler_type as handler_type_of};
-ghost use Rattle.elab_types.specs.Shown.{Says};
-ghost use Rattle.elab_types.specs.Syntax.{syntax_of, tree_at as syntax_at};
+ghost use Rattle.elab_expr.specs.cpp_lex.Tokens.{lexemes_of};
+ghost use Rattle.elab_expr.specs.cpp_types.Typ.{typ_of};
+ghost use Rattle.elab_expr.specs.cpp_tree.Typing.{form_in};
+ghost use Rattle.elab_expr.specs.elab_ctx.Ctx.{ctx_of};
+ghost use Rattle.elab_expr.specs.elab_ctx.Says.{Tells};
+ghost use Rattle.elab_expr.specs.elab_rules.Objects.{traits_at as traits_at_of};
+ghost use Rattle.elab_expr.specs.elab_rules.Statements.{caught_form as caught_form_of, caught_type as caught_type_of, named_handler as named_handler_of, handler_type as handler_type_of};
+ghost use Rattle.elab_expr.specs.elab_types.Shown.{Says};
+ghost use Rattle.elab_expr.specs.elab_types.Syntax.{syntax_of, tree_at as syntax_at};
 ghost use Rattle.elab_scopes.specs.States.{state_of};
 ghost use Rattle.elab_scopes.specs.Caught.{Places, Catches, typed_handler as typed_handler_of, parameter_caught as parameter_caught_of};
 
 use crate::reading::{declared_by, specified};
 use crate::scopes::declare;
 use crate::state::{Caught, State};
-use cpp_ast::{NodeId, NodeKind, Nodes};
-use cpp_lex::Tokens;
-use cpp_tree::{ElabFault, IllRule};
-use cpp_types::{At, Shape, Ty, copy};
-use elab_ctx::{Env, add_item, traits_of_class};
-use elab_make::fields;
-use elab_names::parts::plain_type;
-use elab_types::kids::{Kids, kids_of};
-use elab_types::specifiers::ill;
-use elab_types::syntax::{node_at, place, spelling};
+use elab_expr::below::{
+    At, ElabFault, Env, IllRule, Kids, NodeId, NodeKind, Nodes, Shape, Tokens, Ty, add_item, copy,
+    elab_types_node_at as node_at, fields, ill, kids_of, place, plain_type, spelling,
+    traits_of_class,
+};
 use std::alloc::Global;
 
 fn is_copied_bytewise(env: &Env, class: u32) -> bool

@@ -2,17 +2,17 @@
 
 ghost use Rattle.std.specs.Prelude.{◌≡◌, ◌<◌, ◌==◌, ◌++◌, ◌∷◌, [], ℕ, length, map, OnOk};
 ghost use Rattle.std.specs.List.{list_any};
-ghost use Rattle.cpp_lex.specs.Tokens.{lexemes_of};
-ghost use Rattle.cpp_tree.specs.Units.{global_of};
-ghost use Rattle.cpp_tree.specs.Arena.{trees_of, tree_at};
-ghost use Rattle.cpp_tree.specs.declared.faults.IllRule.TheVariants.{NotConstant};
-ghost use Rattle.elab_ctx.specs.Ctx.{ctx_of, work_of, labels_of};
-ghost use Rattle.elab_ctx.specs.Steps.{expect};
-ghost use Rattle.elab_rules.specs.Constants.{constant as constant_of};
-ghost use Rattle.elab_ctx.specs.Operands.{operand_in};
-ghost use Rattle.elab_ctx.specs.Says.{Tells};
-ghost use Rattle.elab_rules.specs.Statements.{label_allowed as label_allowed_of, label_here as label_here_of, case_fits as case_fits_of, case_label as case_label_of, default_label as default_label_of};
-ghost use Rattle.elab_types.specs.Syntax.{syntax_of, tree_at as syntax_at};
+ghost use Rattle.elab_expr.specs.cpp_lex.Tokens.{lexemes_of};
+ghost use Rattle.elab_expr.specs.cpp_tree.Units.{global_of};
+ghost use Rattle.elab_expr.specs.cpp_tree.Arena.{trees_of, tree_at};
+ghost use Rattle.elab_expr.specs.cpp_tree.declared.faults.IllRule.TheVariants.{NotConstant};
+ghost use Rattle.elab_expr.specs.elab_ctx.Ctx.{ctx_of, work_of, labels_of};
+ghost use Rattle.elab_expr.specs.elab_ctx.Steps.{expect};
+ghost use Rattle.elab_expr.specs.elab_rules.Constants.{constant as constant_of};
+ghost use Rattle.elab_expr.specs.elab_ctx.Operands.{operand_in};
+ghost use Rattle.elab_expr.specs.elab_ctx.Says.{Tells};
+ghost use Rattle.elab_expr.specs.elab_rules.Statements.{label_allowed as label_allowed_of, label_here as label_here_of, case_fits as case_fits_of, case_label as case_label_of, default_label as default_label_of};
+ghost use Rattle.elab_expr.specs.elab_types.Syntax.{syntax_of, tree_at as syntax_at};
 ghost use Rattle.elab_scopes.specs.States.{state_of};
 ghost use Rattle.elab_scopes.specs.Labelled.{word_of as word_of_of, label_word as label_word_of, case_word as case_word_of, case_of as case_of_of};
 ghost use Rattle.elab_scopes.specs.Says.{Does};
@@ -21,19 +21,13 @@ use crate::nodes::leaf_statement;
 use crate::reading::operand;
 use crate::scratch::copy_work;
 use crate::state::State;
-use cpp_ast::{NodeId, Nodes};
-use cpp_lex::Tokens;
-use cpp_tree::{ElabFault, IllRule, TGlobal, TKind, TNode, TNodeId};
-use cpp_types::At;
-use elab_consts::constant;
-use elab_conv::types::kind_of;
-use elab_ctx::{Env, Label, Labels, Operand, Work, node_at};
-use elab_make::initial;
-use elab_ops::operands::value;
-use elab_types::specifiers::ill;
+use elab_expr::below::{
+    At, ElabFault, Env, IllRule, IntKind, Label, Labels, NodeId, Nodes, Operand, TGlobal, TKind,
+    TNode, TNodeId, Tokens, Work, constant, convert, ill, initial, kind_of, node_at, value,
+    value_of_word,
+};
 use std::alloc::{AllocError, Global};
 use std::mem;
-use tx_ints::{IntKind, convert, value_of_word};
 
 fn label_allowed(at: At, label: Label) -> Result<bool, ElabFault>
     ensures { Tells result (label_allowed_of at label) }

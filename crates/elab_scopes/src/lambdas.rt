@@ -1,21 +1,19 @@
 // What makes lambdas (C++14 5.1.2).
 
 ghost use Rattle.std.specs.Prelude.{◌≡◌, ◌<◌, length, true};
-ghost use Rattle.cpp_lex.specs.Tokens.{lexemes_of};
-ghost use Rattle.cpp_ast.specs.Orders.{are_below};
-ghost use Rattle.elab_rules.specs.Lambdas.{no_lambda, first_of, first_lambda as first_lambda_of};
-ghost use Rattle.elab_rules.specs.Statements.{Lambdas};
-ghost use Rattle.elab_types.specs.Syntax.{syntax_of, tree_at, trees_at};
+ghost use Rattle.elab_expr.specs.cpp_lex.Tokens.{lexemes_of};
+ghost use Rattle.elab_expr.specs.cpp_ast.Orders.{are_below};
+ghost use Rattle.elab_expr.specs.elab_rules.Lambdas.{no_lambda, first_of, first_lambda as first_lambda_of};
+ghost use Rattle.elab_expr.specs.elab_rules.Statements.{Lambdas};
+ghost use Rattle.elab_expr.specs.elab_types.Syntax.{syntax_of, tree_at, trees_at};
 ghost use Rattle.elab_scopes.specs.States.{state_of};
 ghost use Rattle.elab_scopes.specs.Says.{Changes};
 
 use crate::state::State;
-use cpp_ast::{NodeId, NodeKind, Nodes};
-use cpp_lex::Tokens;
-use cpp_tree::{ElabFault, IllRule};
-use cpp_types::At;
-use elab_types::specifiers::ill;
-use elab_types::syntax::{node_at, place};
+use elab_expr::below::{
+    At, ElabFault, IllRule, NodeId, NodeKind, Nodes, Tokens, elab_types_node_at as node_at, ill,
+    place,
+};
 use std::alloc::Global;
 
 /// What makes the lambdas of a full-expression before it. In the body of a lambda there are none.

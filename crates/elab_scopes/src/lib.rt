@@ -1,6 +1,7 @@
 //! Scopes, full-expressions and the statements that hold no others.
 #![tactic(auto)]
 
+pub mod below;
 pub mod full;
 pub mod handlers;
 pub mod labels;

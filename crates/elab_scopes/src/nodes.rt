@@ -1,15 +1,15 @@
 // Nodes of statements.
 
 ghost use Rattle.std.specs.Prelude.{IfOk};
-ghost use Rattle.cpp_tree.specs.declared.kinds.TKind.TheVariants.{Block};
-ghost use Rattle.cpp_tree.specs.Trees.{none, one, two, three};
-ghost use Rattle.cpp_tree.specs.Arena.{trees_of, tree_at, trees_at, Adds};
-ghost use Rattle.elab_rules.specs.Statements.{statement as statement_of, block as block_of};
+ghost use Rattle.elab_expr.specs.cpp_tree.declared.kinds.TKind.TheVariants.{Block};
+ghost use Rattle.elab_expr.specs.cpp_tree.Trees.{none, one, two, three};
+ghost use Rattle.elab_expr.specs.cpp_tree.Arena.{trees_of, tree_at, trees_at, Adds};
+ghost use Rattle.elab_expr.specs.elab_rules.Statements.{statement as statement_of, block as block_of};
 
-use cpp_tree::{TKind, TNode, TNodeId, add_binary, add_leaf, add_node, add_unary};
-use cpp_types::{At, Cat, Shape};
-use elab_names::parts::plain_type;
-use elab_ops::truth::add_three;
+use elab_expr::below::{
+    At, Cat, Shape, TKind, TNode, TNodeId, add_binary, add_leaf, add_node, add_three, add_unary,
+    plain_type,
+};
 use std::alloc::{AllocError, Global};
 
 /// A statement without parts.

@@ -1,24 +1,19 @@
 // Expressions and types, with the lambdas that were made before them.
 
 ghost use Rattle.std.specs.Prelude.{◌≡◌, ◌<◌, length, true};
-ghost use Rattle.cpp_lex.specs.Tokens.{lexemes_of};
-ghost use Rattle.cpp_ast.specs.Orders.{are_below};
-ghost use Rattle.cpp_types.specs.Typ.{typ_of};
-ghost use Rattle.cpp_tree.specs.Arena.{trees_of};
-ghost use Rattle.elab_ctx.specs.Ctx.{ctx_of, work_of};
-ghost use Rattle.elab_ctx.specs.Steps.{and_then};
-ghost use Rattle.elab_rules.specs.Expressions.{expression_of, chosen_operand, operands_of, type_of_specifiers as type_of_specifiers_of, declared_by as declared_by_of};
-ghost use Rattle.elab_types.specs.Shown.{Says, declared_of};
-ghost use Rattle.elab_types.specs.Syntax.{syntax_of, tree_at, trees_at};
-ghost use Rattle.elab_rows.specs.Typed.{Types, TypesAll};
+ghost use Rattle.elab_expr.specs.cpp_lex.Tokens.{lexemes_of};
+ghost use Rattle.elab_expr.specs.cpp_ast.Orders.{are_below};
+ghost use Rattle.elab_expr.specs.cpp_types.Typ.{typ_of};
+ghost use Rattle.elab_expr.specs.cpp_tree.Arena.{trees_of};
+ghost use Rattle.elab_expr.specs.elab_ctx.Ctx.{ctx_of, work_of};
+ghost use Rattle.elab_expr.specs.elab_ctx.Steps.{and_then};
+ghost use Rattle.elab_expr.specs.elab_rules.Expressions.{expression_of, chosen_operand, operands_of, type_of_specifiers as type_of_specifiers_of, declared_by as declared_by_of};
+ghost use Rattle.elab_expr.specs.elab_types.Shown.{Says, declared_of};
+ghost use Rattle.elab_expr.specs.elab_types.Syntax.{syntax_of, tree_at, trees_at};
+ghost use Rattle.elab_expr.specs.elab_rows.Typed.{Types, TypesAll};
 
-use cpp_ast::{NodeId, Nodes};
-use cpp_lex::Tokens;
-use cpp_tree::ElabFault;
-use cpp_types::{At, Ty};
-use elab_ctx::{Env, Operand, Work};
+use elab_expr::below::{At, Declared, ElabFault, Env, NodeId, Nodes, Operand, Tokens, Ty, Work};
 use elab_expr::{chosen_expression, declared, operands, type_of_specifiers};
-use elab_types::Declared;
 use std::alloc::Global;
 
 /// An expression, where functions of a name are one function.

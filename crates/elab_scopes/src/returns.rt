@@ -1,15 +1,15 @@
 // `return` (C++14 6.6.3).
 
 ghost use Rattle.std.specs.Prelude.{◌≡◌, ◌<◌, length, true, IfOk, Some, None, option_map};
-ghost use Rattle.cpp_lex.specs.Tokens.{lexemes_of};
-ghost use Rattle.cpp_ast.specs.Orders.{are_below};
-ghost use Rattle.cpp_types.specs.Typ.{typ_of};
-ghost use Rattle.cpp_tree.specs.Arena.{trees_of, tree_at, Adds};
-ghost use Rattle.cpp_tree.specs.Trees.{kind_of};
-ghost use Rattle.elab_ctx.specs.Ctx.{ctx_of, returns_of};
-ghost use Rattle.elab_rules.specs.Operators.{is_throw as is_throw_of};
-ghost use Rattle.elab_rules.specs.Statements.{returned as returned_of, return_by as return_by_of, return_nothing as return_nothing_of, return_value as return_value_of, same_deduction as same_deduction_of, result_object as result_object_of};
-ghost use Rattle.elab_types.specs.Syntax.{syntax_of, trees_at as syntaxes_at};
+ghost use Rattle.elab_expr.specs.cpp_lex.Tokens.{lexemes_of};
+ghost use Rattle.elab_expr.specs.cpp_ast.Orders.{are_below};
+ghost use Rattle.elab_expr.specs.cpp_types.Typ.{typ_of};
+ghost use Rattle.elab_expr.specs.cpp_tree.Arena.{trees_of, tree_at, Adds};
+ghost use Rattle.elab_expr.specs.cpp_tree.Trees.{kind_of};
+ghost use Rattle.elab_expr.specs.elab_ctx.Ctx.{ctx_of, returns_of};
+ghost use Rattle.elab_expr.specs.elab_rules.Operators.{is_throw as is_throw_of};
+ghost use Rattle.elab_expr.specs.elab_rules.Statements.{returned as returned_of, return_by as return_by_of, return_nothing as return_nothing_of, return_value as return_value_of, same_deduction as same_deduction_of, result_object as result_object_of};
+ghost use Rattle.elab_expr.specs.elab_types.Syntax.{syntax_of, trees_at as syntaxes_at};
 ghost use Rattle.elab_scopes.specs.States.{state_of, made, full_in};
 ghost use Rattle.elab_scopes.specs.Returning.{void_returned, object_returned as object_returned_of, return_object as return_object_of, return_void as return_void_of, return_scalar as return_scalar_of, return_known, return_deduced, return_deduced_by, object_built as object_built_of, scalar_returned as scalar_returned_of};
 ghost use Rattle.elab_scopes.specs.Says.{Does};
@@ -18,19 +18,13 @@ use crate::full::{full, full_operand};
 use crate::lambdas::MakeLambdas;
 use crate::nodes::{binary_statement, leaf_statement, unary_statement};
 use crate::state::State;
-use cpp_ast::{NodeId, Nodes};
-use cpp_lex::Tokens;
-use cpp_tree::{ElabFault, IllRule, TKind, TNode, TNodeId, add_leaf, add_unary};
-use cpp_types::{At, Cat, Shape, Ty, copy, equal_types};
-use elab_conv::types::{pointer_to, unqualified_type};
-use elab_ctx::{Operand, Returns, node_at};
-use elab_make::{class_from, initial};
-use elab_names::parts::{is_class_type, plain_type};
-use elab_ops::operands::value;
-use elab_types::specifiers::ill;
-use elab_types::types::is_void_type;
+use elab_expr::below::{
+    At, Cat, ElabFault, IllRule, IntKind, NodeId, Nodes, Operand, Returns, Shape, TKind, TNode,
+    TNodeId, Tokens, Ty, add_leaf, add_unary, class_from, copy,
+    elab_names_is_class_type as is_class_type, equal_types, ill, initial, is_void_type, node_at,
+    plain_type, pointer_to, unqualified_type, value,
+};
 use std::alloc::{AllocError, Global};
-use tx_ints::IntKind;
 
 // Whether a type is the one that was deduced before, if one was.
 fn same_deduction(before: &Option<Ty>, ty: &Ty) -> bool

@@ -1,19 +1,17 @@
 // Into scopes and out of them (C++14 3.3.3), and names of variables.
 
 ghost use Rattle.std.specs.Prelude.{◌≡◌, ◌++◌, ◌∷◌, [], true, false, OnOk, IfOk, option_map};
-ghost use Rattle.cpp_types.specs.Typ.{typ_of};
-ghost use Rattle.elab_ctx.specs.Ctx.{ctx_of, opened, closed, labels_of};
-ghost use Rattle.elab_rules.specs.Statements.{inner_label as inner_label_of, block_label as block_label_of, no_labels as no_labels_of};
-ghost use Rattle.elab_ctx.specs.declared.env.Label.TheVariants.{Direct as DirectLabel};
+ghost use Rattle.elab_expr.specs.cpp_types.Typ.{typ_of};
+ghost use Rattle.elab_expr.specs.elab_ctx.Ctx.{ctx_of, opened, closed, labels_of};
+ghost use Rattle.elab_expr.specs.elab_rules.Statements.{inner_label as inner_label_of, block_label as block_label_of, no_labels as no_labels_of};
+ghost use Rattle.elab_expr.specs.elab_ctx.declared.env.Label.TheVariants.{Direct as DirectLabel};
 ghost use Rattle.elab_scopes.specs.States.{left_at};
 ghost use Rattle.elab_scopes.specs.Says.{Declares};
 
 use crate::state::Mark;
-use cpp_names::{Entity, EntityKind, NameFault};
-use cpp_tree::{ElabFault, IllRule};
-use cpp_types::{At, Ty};
-use elab_ctx::{Env, Label, Labels, Variable};
-use elab_types::specifiers::ill;
+use elab_expr::below::{
+    At, ElabFault, Entity, EntityKind, Env, IllRule, Label, Labels, NameFault, Ty, Variable, ill,
+};
 use std::alloc::{AllocError, Global};
 use std::mem;
 

@@ -1,13 +1,11 @@
 // Work that is not kept.
 
 ghost use Rattle.std.specs.Prelude.{◌≡◌, map, IfOk};
-ghost use Rattle.cpp_types.specs.Typ.{typ_of};
-ghost use Rattle.cpp_tree.specs.Units.{cell_of, global_of};
-ghost use Rattle.elab_ctx.specs.Ctx.{work_of};
+ghost use Rattle.elab_expr.specs.cpp_types.Typ.{typ_of};
+ghost use Rattle.elab_expr.specs.cpp_tree.Units.{cell_of, global_of};
+ghost use Rattle.elab_expr.specs.elab_ctx.Ctx.{work_of};
 
-use cpp_tree::{InitCell, TGlobal};
-use cpp_types::{Ty, copy};
-use elab_ctx::Work;
+use elab_expr::below::{InitCell, TGlobal, Ty, Work, copy};
 use std::alloc::{AllocError, Global};
 
 fn copy_types(alloc: Global, types: &[Ty]) -> Result<Vec<Ty>, AllocError>

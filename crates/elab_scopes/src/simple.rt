@@ -1,15 +1,15 @@
 // Expressions as statements and as conditions, values of `switch`, and jumps (C++14 6.2, 6.4, 6.6).
 
 ghost use Rattle.std.specs.Prelude.{◌≡◌, ◌<◌, length, Ok, IfOk};
-ghost use Rattle.cpp_lex.specs.Tokens.{lexemes_of};
-ghost use Rattle.cpp_types.specs.Typ.{typ_of};
-ghost use Rattle.cpp_tree.specs.Arena.{trees_of, tree_at, Adds};
-ghost use Rattle.cpp_tree.specs.Trees.{one};
-ghost use Rattle.cpp_tree.specs.Typing.{form_in};
-ghost use Rattle.elab_ctx.specs.Ctx.{work_of};
-ghost use Rattle.elab_rules.specs.Statements.{expression_statement as expression_statement_of, condition as condition_of, full as full_of, with_work, done, jump as jump_of, switched as switched_of, switched_type as switched_type_of, is_enum as is_enum_of};
-ghost use Rattle.elab_types.specs.Shown.{Says};
-ghost use Rattle.elab_types.specs.Syntax.{syntax_of, tree_at as syntax_at};
+ghost use Rattle.elab_expr.specs.cpp_lex.Tokens.{lexemes_of};
+ghost use Rattle.elab_expr.specs.cpp_types.Typ.{typ_of};
+ghost use Rattle.elab_expr.specs.cpp_tree.Arena.{trees_of, tree_at, Adds};
+ghost use Rattle.elab_expr.specs.cpp_tree.Trees.{one};
+ghost use Rattle.elab_expr.specs.cpp_tree.Typing.{form_in};
+ghost use Rattle.elab_expr.specs.elab_ctx.Ctx.{work_of};
+ghost use Rattle.elab_expr.specs.elab_rules.Statements.{expression_statement as expression_statement_of, condition as condition_of, full as full_of, with_work, done, jump as jump_of, switched as switched_of, switched_type as switched_type_of, is_enum as is_enum_of};
+ghost use Rattle.elab_expr.specs.elab_types.Shown.{Says};
+ghost use Rattle.elab_expr.specs.elab_types.Syntax.{syntax_of, tree_at as syntax_at};
 ghost use Rattle.elab_scopes.specs.States.{state_of, made, full_in};
 ghost use Rattle.elab_scopes.specs.Wholes.{value_at, dropped_whole as dropped_whole_of, truth_whole as truth_whole_of, switched_on as switched_on_of};
 ghost use Rattle.elab_scopes.specs.Says.{OneDone, Does, Switches};
@@ -18,18 +18,11 @@ use crate::full::{full, full_operand};
 use crate::lambdas::MakeLambdas;
 use crate::nodes::leaf_statement;
 use crate::state::{State, SwitchedOn};
-use cpp_ast::{NodeId, Nodes};
-use cpp_lex::Tokens;
-use cpp_tree::{ElabFault, IllRule, TKind, TNode, TNodeId};
-use cpp_types::{At, Shape, Ty, copy};
-use elab_conv::converted;
-use elab_ctx::{Operand, node_at};
-use elab_forms::dropped;
-use elab_ops::operands::{int_type, value};
-use elab_ops::truth::truth;
-use elab_types::specifiers::ill;
+use elab_expr::below::{
+    At, ElabFault, IllRule, IntKind, NodeId, Nodes, Operand, Shape, TKind, TNode, TNodeId, Tokens,
+    Ty, converted, copy, dropped, ill, int_type, node_at, promote, truth, value,
+};
 use std::alloc::{AllocError, Global};
-use tx_ints::{IntKind, promote};
 
 /// What was made as a whole, behind which no lambdas are known.
 pub fn whole(alloc: Global, st: &mut State, at: At, id: TNodeId) -> Result<TNodeId, AllocError>

@@ -1,8 +1,6 @@
 // What is known and made so far, and what steps answer.
 
-use cpp_tree::{TNode, TNodeId};
-use cpp_types::Ty;
-use elab_ctx::{Env, Label, Work};
+use elab_expr::below::{Env, Label, TNode, TNodeId, Ty, Work};
 
 /// The body of a function, in nodes of its own, and the items of the frame that it needs.
 #[derive(Drop)]

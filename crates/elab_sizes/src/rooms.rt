@@ -7,7 +7,7 @@ ghost use Rattle.cpp_types.specs.Spelling.{kind_spelling, name_of};
 ghost use Rattle.elab_rules.specs.Sizes.{if_set, digit_count, marks_length, place_length, closure_length, typ_length, form_length, pointer_length, signature_length, typs_length, owner_length, parameters_length};
 
 use cpp_types::{ClassRec, FnTy, FuncRec, Shape, Ty};
-use tx_ints::IntKind;
+use elab_rules::below::IntKind;
 
 /// The longest spelling, in bytes.
 pub const LONGEST: u32 = 1_048_576;

@@ -2,15 +2,14 @@
 
 ghost use Rattle.std.specs.Prelude.{◌≡◌};
 ghost use Rattle.cpp_types.specs.Typ.{typ_of, signature_of, func};
-ghost use Rattle.cpp_tree.specs.Notation.{plain};
-ghost use Rattle.elab_ctx.specs.Ctx.{ctx_of};
-ghost use Rattle.elab_ctx.specs.Says.{Tells};
+ghost use Rattle.elab_rules.specs.cpp_tree.Notation.{plain};
+ghost use Rattle.elab_rules.specs.elab_ctx.Ctx.{ctx_of};
+ghost use Rattle.elab_rules.specs.elab_ctx.Says.{Tells};
 ghost use Rattle.elab_rules.specs.Sizes.{typ_sized as typ_sized_of};
 
 use crate::rooms::{LONGEST, function_room, type_room};
-use cpp_tree::{ElabFault, LimitKind};
 use cpp_types::{At, FnTy, Ty};
-use elab_ctx::Env;
+use elab_rules::below::{ElabFault, Env, LimitKind};
 
 /// What passes the greatest size.
 pub fn too_long(at: At) -> ElabFault

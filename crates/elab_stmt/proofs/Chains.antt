@@ -1,26 +1,26 @@
 -- Parts of statements, one behind the other.
 use Rattle.std.proofs.Common.{◌≡◌, ◌<◌, ◌∷◌, ℕ, true, false, Bool, List, [], length, Option, Some, None, Result, Ok, Err, refl, sym, ap, ◌∙◌, subst}
-use Rattle.cpp_lex.specs.Tokens.{Lexeme}
-use Rattle.cpp_types.specs.Typ.{Typ}
-use Rattle.cpp_types.specs.declared.classes.At.{At}
-use Rattle.cpp_ast.specs.Trees as syntax
-use Rattle.cpp_tree.specs.declared.faults.ElabFault.{ElabFault}
-use Rattle.cpp_tree.specs.declared.kinds.TKind.{TKind}
-use Rattle.cpp_tree.specs.declared.kinds.TKind.TheVariants as forms
-use Rattle.cpp_tree.specs.declared.arena.TNodeId.{TNodeId}
-use Rattle.cpp_tree.specs.Trees.{Tree, Trees, none, one, more, three}
-use Rattle.cpp_tree.specs.Arena.{tree_at, trees_at, Grows, Adds}
-use Rattle.elab_ctx.specs.Ctx.{ctx_of}
-use Rattle.elab_ctx.specs.Steps.{and_then}
-use Rattle.elab_ctx.specs.Says.{are_within}
-use Rattle.elab_ctx.proofs.Looks.{at_grown}
-use Rattle.elab_init.proofs.Listing.{trees_grown}
-use Rattle.elab_rules.specs.Statements.{Lambdas, State, Done, done, statement, block, the_tree, condition, for_first, for_test, for_step, outer, handlers_of}
-use Rattle.elab_scopes.specs.declared.state.State.{State as StateRec}
-use Rattle.elab_scopes.specs.States.{state_of, made, Grown}
-use Rattle.elab_scopes.specs.Says.{OneDone, Does, AllDone, behind}
-use Rattle.elab_scopes.proofs.Standing.{does_after, grown_trans, grown_by}
-use Rattle.elab_scopes.proofs.Behind.{behind_none}
+use Rattle.elab_locals.specs.cpp_lex.Tokens.{Lexeme}
+use Rattle.elab_locals.specs.cpp_types.Typ.{Typ}
+use Rattle.elab_locals.specs.cpp_types.declared.classes.At.{At}
+use Rattle.elab_locals.specs.cpp_ast.Trees as syntax
+use Rattle.elab_locals.specs.cpp_tree.declared.faults.ElabFault.{ElabFault}
+use Rattle.elab_locals.specs.cpp_tree.declared.kinds.TKind.{TKind}
+use Rattle.elab_locals.specs.cpp_tree.declared.kinds.TKind.TheVariants as forms
+use Rattle.elab_locals.specs.cpp_tree.declared.arena.TNodeId.{TNodeId}
+use Rattle.elab_locals.specs.cpp_tree.Trees.{Tree, Trees, none, one, more, three}
+use Rattle.elab_locals.specs.cpp_tree.Arena.{tree_at, trees_at, Grows, Adds}
+use Rattle.elab_locals.specs.elab_ctx.Ctx.{ctx_of}
+use Rattle.elab_locals.specs.elab_ctx.Steps.{and_then}
+use Rattle.elab_locals.specs.elab_ctx.Says.{are_within}
+use Rattle.elab_locals.proofs.elab_ctx.Looks.{at_grown}
+use Rattle.elab_locals.proofs.elab_init.Listing.{trees_grown}
+use Rattle.elab_locals.specs.elab_rules.Statements.{Lambdas, State, Done, done, statement, block, the_tree, condition, for_first, for_test, for_step, outer, handlers_of}
+use Rattle.elab_locals.specs.elab_scopes.declared.state.State.{State as StateRec}
+use Rattle.elab_locals.specs.elab_scopes.States.{state_of, made, Grown}
+use Rattle.elab_locals.specs.elab_scopes.Says.{OneDone, Does, AllDone, behind}
+use Rattle.elab_locals.proofs.elab_scopes.Standing.{does_after, grown_trans, grown_by}
+use Rattle.elab_locals.proofs.elab_scopes.Behind.{behind_none}
 use Rattle.elab_stmt.specs.Parts.{inner_part, loop_part, if_both, if_other, for_body, for_last, for_stepped, for_tested, for_inside, try_handlers}
 
 -- what was made first stays as it is

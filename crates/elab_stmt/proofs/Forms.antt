@@ -1,18 +1,18 @@
 -- The rows of the recursion, step by step.
 use Rattle.std.proofs.Common.{◌≡◌, true, false, not, ◌||◌, Bool, ℕ, List, Option, Some, None, Result, Ok, Err, refl, ap, sym, ◌∙◌}
-use Rattle.cpp_lex.specs.Tokens.{Lexeme}
-use Rattle.cpp_types.specs.declared.classes.At.{At}
-use Rattle.cpp_ast.specs.declared.arena.At.{At as SyntaxAt}
-use Rattle.cpp_ast.specs.declared.kinds.NodeKind.{NodeKind}
-use Rattle.cpp_ast.specs.declared.kinds.NodeKind.TheVariants as k
-use Rattle.cpp_ast.specs.Trees as syntax
-use Rattle.cpp_tree.specs.declared.faults.ElabFault.{ElabFault}
-use Rattle.cpp_tree.specs.declared.faults.IllRule.TheVariants.{BadCatch}
-use Rattle.cpp_tree.specs.declared.kinds.TKind.{TKind}
-use Rattle.cpp_tree.specs.declared.kinds.TKind.TheVariants as forms
-use Rattle.cpp_tree.specs.Trees.{Tree, Trees, none, one, more, three}
-use Rattle.elab_ctx.specs.Steps.{and_then, check, at_of, spelling}
-use Rattle.elab_rules.specs.Statements.{Lambdas, State, Done, Switched, done, statement, block, the_tree, condition, switched, a_part, inner, in_loop, in_block, in_switch, outer, block_kind, for_first, for_test, for_step, Caught, handler_node, handler_type, is_ellipsis, is_last, joined, statement_of, statements_of, handlers_of}
+use Rattle.elab_locals.specs.cpp_lex.Tokens.{Lexeme}
+use Rattle.elab_locals.specs.cpp_types.declared.classes.At.{At}
+use Rattle.elab_locals.specs.cpp_ast.declared.arena.At.{At as SyntaxAt}
+use Rattle.elab_locals.specs.cpp_ast.declared.kinds.NodeKind.{NodeKind}
+use Rattle.elab_locals.specs.cpp_ast.declared.kinds.NodeKind.TheVariants as k
+use Rattle.elab_locals.specs.cpp_ast.Trees as syntax
+use Rattle.elab_locals.specs.cpp_tree.declared.faults.ElabFault.{ElabFault}
+use Rattle.elab_locals.specs.cpp_tree.declared.faults.IllRule.TheVariants.{BadCatch}
+use Rattle.elab_locals.specs.cpp_tree.declared.kinds.TKind.{TKind}
+use Rattle.elab_locals.specs.cpp_tree.declared.kinds.TKind.TheVariants as forms
+use Rattle.elab_locals.specs.cpp_tree.Trees.{Tree, Trees, none, one, more, three}
+use Rattle.elab_locals.specs.elab_ctx.Steps.{and_then, check, at_of, spelling}
+use Rattle.elab_locals.specs.elab_rules.Statements.{Lambdas, State, Done, Switched, done, statement, block, the_tree, condition, switched, a_part, inner, in_loop, in_block, in_switch, outer, block_kind, for_first, for_test, for_step, Caught, handler_node, handler_type, is_ellipsis, is_last, joined, statement_of, statements_of, handlers_of}
 use Rattle.elab_stmt.specs.Parts.{body_of, part_of, inner_part, loop_part, if_alone, if_both, if_other, while_body, do_test, guarded, tried, try_handlers, switch_body, for_inside, for_body, for_last, for_stepped, for_tested, for_loop, handler_if, handler_of, handler_body}
 
 -- what follows a body

@@ -1,25 +1,25 @@
 -- The rows of the recursion for a node that was read: its kind and its kids are known by equations.
 use Rattle.std.proofs.Common.{◌≡◌, ◌≢◌, ◌<◌, ◌≤◌, ◌+◌, ◌==◌, ◌∷◌, [], length, drop, get_or, arith, length-drop, true, false, not, ◌||◌, Bool, ℕ, List, Option, Some, None, Result, Ok, Err, refl, ap, sym, ◌∙◌}
 use Rattle.std.proofs.lemmas.Bool.{eq-eqb, eqb-true}
-use Rattle.cpp_lex.specs.Tokens.{Lexeme}
-use Rattle.cpp_types.specs.declared.classes.At.{At}
-use Rattle.cpp_ast.specs.declared.arena.At.{At as SyntaxAt}
-use Rattle.cpp_ast.specs.declared.arena.NodeId.{NodeId}
-use Rattle.cpp_ast.specs.declared.kinds.NodeKind.{NodeKind}
-use Rattle.cpp_ast.specs.declared.kinds.NodeKind.TheVariants as k
-use Rattle.cpp_ast.specs.Trees as syntax
-use Rattle.cpp_tree.specs.declared.faults.ElabFault.{ElabFault}
-use Rattle.cpp_tree.specs.declared.faults.ElabFault.TheVariants.{Ill}
-use Rattle.cpp_tree.specs.declared.faults.IllRule.TheVariants.{BadCatch, OutOfProfile}
-use Rattle.cpp_tree.specs.declared.kinds.TKind.{TKind}
-use Rattle.cpp_tree.specs.declared.kinds.TKind.TheVariants as forms
-use Rattle.cpp_tree.specs.Trees.{Tree, Trees, none, one}
-use Rattle.elab_ctx.specs.Steps.{and_then, check, at_of, spelling}
-use Rattle.elab_rules.specs.Statements.{Lambdas, State, Done, Switched, done, block, the_tree, condition, switched, inner, in_loop, in_block, outer, block_kind, joined, statement_of, statements_of, block_declaration, expression_statement, case_label, default_label, jump, returned, is_ellipsis, is_last, handlers_of}
+use Rattle.elab_locals.specs.cpp_lex.Tokens.{Lexeme}
+use Rattle.elab_locals.specs.cpp_types.declared.classes.At.{At}
+use Rattle.elab_locals.specs.cpp_ast.declared.arena.At.{At as SyntaxAt}
+use Rattle.elab_locals.specs.cpp_ast.declared.arena.NodeId.{NodeId}
+use Rattle.elab_locals.specs.cpp_ast.declared.kinds.NodeKind.{NodeKind}
+use Rattle.elab_locals.specs.cpp_ast.declared.kinds.NodeKind.TheVariants as k
+use Rattle.elab_locals.specs.cpp_ast.Trees as syntax
+use Rattle.elab_locals.specs.cpp_tree.declared.faults.ElabFault.{ElabFault}
+use Rattle.elab_locals.specs.cpp_tree.declared.faults.ElabFault.TheVariants.{Ill}
+use Rattle.elab_locals.specs.cpp_tree.declared.faults.IllRule.TheVariants.{BadCatch, OutOfProfile}
+use Rattle.elab_locals.specs.cpp_tree.declared.kinds.TKind.{TKind}
+use Rattle.elab_locals.specs.cpp_tree.declared.kinds.TKind.TheVariants as forms
+use Rattle.elab_locals.specs.cpp_tree.Trees.{Tree, Trees, none, one}
+use Rattle.elab_locals.specs.elab_ctx.Steps.{and_then, check, at_of, spelling}
+use Rattle.elab_locals.specs.elab_rules.Statements.{Lambdas, State, Done, Switched, done, block, the_tree, condition, switched, inner, in_loop, in_block, outer, block_kind, joined, statement_of, statements_of, block_declaration, expression_statement, case_label, default_label, jump, returned, is_ellipsis, is_last, handlers_of}
 use Rattle.elab_stmt.specs.Parts.{is_single, is_compound, body_of, part_of, loop_part, if_short, if_long, while_body, do_test, guarded, tried, try_handlers, switch_body, for_inside, for_inside_kids, for_body, handler_if, handler_of}
 use Rattle.elab_stmt.proofs.Forms.{compound_is, if_alone_is, if_both_is, while_is, do_is, switch_is, synchronized_is, atomic_is, try_is, for_is, back, handler_is}
-use Rattle.elab_expr.proofs.Several.{trees_step}
-use Rattle.elab_types.specs.Syntax.{tree_at, trees_at}
+use Rattle.elab_locals.proofs.elab_expr.Several.{trees_step}
+use Rattle.elab_locals.specs.elab_types.Syntax.{tree_at, trees_at}
 
 pub shape : (x : syntax.Tree) (kind k0 : NodeKind) (p : SyntaxAt) (token : Option ℕ) (us vs : syntax.Trees) → x ≡ syntax.node kind p token us → syntax.kind_of x ≡ k0 → us ≡ vs → x ≡ syntax.node k0 p token vs
 shape x kind k0 p token us vs e h f = e ∙ ap (λ (z : NodeKind). syntax.node z p token us) (sym (ap syntax.kind_of e) ∙ h) ∙ ap (syntax.node k0 p token) f

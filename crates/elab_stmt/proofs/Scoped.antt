@@ -1,21 +1,21 @@
 -- Statements in scopes of their own, and trees that are put together.
 use Rattle.std.proofs.Common.{◌≡◌, ◌<◌, ◌≤◌, ◌++◌, ◌∷◌, ℕ, true, zero, suc, List, [], length, take, refl, sym, ap, ◌∙◌, subst, Result, Ok, Err, arith}
-use Rattle.cpp_types.specs.declared.classes.At.{At}
-use Rattle.cpp_tree.specs.declared.faults.ElabFault.{ElabFault}
-use Rattle.cpp_tree.specs.declared.arena.TNodeId.{TNodeId}
-use Rattle.cpp_tree.specs.Trees.{Tree, Trees, none, one}
-use Rattle.cpp_tree.specs.Arena.{tree_at, trees_at, Grows, Adds}
-use Rattle.elab_ctx.specs.Ctx.{Ctx, Labels, ctx_of, closed}
-use Rattle.elab_ctx.specs.Steps.{and_then}
-use Rattle.elab_ctx.specs.Says.{Faults, are_within}
-use Rattle.elab_ctx.proofs.Looks.{grows_trans, grows_refl, at_grown}
-use Rattle.elab_rules.specs.Statements.{State, Done, done, block, outer, the_tree}
-use Rattle.elab_scopes.specs.declared.state.State.{State as StateRec}
-use Rattle.elab_scopes.specs.declared.state.Mark.{Mark}
-use Rattle.elab_scopes.specs.States.{state_of, made, KeepsLabels, Grown, mark_in, labels_at, left_at}
-use Rattle.elab_scopes.specs.Says.{OneDone, AllDone, behind}
-use Rattle.elab_scopes.proofs.Standing.{keeps_same, grown_trans, grown_by}
-use Rattle.elab_scopes.proofs.Behind.{behind_none}
+use Rattle.elab_locals.specs.cpp_types.declared.classes.At.{At}
+use Rattle.elab_locals.specs.cpp_tree.declared.faults.ElabFault.{ElabFault}
+use Rattle.elab_locals.specs.cpp_tree.declared.arena.TNodeId.{TNodeId}
+use Rattle.elab_locals.specs.cpp_tree.Trees.{Tree, Trees, none, one}
+use Rattle.elab_locals.specs.cpp_tree.Arena.{tree_at, trees_at, Grows, Adds}
+use Rattle.elab_locals.specs.elab_ctx.Ctx.{Ctx, Labels, ctx_of, closed}
+use Rattle.elab_locals.specs.elab_ctx.Steps.{and_then}
+use Rattle.elab_locals.specs.elab_ctx.Says.{Faults, are_within}
+use Rattle.elab_locals.proofs.elab_ctx.Looks.{grows_trans, grows_refl, at_grown}
+use Rattle.elab_locals.specs.elab_rules.Statements.{State, Done, done, block, outer, the_tree}
+use Rattle.elab_locals.specs.elab_scopes.declared.state.State.{State as StateRec}
+use Rattle.elab_locals.specs.elab_scopes.declared.state.Mark.{Mark}
+use Rattle.elab_locals.specs.elab_scopes.States.{state_of, made, KeepsLabels, Grown, mark_in, labels_at, left_at}
+use Rattle.elab_locals.specs.elab_scopes.Says.{OneDone, AllDone, behind}
+use Rattle.elab_locals.proofs.elab_scopes.Standing.{keeps_same, grown_trans, grown_by}
+use Rattle.elab_locals.proofs.elab_scopes.Behind.{behind_none}
 
 take_first : (xs ys : List ℕ) → take (length xs) (xs ++ ys) ≡ xs
 take_first [] ys = refl

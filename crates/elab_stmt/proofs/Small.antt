@@ -2,29 +2,29 @@
 use Rattle.std.proofs.Common.{◌≡◌, ◌≢◌, ◌<◌, ◌++◌, ◌∷◌, ◌&&◌, ℕ, true, false, Bool, List, [], length, nat_lt, Option, Some, None, Result, Ok, Err, IfOk, refl, sym, ap, ◌∙◌, subst}
 use Rattle.std.proofs.lemmas.Bool.{ltb-true}
 use Rattle.std.specs.declared.alloc.AllocError.{AllocError}
-use Rattle.cpp_lex.specs.Tokens.{Lexeme}
-use Rattle.cpp_types.specs.declared.classes.At.{At}
-use Rattle.cpp_ast.specs.declared.arena.At.{At as SyntaxAt}
-use Rattle.cpp_ast.specs.declared.kinds.NodeKind.{NodeKind}
-use Rattle.cpp_ast.specs.declared.kinds.NodeKind.TheVariants as k
-use Rattle.cpp_ast.specs.Trees as syntax
-use Rattle.cpp_tree.specs.declared.faults.ElabFault.{ElabFault}
-use Rattle.cpp_tree.specs.declared.arena.TNodeId.{TNodeId}
-use Rattle.cpp_tree.specs.declared.kinds.TKind.TheVariants as forms
-use Rattle.cpp_tree.specs.Trees.{Tree, Trees, none, one, three}
-use Rattle.cpp_tree.specs.Arena.{tree_at, trees_at, Adds}
-use Rattle.elab_ctx.specs.Steps.{and_then, at_of}
-use Rattle.elab_ctx.specs.Says.{are_within}
-use Rattle.elab_ctx.proofs.Looks.{grows_refl}
-use Rattle.elab_ctx.proofs.Making.{last_adds}
-use Rattle.elab_init.proofs.Listing.{trees_append, trees_grown, followed_none}
-use Rattle.elab_rules.specs.Objects.{followed_by}
-use Rattle.elab_rules.specs.Operators.{true_at}
-use Rattle.elab_rules.specs.Statements.{Lambdas, State, Done, done, statement, block, the_tree, beginning, is_declaration, for_first, for_test, for_step, block_declaration, expression_statement, condition}
-use Rattle.elab_scopes.specs.declared.state.State.{State as StateRec}
-use Rattle.elab_scopes.specs.States.{state_of, made}
-use Rattle.elab_scopes.specs.Says.{OneDone, AllDone, behind}
-use Rattle.elab_scopes.proofs.Standing.{grown_refl, grown_by}
+use Rattle.elab_locals.specs.cpp_lex.Tokens.{Lexeme}
+use Rattle.elab_locals.specs.cpp_types.declared.classes.At.{At}
+use Rattle.elab_locals.specs.cpp_ast.declared.arena.At.{At as SyntaxAt}
+use Rattle.elab_locals.specs.cpp_ast.declared.kinds.NodeKind.{NodeKind}
+use Rattle.elab_locals.specs.cpp_ast.declared.kinds.NodeKind.TheVariants as k
+use Rattle.elab_locals.specs.cpp_ast.Trees as syntax
+use Rattle.elab_locals.specs.cpp_tree.declared.faults.ElabFault.{ElabFault}
+use Rattle.elab_locals.specs.cpp_tree.declared.arena.TNodeId.{TNodeId}
+use Rattle.elab_locals.specs.cpp_tree.declared.kinds.TKind.TheVariants as forms
+use Rattle.elab_locals.specs.cpp_tree.Trees.{Tree, Trees, none, one, three}
+use Rattle.elab_locals.specs.cpp_tree.Arena.{tree_at, trees_at, Adds}
+use Rattle.elab_locals.specs.elab_ctx.Steps.{and_then, at_of}
+use Rattle.elab_locals.specs.elab_ctx.Says.{are_within}
+use Rattle.elab_locals.proofs.elab_ctx.Looks.{grows_refl}
+use Rattle.elab_locals.proofs.elab_ctx.Making.{last_adds}
+use Rattle.elab_locals.proofs.elab_init.Listing.{trees_append, trees_grown, followed_none}
+use Rattle.elab_locals.specs.elab_rules.Objects.{followed_by}
+use Rattle.elab_locals.specs.elab_rules.Operators.{true_at}
+use Rattle.elab_locals.specs.elab_rules.Statements.{Lambdas, State, Done, done, statement, block, the_tree, beginning, is_declaration, for_first, for_test, for_step, block_declaration, expression_statement, condition}
+use Rattle.elab_locals.specs.elab_scopes.declared.state.State.{State as StateRec}
+use Rattle.elab_locals.specs.elab_scopes.States.{state_of, made}
+use Rattle.elab_locals.specs.elab_scopes.Says.{OneDone, AllDone, behind}
+use Rattle.elab_locals.proofs.elab_scopes.Standing.{grown_refl, grown_by}
 use Rattle.elab_stmt.specs.Parts.{one_part, for_loop}
 
 pub for_made : (n0 n1 n2 : List Tree) (first kids : List TNodeId) (rep : TNodeId) (r : Result TNodeId AllocError) (at : At) (test body step : Tree) → are_within (length n0) first ≡ true → Adds n0 n1 rep (statement (forms.Loop true) at (three test body step)) → kids ≡ first ++ rep ∷ [] → IfOk r (λ (id : TNodeId). Adds n1 n2 id (block at (trees_at n1 kids))) → IfOk r (λ (id : TNodeId). Adds n0 n2 id (for_loop at (trees_at n0 first) test body step))

@@ -1,33 +1,33 @@
 -- A step of a statement and what follows it, in a scope or not.
 use Rattle.std.proofs.Common.{◌≡◌, ◌<◌, ◌++◌, ◌∷◌, ℕ, Bool, true, List, [], length, Option, Result, Ok, Err, refl, sym, ap, ◌∙◌, subst}
-use Rattle.cpp_lex.specs.Tokens.{Lexeme}
-use Rattle.cpp_types.specs.Typ.{Typ, typ_of}
-use Rattle.cpp_types.specs.declared.classes.At.{At}
-use Rattle.cpp_ast.specs.declared.arena.At.{At as SyntaxAt}
-use Rattle.cpp_ast.specs.declared.kinds.NodeKind.{NodeKind}
-use Rattle.cpp_ast.specs.Trees as syntax
-use Rattle.cpp_tree.specs.declared.faults.ElabFault.{ElabFault}
-use Rattle.cpp_tree.specs.declared.arena.TNodeId.{TNodeId}
-use Rattle.cpp_tree.specs.declared.kinds.TKind.{TKind}
-use Rattle.cpp_tree.specs.declared.kinds.TKind.TheVariants as forms
-use Rattle.cpp_tree.specs.Trees.{Tree, Trees, none, one, more, three}
-use Rattle.cpp_tree.specs.Arena.{tree_at, trees_at, Grows, Adds}
-use Rattle.elab_ctx.specs.Ctx.{Ctx, Labels, ctx_of, closed}
-use Rattle.elab_ctx.specs.Steps.{and_then, at_of}
-use Rattle.elab_ctx.specs.Says.{Faults, are_within}
-use Rattle.elab_ctx.proofs.Looks.{grows_trans, grows_refl, at_grown}
-use Rattle.elab_ctx.proofs.Making.{faults_in, faults_same}
-use Rattle.elab_init.proofs.Listing.{trees_grown, all_within_grown}
-use Rattle.elab_rules.specs.Statements.{Lambdas, State, Done, Switched, Caught, done, statement, block, the_tree, outer, in_switch, in_block, handler_node, a_part, statement_of, statements_of, handlers_of, switched, handler_type}
-use Rattle.elab_scopes.specs.declared.state.State.{State as StateRec}
-use Rattle.elab_scopes.specs.declared.state.Mark.{Mark}
-use Rattle.elab_scopes.specs.declared.state.SwitchedOn.{SwitchedOn}
-use Rattle.elab_scopes.specs.declared.state.Caught.{Caught as CaughtRec}
-use Rattle.elab_scopes.specs.States.{state_of, made, Grown, KeepsLabels, mark_in, left_at}
-use Rattle.elab_scopes.specs.Says.{OneDone, Does, AllDone, DoesAll, SwitchedAt, behind}
-use Rattle.elab_scopes.specs.Caught.{CaughtAt}
-use Rattle.elab_scopes.proofs.Standing.{does_after, does_grown, grown_trans, grown_by, keeps_same}
-use Rattle.elab_scopes.proofs.Behind.{behind_none, all_one}
+use Rattle.elab_locals.specs.cpp_lex.Tokens.{Lexeme}
+use Rattle.elab_locals.specs.cpp_types.Typ.{Typ, typ_of}
+use Rattle.elab_locals.specs.cpp_types.declared.classes.At.{At}
+use Rattle.elab_locals.specs.cpp_ast.declared.arena.At.{At as SyntaxAt}
+use Rattle.elab_locals.specs.cpp_ast.declared.kinds.NodeKind.{NodeKind}
+use Rattle.elab_locals.specs.cpp_ast.Trees as syntax
+use Rattle.elab_locals.specs.cpp_tree.declared.faults.ElabFault.{ElabFault}
+use Rattle.elab_locals.specs.cpp_tree.declared.arena.TNodeId.{TNodeId}
+use Rattle.elab_locals.specs.cpp_tree.declared.kinds.TKind.{TKind}
+use Rattle.elab_locals.specs.cpp_tree.declared.kinds.TKind.TheVariants as forms
+use Rattle.elab_locals.specs.cpp_tree.Trees.{Tree, Trees, none, one, more, three}
+use Rattle.elab_locals.specs.cpp_tree.Arena.{tree_at, trees_at, Grows, Adds}
+use Rattle.elab_locals.specs.elab_ctx.Ctx.{Ctx, Labels, ctx_of, closed}
+use Rattle.elab_locals.specs.elab_ctx.Steps.{and_then, at_of}
+use Rattle.elab_locals.specs.elab_ctx.Says.{Faults, are_within}
+use Rattle.elab_locals.proofs.elab_ctx.Looks.{grows_trans, grows_refl, at_grown}
+use Rattle.elab_locals.proofs.elab_ctx.Making.{faults_in, faults_same}
+use Rattle.elab_locals.proofs.elab_init.Listing.{trees_grown, all_within_grown}
+use Rattle.elab_locals.specs.elab_rules.Statements.{Lambdas, State, Done, Switched, Caught, done, statement, block, the_tree, outer, in_switch, in_block, handler_node, a_part, statement_of, statements_of, handlers_of, switched, handler_type}
+use Rattle.elab_locals.specs.elab_scopes.declared.state.State.{State as StateRec}
+use Rattle.elab_locals.specs.elab_scopes.declared.state.Mark.{Mark}
+use Rattle.elab_locals.specs.elab_scopes.declared.state.SwitchedOn.{SwitchedOn}
+use Rattle.elab_locals.specs.elab_scopes.declared.state.Caught.{Caught as CaughtRec}
+use Rattle.elab_locals.specs.elab_scopes.States.{state_of, made, Grown, KeepsLabels, mark_in, left_at}
+use Rattle.elab_locals.specs.elab_scopes.Says.{OneDone, Does, AllDone, DoesAll, SwitchedAt, behind}
+use Rattle.elab_locals.specs.elab_scopes.Caught.{CaughtAt}
+use Rattle.elab_locals.proofs.elab_scopes.Standing.{does_after, does_grown, grown_trans, grown_by, keeps_same}
+use Rattle.elab_locals.proofs.elab_scopes.Behind.{behind_none, all_one}
 use Rattle.elab_stmt.specs.Parts.{body_of, part_of, one_part, guarded, switch_inside, switch_body, try_handlers, handler_body, handler_inside}
 use Rattle.elab_stmt.proofs.Forms.{back, then_then}
 use Rattle.elab_stmt.proofs.Chains.{stays, all_stay}

@@ -1,7 +1,7 @@
 -- The kids of a `for`.
 use Rattle.std.specs.Prelude.{◌<◌, ℕ, List}
-use Rattle.cpp_ast.specs.Trees.{Tree, Trees, none, more}
-use Rattle.elab_types.specs.Syntax.{tree_at}
+use Rattle.elab_locals.specs.cpp_ast.Trees.{Tree, Trees, none, more}
+use Rattle.elab_locals.specs.elab_types.Syntax.{tree_at}
 use Rattle.elab_stmt.specs.declared.fours.Four.{Four}
 
 abbrev pub four_trees : List Tree → Four → Trees

@@ -1,19 +1,19 @@
 -- Statements in statements, step by step.
 use Rattle.std.specs.Prelude.{Bool, true, false, not, ◌||◌, List, Result, Ok, Err}
-use Rattle.cpp_types.specs.declared.classes.At.{At}
-use Rattle.cpp_lex.specs.Tokens.{Lexeme}
-use Rattle.cpp_ast.specs.declared.kinds.NodeKind.{NodeKind}
-use Rattle.cpp_ast.specs.declared.kinds.NodeKind.TheVariants as k
-use Rattle.cpp_ast.specs.Trees as syntax
-use Rattle.cpp_tree.specs.declared.faults.ElabFault.{ElabFault}
-use Rattle.cpp_tree.specs.declared.faults.ElabFault.TheVariants.{Ill}
-use Rattle.cpp_tree.specs.declared.faults.IllRule.TheVariants.{BadCatch, OutOfProfile}
-use Rattle.cpp_tree.specs.declared.kinds.TKind.{TKind}
-use Rattle.cpp_tree.specs.declared.kinds.TKind.TheVariants as forms
-use Rattle.cpp_tree.specs.Trees.{Tree, Trees, none, more, one, three}
-use Rattle.elab_ctx.specs.Steps.{and_then, check, at_of}
-use Rattle.elab_rules.specs.Objects.{followed_by}
-use Rattle.elab_rules.specs.Statements.{Lambdas, State, Done, Switched, Caught, done, statement, block, the_tree, condition, a_part, inner, in_loop, in_block, in_switch, outer, for_first, for_test, for_step, statement_of, statements_of, handlers_of, handler_type, handler_node, is_ellipsis}
+use Rattle.elab_locals.specs.cpp_types.declared.classes.At.{At}
+use Rattle.elab_locals.specs.cpp_lex.Tokens.{Lexeme}
+use Rattle.elab_locals.specs.cpp_ast.declared.kinds.NodeKind.{NodeKind}
+use Rattle.elab_locals.specs.cpp_ast.declared.kinds.NodeKind.TheVariants as k
+use Rattle.elab_locals.specs.cpp_ast.Trees as syntax
+use Rattle.elab_locals.specs.cpp_tree.declared.faults.ElabFault.{ElabFault}
+use Rattle.elab_locals.specs.cpp_tree.declared.faults.ElabFault.TheVariants.{Ill}
+use Rattle.elab_locals.specs.cpp_tree.declared.faults.IllRule.TheVariants.{BadCatch, OutOfProfile}
+use Rattle.elab_locals.specs.cpp_tree.declared.kinds.TKind.{TKind}
+use Rattle.elab_locals.specs.cpp_tree.declared.kinds.TKind.TheVariants as forms
+use Rattle.elab_locals.specs.cpp_tree.Trees.{Tree, Trees, none, more, one, three}
+use Rattle.elab_locals.specs.elab_ctx.Steps.{and_then, check, at_of}
+use Rattle.elab_locals.specs.elab_rules.Objects.{followed_by}
+use Rattle.elab_locals.specs.elab_rules.Statements.{Lambdas, State, Done, Switched, Caught, done, statement, block, the_tree, condition, a_part, inner, in_loop, in_block, in_switch, outer, for_first, for_test, for_step, statement_of, statements_of, handlers_of, handler_type, handler_node, is_ellipsis}
 
 -- forms of which more than one tree is made, or none
 abbrev pub is_single : NodeKind → Bool

@@ -1,12 +1,12 @@
 // The kids of a `for`.
 
 ghost use Rattle.std.specs.Prelude.{◌≡◌, ◌<◌, ℕ, List, true, MatchOption};
-ghost use Rattle.cpp_ast.specs.Orders.{are_below};
-ghost use Rattle.cpp_ast.specs.Trees.{Tree};
-ghost use Rattle.elab_types.specs.Syntax.{trees_at};
+ghost use Rattle.elab_locals.specs.cpp_ast.Orders.{are_below};
+ghost use Rattle.elab_locals.specs.cpp_ast.Trees.{Tree};
+ghost use Rattle.elab_locals.specs.elab_types.Syntax.{trees_at};
 ghost use Rattle.elab_stmt.specs.Fours.{IsFour, four_trees};
 
-use cpp_ast::NodeId;
+use elab_locals::below::NodeId;
 
 /// The four kids of a `for`.
 #[derive(Clone, Copy)]

@@ -1,19 +1,18 @@
 // Nodes of statements with many parts.
 
 ghost use Rattle.std.specs.Prelude.{◌≡◌, ◌<◌, ◌∷◌, true, length, IfOk};
-ghost use Rattle.cpp_types.specs.Typ.{typ_of};
-ghost use Rattle.cpp_tree.specs.declared.kinds.TKind.TheVariants.{Switch, Try};
-ghost use Rattle.cpp_tree.specs.Trees.{more, none};
-ghost use Rattle.cpp_tree.specs.Arena.{trees_of, tree_at, trees_at, Adds};
-ghost use Rattle.elab_ctx.specs.Says.{are_within};
-ghost use Rattle.elab_rules.specs.Statements.{statement as statement_of, block as block_of, handler_node as handler_node_of};
+ghost use Rattle.elab_locals.specs.cpp_types.Typ.{typ_of};
+ghost use Rattle.elab_locals.specs.cpp_tree.declared.kinds.TKind.TheVariants.{Switch, Try};
+ghost use Rattle.elab_locals.specs.cpp_tree.Trees.{more, none};
+ghost use Rattle.elab_locals.specs.cpp_tree.Arena.{trees_of, tree_at, trees_at, Adds};
+ghost use Rattle.elab_locals.specs.elab_ctx.Says.{are_within};
+ghost use Rattle.elab_locals.specs.elab_rules.Statements.{statement as statement_of, block as block_of, handler_node as handler_node_of};
 ghost use Rattle.elab_stmt.specs.Parts.{for_loop};
 
-use cpp_tree::{TKind, TNode, TNodeId, add_node};
-use cpp_types::{At, Cat};
-use elab_init::{keep, keep_all};
-use elab_scopes::Caught;
-use elab_scopes::nodes::{block, statement, ternary_statement};
+use elab_locals::below::{
+    At, Cat, Caught, TKind, TNode, TNodeId, add_node, block, keep, keep_all, statement,
+    ternary_statement,
+};
 use std::alloc::{AllocError, Global};
 
 // A node and others behind it.

@@ -1,17 +1,17 @@
 // Statements in statements (C++14 clause 6, 15.3; the TS, [stmt.sync], [stmt.tx]).
 
 ghost use Rattle.std.specs.Prelude.{◌≡◌, ◌<◌, length, true};
-ghost use Rattle.cpp_lex.specs.Tokens.{lexemes_of};
-ghost use Rattle.cpp_ast.specs.Orders.{are_below};
-ghost use Rattle.cpp_ast.specs.Trees.{kind_of};
-ghost use Rattle.cpp_ast.specs.declared.kinds.NodeKind.TheVariants as k;
-ghost use Rattle.cpp_types.specs.Typ.{typ_of};
-ghost use Rattle.cpp_tree.specs.Arena.{tree_at as tree_in, trees_at as trees_in};
-ghost use Rattle.elab_ctx.specs.Says.{are_within};
-ghost use Rattle.elab_rules.specs.Statements.{statement_of, statements_of, handlers_of};
-ghost use Rattle.elab_types.specs.Syntax.{syntax_of, tree_at, trees_at};
-ghost use Rattle.elab_scopes.specs.States.{state_of, made};
-ghost use Rattle.elab_scopes.specs.Says.{Does, DoesAll};
+ghost use Rattle.elab_locals.specs.cpp_lex.Tokens.{lexemes_of};
+ghost use Rattle.elab_locals.specs.cpp_ast.Orders.{are_below};
+ghost use Rattle.elab_locals.specs.cpp_ast.Trees.{kind_of};
+ghost use Rattle.elab_locals.specs.cpp_ast.declared.kinds.NodeKind.TheVariants as k;
+ghost use Rattle.elab_locals.specs.cpp_types.Typ.{typ_of};
+ghost use Rattle.elab_locals.specs.cpp_tree.Arena.{tree_at as tree_in, trees_at as trees_in};
+ghost use Rattle.elab_locals.specs.elab_ctx.Says.{are_within};
+ghost use Rattle.elab_locals.specs.elab_rules.Statements.{statement_of, statements_of, handlers_of};
+ghost use Rattle.elab_locals.specs.elab_types.Syntax.{syntax_of, tree_at, trees_at};
+ghost use Rattle.elab_locals.specs.elab_scopes.States.{state_of, made};
+ghost use Rattle.elab_locals.specs.elab_scopes.Says.{Does, DoesAll};
 ghost use Rattle.elab_stmt.specs.Parts as parts;
 ghost use Rattle.elab_stmt.specs.Parts.{is_single};
 ghost use Rattle.elab_stmt.specs.Fours.{IsFour};
@@ -19,22 +19,14 @@ ghost use Rattle.elab_stmt.specs.Fours.{IsFour};
 use crate::fours::{Four, four_of};
 use crate::nodes::{empty_block, for_node, handler_node, switch_node, try_node};
 use crate::simple::{atomic_kind, for_first, for_step, for_test, may_stand, one_part};
-use cpp_ast::{NodeId, NodeKind, Nodes};
-use cpp_lex::Tokens;
-use cpp_tree::{ElabFault, IllRule, TKind, TNodeId};
-use cpp_types::{At, Ty};
-use elab_init::keep;
+use elab_locals::below::{
+    At, Caught, ElabFault, IllRule, Kids, MakeLambdas, NodeId, NodeKind, Nodes, State, TKind,
+    TNodeId, Tokens, Ty, block, case_label, condition, default_label,
+    elab_types_node_at as node_at, enter, enter_block, enter_loop, enter_switch,
+    expression_statement, first_kid, handler_type, ill, jump, keep, kids_of, leave, leave_switch,
+    mark_here, place, returned, switched, ternary_statement, unary_statement,
+};
 use elab_locals::block_declaration;
-use elab_scopes::handlers::handler_type;
-use elab_scopes::labels::{case_label, default_label};
-use elab_scopes::nodes::{block, ternary_statement, unary_statement};
-use elab_scopes::returns::returned;
-use elab_scopes::scopes::{enter, enter_block, enter_loop, enter_switch, leave, leave_switch};
-use elab_scopes::simple::{condition, expression_statement, jump, switched};
-use elab_scopes::{Caught, MakeLambdas, State, mark_here};
-use elab_types::kids::{Kids, first_kid, kids_of};
-use elab_types::specifiers::ill;
-use elab_types::syntax::{node_at, place};
 use std::alloc::Global;
 
 /// A statement: its nodes, of which a declaration has one for each declarator, behind others.

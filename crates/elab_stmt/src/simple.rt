@@ -1,33 +1,25 @@
 // Parts of statements that hold no statements.
 
 ghost use Rattle.std.specs.Prelude.{◌≡◌, ◌≢◌, ◌<◌, ◌∷◌, [], true, length, IfOk, MatchOption, not, ◌||◌};
-ghost use Rattle.cpp_lex.specs.Tokens.{lexemes_of};
-ghost use Rattle.cpp_tree.specs.declared.kinds.TKind.TheVariants.{Atomic};
-ghost use Rattle.cpp_tree.specs.Arena.{trees_of, trees_at as trees_in, Adds};
-ghost use Rattle.elab_ctx.specs.Says.{are_within};
-ghost use Rattle.elab_ctx.specs.Steps.{spelling as spelling_of};
-ghost use Rattle.elab_rules.specs.Statements.{block_kind, the_tree, beginning as beginning_of, for_first as for_first_of, for_test as for_test_of, for_step as for_step_of, expression_statement as expression_statement_of, is_ellipsis as is_ellipsis_of};
-ghost use Rattle.elab_types.specs.Syntax.{syntax_of, tree_at};
-ghost use Rattle.elab_scopes.specs.States.{state_of, made};
-ghost use Rattle.elab_scopes.specs.Says.{OneDone, Does, DoesAll};
+ghost use Rattle.elab_locals.specs.cpp_lex.Tokens.{lexemes_of};
+ghost use Rattle.elab_locals.specs.cpp_tree.declared.kinds.TKind.TheVariants.{Atomic};
+ghost use Rattle.elab_locals.specs.cpp_tree.Arena.{trees_of, trees_at as trees_in, Adds};
+ghost use Rattle.elab_locals.specs.elab_ctx.Says.{are_within};
+ghost use Rattle.elab_locals.specs.elab_ctx.Steps.{spelling as spelling_of};
+ghost use Rattle.elab_locals.specs.elab_rules.Statements.{block_kind, the_tree, beginning as beginning_of, for_first as for_first_of, for_test as for_test_of, for_step as for_step_of, expression_statement as expression_statement_of, is_ellipsis as is_ellipsis_of};
+ghost use Rattle.elab_locals.specs.elab_types.Syntax.{syntax_of, tree_at};
+ghost use Rattle.elab_locals.specs.elab_scopes.States.{state_of, made};
+ghost use Rattle.elab_locals.specs.elab_scopes.Says.{OneDone, Does, DoesAll};
 ghost use Rattle.elab_stmt.specs.Parts.{one_part as one_part_of};
 
 use crate::nodes::empty_block;
-use cpp_ast::{NodeId, NodeKind, Nodes};
-use cpp_lex::Tokens;
-use cpp_tree::{ElabFault, TKind, TNode, TNodeId};
-use cpp_types::At;
-use elab_init::keep;
+use elab_locals::below::{
+    At, BlockKind, ElabFault, IntKind, MakeLambdas, NodeId, NodeKind, Nodes, State, TKind, TNode,
+    TNodeId, Tokens, block, condition, elab_types_node_at as node_at, expression_statement,
+    is_spelled, keep, number, place, token_place,
+};
 use elab_locals::block_declaration;
-use elab_ops::arithmetic::number;
-use elab_scopes::nodes::block;
-use elab_scopes::simple::{condition, expression_statement};
-use elab_scopes::{MakeLambdas, State};
-use elab_types::specifiers::is_spelled;
-use elab_types::syntax::{node_at, place, token_place};
 use std::alloc::{AllocError, Global};
-use tx_events::BlockKind;
-use tx_ints::IntKind;
 
 /// The kind of an atomic block, by its first word.
 pub fn atomic_kind(tokens: &Tokens, token: u32) -> TKind

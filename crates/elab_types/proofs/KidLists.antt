@@ -1,9 +1,9 @@
 -- Kids by their number.
 use Rattle.std.proofs.Common.{◌≡◌, ℕ, ◌<◌, ◌≤◌, true, nat_lt, lt-ltb, List, [], ◌∷◌, length, refl, arith}
 use Rattle.std.proofs.lemmas.Bool.{and_parts, ltb-true}
-use Rattle.cpp_ast.specs.Orders.{are_below}
-use Rattle.cpp_ast.specs.declared.arena.NodeId.{NodeId}
-use Rattle.cpp_ast.specs.Trees.{Tree}
+use Rattle.elab_conv.specs.cpp_ast.Orders.{are_below}
+use Rattle.elab_conv.specs.cpp_ast.declared.arena.NodeId.{NodeId}
+use Rattle.elab_conv.specs.cpp_ast.Trees.{Tree}
 use Rattle.elab_types.specs.Syntax.{tree_at, trees_at}
 use Rattle.elab_types.specs.Kids.{AreMany}
 

@@ -3,8 +3,8 @@ use Rattle.std.proofs.Common.{◌≡◌, ℕ, zero, suc, ◌+◌, ◌<◌, ◌�
 use Rattle.std.proofs.Math.Seq.{drop-cons}
 use Rattle.cpp_types.specs.Typ.{Typ, Typs, none, more, typ_of, typs_of}
 use Rattle.cpp_types.specs.declared.types.Ty.{Ty}
-use Rattle.cpp_tree.specs.Typing.{unqualified}
-use Rattle.elab_rules.specs.Types.{types_of}
+use Rattle.elab_conv.specs.cpp_tree.Typing.{unqualified}
+use Rattle.elab_conv.specs.elab_rules.Types.{types_of}
 use Rattle.elab_types.specs.declared.records.Parameter.{Parameter}
 use Rattle.elab_types.specs.Shown.{parameter_of}
 

@@ -2,10 +2,10 @@
 use Rattle.std.proofs.Common.{◌≡◌, ℕ, zero, suc, ◌+◌, ◌<◌, true, nat_lt, List, [], ◌∷◌, length, Some, refl, sym, ◌∙◌, subst, ap, arith, slice_get, length-append, get_or, fold}
 use Rattle.std.proofs.lemmas.List.{get_or_append_left, get_or_push}
 use Rattle.std.proofs.lemmas.Bool.{and_parts, ltb-true}
-use Rattle.cpp_ast.specs.declared.arena.NodeId.{NodeId}
-use Rattle.cpp_ast.specs.declared.arena.Node.{Node}
-use Rattle.cpp_ast.specs.Orders.{are_below}
-use Rattle.cpp_ast.specs.Trees.{Tree, node, Trees}
+use Rattle.elab_conv.specs.cpp_ast.declared.arena.NodeId.{NodeId}
+use Rattle.elab_conv.specs.cpp_ast.declared.arena.Node.{Node}
+use Rattle.elab_conv.specs.cpp_ast.Orders.{are_below}
+use Rattle.elab_conv.specs.cpp_ast.Trees.{Tree, node, Trees}
 use Rattle.elab_types.specs.Syntax.{nothing, tree_at, trees_at, tree_of, with_node, syntax_of}
 
 kept : (ts : List Tree) (ns : List Node) (i : ℕ) → i < length ts → get_or (fold with_node ts ns) i nothing ≡ get_or ts i nothing

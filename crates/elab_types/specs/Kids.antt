@@ -1,6 +1,6 @@
 -- The kids of a node by their number.
 use Rattle.std.specs.Prelude.{◌≡◌, ◌<◌, ℕ, List}
-use Rattle.cpp_ast.specs.Trees.{Tree, Trees, none, more}
+use Rattle.elab_conv.specs.cpp_ast.Trees.{Tree, Trees, none, more}
 use Rattle.elab_types.specs.Syntax.{tree_at}
 use Rattle.elab_types.specs.declared.kids.Kids.{Kids}
 use Rattle.elab_types.specs.declared.kids.Kids.TheVariants as kids

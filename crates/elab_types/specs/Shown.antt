@@ -1,11 +1,11 @@
 -- What the records of the code show, and what answers with them say.
 use Rattle.std.specs.Prelude.{◌≡◌, List, map, option_map, Result, Ok, Err}
-use Rattle.cpp_lex.specs.Tokens.{Lexeme}
+use Rattle.elab_conv.specs.cpp_lex.Tokens.{Lexeme}
 use Rattle.cpp_types.specs.Typ.{Form, void, int, typ_of}
-use Rattle.cpp_tree.specs.declared.faults.ElabFault.{ElabFault}
-use Rattle.elab_ctx.specs.Steps.{spelling}
-use Rattle.elab_ctx.specs.Says.{Faults}
-use Rattle.elab_rules.specs.Types.{Specifiers, Parameter, Qualifiers, Declared, auto_form, Words}
+use Rattle.elab_conv.specs.cpp_tree.declared.faults.ElabFault.{ElabFault}
+use Rattle.elab_conv.specs.elab_ctx.Steps.{spelling}
+use Rattle.elab_conv.specs.elab_ctx.Says.{Faults}
+use Rattle.elab_conv.specs.elab_rules.Types.{Specifiers, Parameter, Qualifiers, Declared, auto_form, Words}
 use Rattle.elab_types.specs.declared.records.Base.{Base}
 use Rattle.elab_types.specs.declared.records.Base.TheVariants as bases
 use Rattle.elab_types.specs.declared.records.WordCounts.{WordCounts}

@@ -3,12 +3,12 @@ use Rattle.std.specs.Prelude.{ℕ, List, [], ◌∷◌, ◌++◌, true, false, S
 use Rattle.std.specs.Str.{bytes_eq}
 use Rattle.cpp_types.specs.Typ.{Typ, tx_ex}
 use Rattle.cpp_types.specs.declared.classes.At.{At}
-use Rattle.cpp_tree.specs.declared.faults.ElabFault.{ElabFault}
-use Rattle.cpp_tree.specs.declared.faults.IllRule.TheVariants.{UnknownName, NotTriviallyCopyable}
-use Rattle.cpp_tree.specs.Notation.{plain}
-use Rattle.elab_ctx.specs.Ctx.{Ctx}
-use Rattle.elab_ctx.specs.Steps.{and_then, expect, check}
-use Rattle.elab_rules.specs.Types.{Specifiers, type_named, may_be_thrown, with_qualifiers, Parameter, Declared, parameter_type}
+use Rattle.elab_conv.specs.cpp_tree.declared.faults.ElabFault.{ElabFault}
+use Rattle.elab_conv.specs.cpp_tree.declared.faults.IllRule.TheVariants.{UnknownName, NotTriviallyCopyable}
+use Rattle.elab_conv.specs.cpp_tree.Notation.{plain}
+use Rattle.elab_conv.specs.elab_ctx.Ctx.{Ctx}
+use Rattle.elab_conv.specs.elab_ctx.Steps.{and_then, expect, check}
+use Rattle.elab_conv.specs.elab_rules.Types.{Specifiers, type_named, may_be_thrown, with_qualifiers, Parameter, Declared, parameter_type}
 
 -- `const` or `volatile`
 abbrev pub with_qualifier_word : List ℕ → Specifiers → Specifiers

@@ -1,9 +1,9 @@
 -- The syntax trees that the nodes of a unit show.
 use Rattle.std.specs.Prelude.{List, [], ◌∷◌, ◌++◌, None, get_or, fold}
-use Rattle.cpp_ast.specs.declared.kinds.NodeKind.TheVariants.{Absent}
-use Rattle.cpp_ast.specs.declared.arena.NodeId.{NodeId}
-use Rattle.cpp_ast.specs.declared.arena.Node.{Node}
-use Rattle.cpp_ast.specs.Trees.{Tree, node, Trees, none, more}
+use Rattle.elab_conv.specs.cpp_ast.declared.kinds.NodeKind.TheVariants.{Absent}
+use Rattle.elab_conv.specs.cpp_ast.declared.arena.NodeId.{NodeId}
+use Rattle.elab_conv.specs.cpp_ast.declared.arena.Node.{Node}
+use Rattle.elab_conv.specs.cpp_ast.Trees.{Tree, node, Trees, none, more}
 
 -- what stands where there is no node
 abbrev pub nothing : Tree

@@ -2,9 +2,9 @@
 
 ghost use Rattle.std.specs.Prelude.{◌≡◌, Ok, IfOk, map};
 ghost use Rattle.cpp_types.specs.Typ.{typ_of, typs_of, shape_form, ptr, ref, array, func, signature, signature_of};
-ghost use Rattle.cpp_tree.specs.Notation.{plain};
-ghost use Rattle.elab_ctx.specs.Ctx.{ctx_of};
-ghost use Rattle.elab_rules.specs.Types.{pointer_to as pointer_to_of, reference_to as reference_to_of, open_array as open_array_of, parameter_type as parameter_type_of, types_of, function_of as function_of_of, with_function as with_function_of, is_declared_safe as is_declared_safe_of, declared_name as declared_name_of};
+ghost use Rattle.elab_conv.specs.cpp_tree.Notation.{plain};
+ghost use Rattle.elab_conv.specs.elab_ctx.Ctx.{ctx_of};
+ghost use Rattle.elab_conv.specs.elab_rules.Types.{pointer_to as pointer_to_of, reference_to as reference_to_of, open_array as open_array_of, parameter_type as parameter_type_of, types_of, function_of as function_of_of, with_function as with_function_of, is_declared_safe as is_declared_safe_of, declared_name as declared_name_of};
 ghost use Rattle.elab_types.specs.Specified.{parameter_declared};
 ghost use Rattle.elab_types.specs.Shown.{Says, declared_of, parameter_of, qualifiers_of};
 
@@ -13,10 +13,9 @@ use crate::specifiers::ill;
 use crate::types::{
     adjusted, has_auto, is_abstract, is_element, is_reference, is_result, is_void_type,
 };
-use cpp_tree::{ElabFault, IllRule, LimitKind};
 use cpp_types::{At, FnTy, Shape, Ty, copy};
+use elab_conv::below::{ElabFault, Env, IllRule, LimitKind};
 use elab_conv::types::unqualified_type;
-use elab_ctx::Env;
 use std::alloc::{AllocError, Global};
 
 /// A limit that is passed at a place.

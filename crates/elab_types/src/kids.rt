@@ -1,12 +1,12 @@
 // The kids of a node.
 
 ghost use Rattle.std.specs.Prelude.{◌≡◌, ◌<◌, ◌-◌, ◌++◌, ◌∷◌, [], ℕ, List, true, MatchOption, take, drop, length};
-ghost use Rattle.cpp_ast.specs.Orders.{are_below};
-ghost use Rattle.cpp_ast.specs.Trees.{Tree};
+ghost use Rattle.elab_conv.specs.cpp_ast.Orders.{are_below};
+ghost use Rattle.elab_conv.specs.cpp_ast.Trees.{Tree};
 ghost use Rattle.elab_types.specs.Syntax.{trees_at};
 ghost use Rattle.elab_types.specs.Kids.{HasKids, AreLower};
 
-use cpp_ast::NodeId;
+use elab_conv::below::NodeId;
 
 /// The kids of a node, as far as forms with a fixed number of parts ask for them.
 #[derive(Clone, Copy)]

@@ -1,14 +1,14 @@
 // Parts of declarators that hold no expressions (C++14 8.3).
 
 ghost use Rattle.std.specs.Prelude.{◌≡◌, ◌<◌, length, true, IfOk};
-ghost use Rattle.cpp_lex.specs.Tokens.{lexemes_of};
+ghost use Rattle.elab_conv.specs.cpp_lex.Tokens.{lexemes_of};
 ghost use Rattle.cpp_types.specs.Typ.{typ_of};
-ghost use Rattle.cpp_ast.specs.Orders.{are_below};
-ghost use Rattle.cpp_ast.specs.Trees.{node, Trees};
-ghost use Rattle.cpp_ast.specs.declared.kinds.NodeKind.TheVariants.{TxQualifier};
-ghost use Rattle.cpp_ast.specs.declared.arena.At.{At as SyntaxAt};
-ghost use Rattle.elab_ctx.specs.Steps.{spelling as spelling_of};
-ghost use Rattle.elab_rules.specs.Types.{is_name as is_name_of, owner_token as owner_token_of, with_qualifier as with_qualifier_of, qualifiers_of as all_qualifiers_of, qualifiers_from, no_qualifiers};
+ghost use Rattle.elab_conv.specs.cpp_ast.Orders.{are_below};
+ghost use Rattle.elab_conv.specs.cpp_ast.Trees.{node, Trees};
+ghost use Rattle.elab_conv.specs.cpp_ast.declared.kinds.NodeKind.TheVariants.{TxQualifier};
+ghost use Rattle.elab_conv.specs.cpp_ast.declared.arena.At.{At as SyntaxAt};
+ghost use Rattle.elab_conv.specs.elab_ctx.Steps.{spelling as spelling_of};
+ghost use Rattle.elab_conv.specs.elab_rules.Types.{is_name as is_name_of, owner_token as owner_token_of, with_qualifier as with_qualifier_of, qualifiers_of as all_qualifiers_of, qualifiers_from, no_qualifiers};
 ghost use Rattle.elab_types.specs.Specified.{pointer_qualified as pointer_qualified_of};
 ghost use Rattle.elab_types.specs.Syntax.{syntax_of, tree_at, trees_at};
 ghost use Rattle.elab_types.specs.Shown.{qualifiers_of as qualifiers_view};
@@ -18,9 +18,8 @@ use crate::records::Qualifiers;
 use crate::specifiers::is_spelled;
 use crate::syntax::node_at;
 use crate::types::with_qualifiers;
-use cpp_ast::{NodeId, NodeKind, Nodes};
-use cpp_lex::Tokens;
 use cpp_types::Ty;
+use elab_conv::below::{NodeId, NodeKind, Nodes, Tokens};
 use std::alloc::{AllocError, Global};
 
 /// Whether a declarator is a name alone, in parentheses or not.

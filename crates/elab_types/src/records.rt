@@ -1,7 +1,7 @@
 // What specifiers and declarators say.
 
 use cpp_types::{At, Ty};
-use tx_ints::IntKind;
+use elab_conv::below::IntKind;
 
 /// A type that words without a name of a type give.
 #[derive(Clone, Copy, Debug, PartialEq, Eq)]

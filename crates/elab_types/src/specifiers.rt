@@ -2,24 +2,21 @@
 
 ghost use Rattle.std.specs.Prelude.{◌≡◌, List, count_by, map, option_map, IfOk};
 ghost use Rattle.std.specs.Str.{bytes_eq};
-ghost use Rattle.cpp_lex.specs.Tokens.{Lexeme, lexemes_of};
+ghost use Rattle.elab_conv.specs.cpp_lex.Tokens.{Lexeme, lexemes_of};
 ghost use Rattle.cpp_types.specs.Typ.{typ_of, int, tx_ex};
-ghost use Rattle.elab_ctx.specs.Ctx.{ctx_of};
-ghost use Rattle.cpp_tree.specs.Notation.{plain};
-ghost use Rattle.elab_ctx.specs.Steps.{spelling as spelling_of};
-ghost use Rattle.elab_rules.specs.Types.{times as times_of, words_of, is_modified as is_modified_of, signed_kind as signed_kind_of, char_kind as char_kind_of, integer_words as integer_words_of, word_form, base_type as base_type_of, specified_type as specified_type_of, no_specifiers as no_specifiers_of};
+ghost use Rattle.elab_conv.specs.elab_ctx.Ctx.{ctx_of};
+ghost use Rattle.elab_conv.specs.cpp_tree.Notation.{plain};
+ghost use Rattle.elab_conv.specs.elab_ctx.Steps.{spelling as spelling_of};
+ghost use Rattle.elab_conv.specs.elab_rules.Types.{times as times_of, words_of, is_modified as is_modified_of, signed_kind as signed_kind_of, char_kind as char_kind_of, integer_words as integer_words_of, word_form, base_type as base_type_of, specified_type as specified_type_of, no_specifiers as no_specifiers_of};
 ghost use Rattle.elab_types.specs.Specified.{with_qualifier_word as with_qualifier_word_of, with_word as with_word_of, with_named as with_named_of, named_by as named_by_of, with_exception as with_exception_of};
 ghost use Rattle.elab_types.specs.Shown.{Says, base_form, counts_of, specifiers_of};
 
 use crate::records::{Base, Specifiers, WordCounts};
 use crate::syntax::spelling;
 use crate::types::{may_be_thrown, type_named, with_qualifiers};
-use cpp_lex::Tokens;
-use cpp_tree::{ElabFault, IllRule};
 use cpp_types::{At, Shape, Ty, copy};
-use elab_ctx::Env;
+use elab_conv::below::{ElabFault, Env, IllRule, IntKind, Tokens};
 use std::alloc::{AllocError, Global};
-use tx_ints::IntKind;
 
 /// A rule that is broken at a place.
 pub fn ill(at: At, rule: IllRule) -> ElabFault

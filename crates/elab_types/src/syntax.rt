@@ -1,15 +1,14 @@
 // Reading tokens and syntax nodes.
 
 ghost use Rattle.std.specs.Prelude.{◌≡◌, ◌<◌, length, true, Some, slice_get};
-ghost use Rattle.cpp_lex.specs.Tokens.{lexemes_of};
-ghost use Rattle.cpp_ast.specs.Orders.{are_below};
-ghost use Rattle.cpp_ast.specs.Trees as shown;
-ghost use Rattle.elab_ctx.specs.Steps.{spelling as spelling_of, value_at as value_of, token_place as place_of, at_of};
+ghost use Rattle.elab_conv.specs.cpp_lex.Tokens.{lexemes_of};
+ghost use Rattle.elab_conv.specs.cpp_ast.Orders.{are_below};
+ghost use Rattle.elab_conv.specs.cpp_ast.Trees as shown;
+ghost use Rattle.elab_conv.specs.elab_ctx.Steps.{spelling as spelling_of, value_at as value_of, token_place as place_of, at_of};
 ghost use Rattle.elab_types.specs.Syntax.{syntax_of, tree_at, trees_at};
 
-use cpp_ast::{Node, NodeId, Nodes};
-use cpp_lex::Tokens;
 use cpp_types::At;
+use elab_conv::below::{Node, NodeId, Nodes, Tokens};
 
 /// The spelling of a token; nothing where there is none.
 pub fn spelling(tokens: &Tokens, token: u32) -> &[u8]
@@ -43,7 +42,7 @@ pub fn token_place(tokens: &Tokens, source: u32, token: u32) -> At
 }
 
 /// The place of a syntax node.
-pub fn place(at: cpp_ast::At) -> At
+pub fn place(at: elab_conv::below::CppAstAt) -> At
     ensures { result ≡ at_of at }
 {
     At {

@@ -3,16 +3,16 @@
 ghost use Rattle.std.specs.Prelude.{◌≡◌, MatchOption, None, Some, IfOk, map};
 ghost use Rattle.cpp_types.specs.Typ.{typ_of};
 ghost use Rattle.cpp_types.specs.Class.{held, classes_of, completion_of};
-ghost use Rattle.cpp_tree.specs.Typing.{form_in, is_void, qualified};
-ghost use Rattle.elab_ctx.specs.Ctx.{ctx_of, named_of};
-ghost use Rattle.elab_rules.specs.Objects.{traits_at};
-ghost use Rattle.elab_rules.specs.Operators.{is_complete};
-ghost use Rattle.elab_rules.specs.Types.{has_auto as has_auto_of, type_named as type_named_of, with_qualifiers as with_qualifiers_of, may_be_thrown as may_be_thrown_of, is_reference_form, is_array_form, is_function_form, is_element as is_element_of, is_result as is_result_of, adjusted as adjusted_of, is_abstract_type as is_abstract_of};
+ghost use Rattle.elab_conv.specs.cpp_tree.Typing.{form_in, is_void, qualified};
+ghost use Rattle.elab_conv.specs.elab_ctx.Ctx.{ctx_of, named_of};
+ghost use Rattle.elab_conv.specs.elab_rules.Objects.{traits_at};
+ghost use Rattle.elab_conv.specs.elab_rules.Operators.{is_complete};
+ghost use Rattle.elab_conv.specs.elab_rules.Types.{has_auto as has_auto_of, type_named as type_named_of, with_qualifiers as with_qualifiers_of, may_be_thrown as may_be_thrown_of, is_reference_form, is_array_form, is_function_form, is_element as is_element_of, is_result as is_result_of, adjusted as adjusted_of, is_abstract_type as is_abstract_of};
 
 use cpp_types::copyability::held_class;
 use cpp_types::{Shape, Ty, copy};
+use elab_conv::below::{Env, TypeName};
 use elab_conv::types::pointer_to;
-use elab_ctx::{Env, TypeName};
 use std::alloc::{AllocError, Global};
 
 // Whether objects of a class are copied byte by byte.

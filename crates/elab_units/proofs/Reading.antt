@@ -3,11 +3,11 @@ use Rattle.std.proofs.Common.{◌≡◌, ◌∙◌, ◌⊎◌, inl, inr, ◌<◌
 use Rattle.std.proofs.lemmas.Bool.{and_parts, cases_lt}
 use Rattle.std.proofs.lemmas.List.{length-append}
 use Rattle.std.proofs.lemmas.Option.{slice_get_read, slice_get_within}
-use Rattle.cpp_tree.specs.declared.arena.TNode.{TNode}
-use Rattle.cpp_tree.specs.declared.arena.TNodeId.{TNodeId}
-use Rattle.cpp_tree.specs.declared.program.TFunc.{TFunc}
-use Rattle.cpp_tree.specs.declared.program.UnitTree.{UnitTree}
-use Rattle.cpp_tree.specs.Arena.{IsOrdered, are_below}
+use Rattle.elab_entry.specs.cpp_tree.declared.arena.TNode.{TNode}
+use Rattle.elab_entry.specs.cpp_tree.declared.arena.TNodeId.{TNodeId}
+use Rattle.elab_entry.specs.cpp_tree.declared.program.TFunc.{TFunc}
+use Rattle.elab_entry.specs.cpp_tree.declared.program.UnitTree.{UnitTree}
+use Rattle.elab_entry.specs.cpp_tree.Arena.{IsOrdered, are_below}
 use Rattle.elab_units.specs.Readable.{HasRoot, HaveRoots, IsReadable, AreReadable, ordered_from}
 
 -- items of lists

@@ -1,10 +1,10 @@
 -- Units whose trees can be read: what the check for safety asks of them.
 use Rattle.std.specs.Prelude.{◌≡◌, ◌<◌, ◌+◌, ◌&&◌, ℕ, Bool, true, List, [], ◌∷◌, Some, length, slice_get}
-use Rattle.cpp_tree.specs.declared.arena.TNode.{TNode}
-use Rattle.cpp_tree.specs.declared.arena.TNodeId.{TNodeId}
-use Rattle.cpp_tree.specs.declared.program.TFunc.{TFunc}
-use Rattle.cpp_tree.specs.declared.program.UnitTree.{UnitTree}
-use Rattle.cpp_tree.specs.Arena.{IsOrdered, are_below}
+use Rattle.elab_entry.specs.cpp_tree.declared.arena.TNode.{TNode}
+use Rattle.elab_entry.specs.cpp_tree.declared.arena.TNodeId.{TNodeId}
+use Rattle.elab_entry.specs.cpp_tree.declared.program.TFunc.{TFunc}
+use Rattle.elab_entry.specs.cpp_tree.declared.program.UnitTree.{UnitTree}
+use Rattle.elab_entry.specs.cpp_tree.Arena.{IsOrdered, are_below}
 
 -- the body of a function, if it has one, stands among so many nodes
 pub record HasRoot (count : ℕ) (f : TFunc) : Type 0 where

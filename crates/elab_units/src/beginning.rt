@@ -1,13 +1,11 @@
 // What every unit knows (profile).
 
-use cpp_names::{Entity, EntityKind, Scopes};
-use cpp_tree::{Builtin, FuncKind, Linkage, SlotRec};
-use cpp_types::{At, ClassRec, FnTy, FuncRec, Safety, Shape, Ty};
-use elab_ctx::{Env, FuncDecl, Label, Labels, Returns, Traits, Work};
-use elab_names::parts::plain_type;
-use elab_scopes::State;
+use elab_entry::below::{
+    At, Builtin, ClassRec, Entity, EntityKind, Env, FnTy, FuncDecl, FuncKind, FuncRec, IntKind,
+    Label, Labels, Linkage, Returns, Safety, Scopes, Shape, SlotRec, State, Traits, Ty, Work,
+    plain_type,
+};
 use std::alloc::{AllocError, Global};
-use tx_ints::IntKind;
 
 /// The classes of all units so far.
 #[derive(Drop)]
@@ -20,8 +18,8 @@ pub struct Classes {
 }
 
 ghost use Rattle.std.specs.Prelude.{◌≡◌, true};
-ghost use Rattle.cpp_types.specs.Class.{classes_of};
-ghost use Rattle.cpp_types.specs.Order.{all_consistent};
+ghost use Rattle.elab_entry.specs.cpp_types.Class.{classes_of};
+ghost use Rattle.elab_entry.specs.cpp_types.Order.{all_consistent};
 
 fn int_type() -> Ty {
     plain_type(Shape::Int(IntKind::Int))

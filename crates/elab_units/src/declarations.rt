@@ -1,30 +1,21 @@
 // Declarations at file scope in the order of the text (C++14 3.5, clause 7).
 
 ghost use Rattle.std.specs.Prelude.{◌≡◌, ◌<◌, length, true};
-ghost use Rattle.cpp_ast.specs.Orders.{are_below};
+ghost use Rattle.elab_entry.specs.cpp_ast.Orders.{are_below};
 
 use crate::definitions::function_defined;
 use crate::lambdas::UnitLambdas;
-use class_members::{Header, Storage};
 use class_table::kids::{kid_at, rest_from};
 use class_table::started::{no_storage, started_from};
 use class_table::{header_in, name_of};
-use cpp_ast::{Node, NodeId, NodeKind, Nodes};
-use cpp_lex::Tokens;
-use cpp_tree::{ElabFault, FuncKind, IllRule};
-use cpp_types::{At, Shape, Ty};
-use elab_braces::bound_by_initialiser;
-use elab_consts::string_bytes;
-use elab_ctx::{Env, Work};
 use elab_decls::{alias_declared, enum_declared, function_declared, global_declared};
-use elab_expr::type_id;
+use elab_entry::below::{
+    At, Declared, ElabFault, Env, FuncKind, Header, IllRule, Node, NodeId, NodeKind, Nodes, Shape,
+    State, Storage, Tokens, Ty, Work, bound_by_initialiser, declared_by,
+    elab_types_node_at as node_at, first_kid, ill, place, specified, spelling, string_bytes,
+    type_id,
+};
 use elab_members::{class_declared, class_defined, member_defined};
-use elab_scopes::State;
-use elab_scopes::reading::{declared_by, specified};
-use elab_types::Declared;
-use elab_types::kids::first_kid;
-use elab_types::specifiers::ill;
-use elab_types::syntax::{node_at, place, spelling};
 use std::alloc::Global;
 
 /// The node with an id. Its kids stand in the list, and below it.

@@ -1,27 +1,20 @@
 // Functions with their bodies (C++14 8.4).
 
 ghost use Rattle.std.specs.Prelude.{◌≡◌, ◌<◌, length, true};
-ghost use Rattle.cpp_ast.specs.Orders.{are_below};
+ghost use Rattle.elab_entry.specs.cpp_ast.Orders.{are_below};
 
 use crate::declarations::{header_of, is_function};
 use crate::lambdas::UnitLambdas;
-use class_members::{Storage, text_sized};
 use class_table::kids::rest_from;
 use class_table::started::started_from;
 use class_table::texts::{text_between, token_end};
-use cpp_ast::{NodeId, Nodes};
-use cpp_lex::Tokens;
-use cpp_tree::{ElabFault, FuncKind, IllRule};
-use cpp_types::At;
 use elab_decls::{define_function, function_declared};
+use elab_entry::below::{
+    At, Declared, ElabFault, FuncKind, IllRule, Kids, NodeId, Nodes, State, Storage, Tokens,
+    declared_by, elab_types_node_at as node_at, ill, kids_of, specified, text_sized,
+};
 use elab_entry::function_body;
 use elab_members::member_defined;
-use elab_scopes::State;
-use elab_scopes::reading::{declared_by, specified};
-use elab_types::Declared;
-use elab_types::kids::{Kids, kids_of};
-use elab_types::specifiers::ill;
-use elab_types::syntax::node_at;
 use std::alloc::{AllocError, Global};
 
 // The token behind which a body ends.

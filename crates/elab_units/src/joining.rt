@@ -1,7 +1,6 @@
 // The bodies of a unit in one list of nodes.
 
-use cpp_tree::{TNode, TNodeId};
-use elab_scopes::Body;
+use elab_entry::below::{Body, TNode, TNodeId};
 use std::alloc::{AllocError, Global};
 
 /// Where the tree of a body stands among the nodes of the unit, and the items of its frame.
@@ -9,7 +8,7 @@ use std::alloc::{AllocError, Global};
 pub struct Placed {
     pub func: u32,
     pub tree: TNodeId,
-    pub frame: Vec<cpp_types::Ty>,
+    pub frame: Vec<elab_entry::below::Ty>,
 }
 
 /// The nodes of a unit, and where its bodies stand in them.

@@ -2,17 +2,15 @@
 // of them.
 
 ghost use Rattle.std.specs.Prelude.{◌≡◌, ◌++◌, ◌∷◌, [], length, true, IfOk, OnOk};
-ghost use Rattle.cpp_ast.specs.Orders.{are_below};
-ghost use Rattle.cpp_types.specs.Class.{InOrder, classes_of};
+ghost use Rattle.elab_entry.specs.cpp_ast.Orders.{are_below};
+ghost use Rattle.elab_entry.specs.cpp_types.Class.{InOrder, classes_of};
 ghost use Rattle.elab_units.specs.Readable.{IsReadable, AreReadable};
 
 use crate::beginning::{Classes, no_classes, start_behind};
 use crate::declarations::all_declared;
 use crate::shown::{Made, unit_shown};
-use cpp_ast::Unit;
-use cpp_tree::{ElabFault, Program, UnitTree};
+use elab_entry::below::{ElabFault, Program, State, Unit, UnitTree};
 use elab_members::with_implied;
-use elab_scopes::State;
 use std::alloc::{AllocError, Global};
 use unit_syntax::whole_unit;
 

@@ -1,10 +1,10 @@
 // What the check for safety asks of a unit: kids stand before their nodes, and bodies in the list.
 
 ghost use Rattle.std.specs.Prelude.{◌≡◌, ◌<◌, ◌↔◌, IsTrue, true, IfOk};
-ghost use Rattle.cpp_tree.specs.Arena.{are_below, IsOrdered};
+ghost use Rattle.elab_entry.specs.cpp_tree.Arena.{are_below, IsOrdered};
 ghost use Rattle.elab_units.specs.Readable.{HasRoot, HaveRoots, IsReadable, ordered_from};
 
-use cpp_tree::{TFunc, TNode, TNodeId, UnitTree};
+use elab_entry::below::{TFunc, TNode, TNodeId, UnitTree};
 use std::alloc::AllocError;
 
 // Whether each id is below a place.

@@ -1,23 +1,18 @@
 // The typed form of a unit.
 
 ghost use Rattle.std.specs.Prelude.{◌≡◌, ◌<◌, ◌≤◌, length, true, IfOk};
-ghost use Rattle.cpp_ast.specs.Orders.{are_below};
+ghost use Rattle.elab_entry.specs.cpp_ast.Orders.{are_below};
 ghost use Rattle.elab_units.specs.Readable.{IsReadable};
 
 use crate::declarations::node_in;
 use crate::joining::{Placed, joined_bodies};
 use crate::readable::readable_unit;
 use class_table::class_text;
-use cpp_ast::{NodeId, NodeKind, Nodes};
-use cpp_lex::Tokens;
-use cpp_tree::{ClassDef, TFunc, TGlobal, UnitTree};
-use cpp_types::{ClassRec, Shape, Ty};
-use elab_ctx::{FuncDecl, TypeName};
+use elab_entry::below::{
+    Body, ClassDef, ClassRec, FuncDecl, NodeId, NodeKind, Nodes, Shape, TFunc, TGlobal, Tokens, Ty,
+    TypeName, UnitTree, is_class_type, spelling, type_named,
+};
 use elab_globals::symbol_of;
-use elab_init::is_class_type;
-use elab_scopes::Body;
-use elab_types::syntax::spelling;
-use elab_types::types::type_named;
 use std::alloc::{AllocError, Global};
 use std::mem;
 

@@ -1,9 +1,9 @@
 -- Units with classes or lambdas that are refused.
 use Rattle.std.specs.Prelude.{List, [], ◌∷◌, Some, None, codes}
-use Rattle.cpp_lex.specs.Tokens.{Lexeme}
-use Rattle.cpp_lex.specs.declared.TokKind.TheVariants as t
-use Rattle.cpp_ast.specs.declared.kinds.NodeKind.TheVariants as k
-use Rattle.cpp_ast.specs.Trees.{Tree, node, none, more}
+use Rattle.elab_rules.specs.cpp_lex.Tokens.{Lexeme}
+use Rattle.elab_rules.specs.cpp_lex.declared.TokKind.TheVariants as t
+use Rattle.elab_rules.specs.cpp_ast.declared.kinds.NodeKind.TheVariants as k
+use Rattle.elab_rules.specs.cpp_ast.Trees.{Tree, node, none, more}
 use Rattle.elab_worked.specs.Notation.{at, token}
 
 --     struct A { void f() final {} }; int main() { return 0; }

@@ -3,10 +3,10 @@
 --     struct D { int k; D(int x) : k(x) { } ~D() { putchar('0' + k); } };
 --     int main() { D a(1); { D b(2); D c(3); } return 0; }
 use Rattle.std.specs.Prelude.{ℕ, List, [], ◌∷◌, Some, None, codes}
-use Rattle.cpp_lex.specs.Tokens.{Lexeme}
-use Rattle.cpp_lex.specs.declared.TokKind.TheVariants as t
-use Rattle.cpp_ast.specs.declared.kinds.NodeKind.TheVariants as k
-use Rattle.cpp_ast.specs.Trees.{Tree, node, none, more}
+use Rattle.elab_rules.specs.cpp_lex.Tokens.{Lexeme}
+use Rattle.elab_rules.specs.cpp_lex.declared.TokKind.TheVariants as t
+use Rattle.elab_rules.specs.cpp_ast.declared.kinds.NodeKind.TheVariants as k
+use Rattle.elab_rules.specs.cpp_ast.Trees.{Tree, node, none, more}
 use Rattle.elab_worked.specs.Notation.{at, token, lines}
 
 abbrev pub tokens : List Lexeme

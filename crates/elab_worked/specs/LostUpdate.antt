@@ -5,10 +5,10 @@
 --     int main() { int a = __txcc_spawn(w, 0); int b = __txcc_spawn(w, 0);
 --       __txcc_join(a); __txcc_join(b); putchar('0' + x); return 0; }
 use Rattle.std.specs.Prelude.{ℕ, List, [], ◌∷◌, Some, None, codes}
-use Rattle.cpp_lex.specs.Tokens.{Lexeme}
-use Rattle.cpp_lex.specs.declared.TokKind.TheVariants as t
-use Rattle.cpp_ast.specs.declared.kinds.NodeKind.TheVariants as k
-use Rattle.cpp_ast.specs.Trees.{Tree, node, none, more}
+use Rattle.elab_rules.specs.cpp_lex.Tokens.{Lexeme}
+use Rattle.elab_rules.specs.cpp_lex.declared.TokKind.TheVariants as t
+use Rattle.elab_rules.specs.cpp_ast.declared.kinds.NodeKind.TheVariants as k
+use Rattle.elab_rules.specs.cpp_ast.Trees.{Tree, node, none, more}
 use Rattle.elab_worked.specs.Notation.{at, token, lines}
 
 abbrev pub tokens : List Lexeme

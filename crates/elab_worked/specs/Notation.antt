@@ -1,13 +1,13 @@
 -- Short forms for tokens, trees and texts that are written out.
 use Rattle.std.specs.Prelude.{ℕ, List, [], ◌∷◌, ◌++◌, Result, Err}
-use Rattle.cpp_ast.specs.declared.arena.At.{At}
-use Rattle.cpp_ast.specs.Trees.{Trees, Tree, none, more}
-use Rattle.cpp_lex.specs.Tokens.{Lexeme}
-use Rattle.cpp_lex.specs.declared.TokKind.{TokKind}
-use Rattle.cpp_tree.specs.declared.faults.ElabFault.{ElabFault}
-use Rattle.cpp_tree.specs.declared.faults.ElabFault.TheVariants.{Ill, Override}
-use Rattle.cpp_tree.specs.declared.faults.IllRule.{IllRule}
-use Rattle.cpp_tree.specs.declared.faults.OverrideRule.{OverrideRule}
+use Rattle.elab_rules.specs.cpp_ast.declared.arena.At.{At}
+use Rattle.elab_rules.specs.cpp_ast.Trees.{Trees, Tree, none, more}
+use Rattle.elab_rules.specs.cpp_lex.Tokens.{Lexeme}
+use Rattle.elab_rules.specs.cpp_lex.declared.TokKind.{TokKind}
+use Rattle.elab_rules.specs.cpp_tree.declared.faults.ElabFault.{ElabFault}
+use Rattle.elab_rules.specs.cpp_tree.declared.faults.ElabFault.TheVariants.{Ill, Override}
+use Rattle.elab_rules.specs.cpp_tree.declared.faults.IllRule.{IllRule}
+use Rattle.elab_rules.specs.cpp_tree.declared.faults.OverrideRule.{OverrideRule}
 use Rattle.elab_rules.specs.Units.{unit_of}
 use Rattle.elab_rules.specs.Statements.{State}
 use Rattle.elab_rules.specs.Dump.{dumped}

@@ -1,9 +1,9 @@
 -- Units that are refused, one for each rule.
 use Rattle.std.specs.Prelude.{List, [], ◌∷◌, Some, None, codes}
-use Rattle.cpp_lex.specs.Tokens.{Lexeme}
-use Rattle.cpp_lex.specs.declared.TokKind.TheVariants as t
-use Rattle.cpp_ast.specs.declared.kinds.NodeKind.TheVariants as k
-use Rattle.cpp_ast.specs.Trees.{Tree, node, none, more}
+use Rattle.elab_rules.specs.cpp_lex.Tokens.{Lexeme}
+use Rattle.elab_rules.specs.cpp_lex.declared.TokKind.TheVariants as t
+use Rattle.elab_rules.specs.cpp_ast.declared.kinds.NodeKind.TheVariants as k
+use Rattle.elab_rules.specs.cpp_ast.Trees.{Tree, node, none, more}
 use Rattle.elab_worked.specs.Notation.{at, token}
 
 --     void f(int) {} void f(long) {} int main() { f(1u); return 0; }

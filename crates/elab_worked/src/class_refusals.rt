@@ -3,8 +3,8 @@
 
 ghost use Rattle.std.specs.Prelude.{◌≡◌};
 ghost use Rattle.elab_worked.specs.Notation.{elaborated, refused, misfit};
-ghost use Rattle.cpp_tree.specs.declared.faults.IllRule.TheVariants as rules;
-ghost use Rattle.cpp_tree.specs.declared.faults.OverrideRule.TheVariants as overrides;
+ghost use Rattle.elab_rules.specs.cpp_tree.declared.faults.IllRule.TheVariants as rules;
+ghost use Rattle.elab_rules.specs.cpp_tree.declared.faults.OverrideRule.TheVariants as overrides;
 ghost use Rattle.elab_worked.specs.ClassRefusals as texts;
 
 pub fn override_nothing()

@@ -3,7 +3,7 @@
 
 ghost use Rattle.std.specs.Prelude.{◌≡◌};
 ghost use Rattle.elab_worked.specs.Notation.{elaborated, refused};
-ghost use Rattle.cpp_tree.specs.declared.faults.IllRule.TheVariants as rules;
+ghost use Rattle.elab_rules.specs.cpp_tree.declared.faults.IllRule.TheVariants as rules;
 ghost use Rattle.elab_worked.specs.Refusals as texts;
 
 pub fn ambiguous()

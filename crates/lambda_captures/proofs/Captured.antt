@@ -1,16 +1,16 @@
 -- Captures that are written.
 use Rattle.std.proofs.Common.{◌≡◌, ◌∙◌, ℕ, List, Option, Some, None, Result, refl, sym, ap, subst}
-use Rattle.cpp_lex.specs.Tokens.{Lexeme}
-use Rattle.cpp_ast.specs.Trees.{Tree, node, Trees}
-use Rattle.cpp_ast.specs.declared.arena.At.{At as SyntaxAt}
-use Rattle.cpp_ast.specs.declared.kinds.NodeKind.{NodeKind}
-use Rattle.cpp_ast.specs.declared.kinds.NodeKind.TheVariants as k
-use Rattle.cpp_types.specs.declared.classes.At.{At}
-use Rattle.cpp_tree.specs.declared.faults.ElabFault.{ElabFault}
-use Rattle.elab_ctx.specs.declared.env.Capture.{Capture as CaptureRec}
-use Rattle.elab_ctx.specs.Ctx.{Ctx, Capture}
-use Rattle.elab_ctx.specs.Steps.{at_of}
-use Rattle.elab_rules.specs.Lambdas.{Otherwise, explicit_capture}
+use Rattle.elab_init.specs.cpp_lex.Tokens.{Lexeme}
+use Rattle.elab_init.specs.cpp_ast.Trees.{Tree, node, Trees}
+use Rattle.elab_init.specs.cpp_ast.declared.arena.At.{At as SyntaxAt}
+use Rattle.elab_init.specs.cpp_ast.declared.kinds.NodeKind.{NodeKind}
+use Rattle.elab_init.specs.cpp_ast.declared.kinds.NodeKind.TheVariants as k
+use Rattle.elab_init.specs.cpp_types.declared.classes.At.{At}
+use Rattle.elab_init.specs.cpp_tree.declared.faults.ElabFault.{ElabFault}
+use Rattle.elab_init.specs.elab_ctx.declared.env.Capture.{Capture as CaptureRec}
+use Rattle.elab_init.specs.elab_ctx.Ctx.{Ctx, Capture}
+use Rattle.elab_init.specs.elab_ctx.Steps.{at_of}
+use Rattle.elab_init.specs.elab_rules.Lambdas.{Otherwise, explicit_capture}
 use Rattle.lambda_captures.specs.Steps.{explicit_this}
 use Rattle.lambda_captures.specs.Says.{Collects}
 

@@ -3,18 +3,18 @@ use Rattle.std.proofs.Common.{◌≡◌, ◌∙◌, ℕ, min, Bool, true, false,
 use Rattle.std.specs.List.{list_any, fold}
 use Rattle.std.proofs.lemmas.List.{take_all, take_at, take-take, length-take}
 use Rattle.std.proofs.lemmas.List.Sums.{fold-append}
-use Rattle.cpp_ast.specs.Trees as syntax
-use Rattle.cpp_ast.specs.declared.arena.At.{At as SyntaxAt}
-use Rattle.cpp_ast.specs.declared.arena.NodeId.{NodeId}
-use Rattle.cpp_ast.specs.declared.kinds.NodeKind.{NodeKind}
-use Rattle.cpp_ast.specs.declared.kinds.NodeKind.TheVariants as k
+use Rattle.elab_init.specs.cpp_ast.Trees as syntax
+use Rattle.elab_init.specs.cpp_ast.declared.arena.At.{At as SyntaxAt}
+use Rattle.elab_init.specs.cpp_ast.declared.arena.NodeId.{NodeId}
+use Rattle.elab_init.specs.cpp_ast.declared.kinds.NodeKind.{NodeKind}
+use Rattle.elab_init.specs.cpp_ast.declared.kinds.NodeKind.TheVariants as k
 use Rattle.std.specs.declared.alloc.AllocError.{AllocError}
 use Rattle.elab_types.specs.Syntax.{trees_at}
-use Rattle.cpp_lex.specs.Tokens.{Lexeme}
-use Rattle.elab_ctx.specs.Ctx.{Ctx}
-use Rattle.elab_ctx.specs.Steps.{spelling}
-use Rattle.elab_rules.specs.Types.{Parameter}
-use Rattle.elab_rules.specs.Lambdas.{Used, Scan, using, declaring, scanned, scanned_all, left_scope, names_if, name_among, parameter_names, used_in}
+use Rattle.elab_init.specs.cpp_lex.Tokens.{Lexeme}
+use Rattle.elab_init.specs.elab_ctx.Ctx.{Ctx}
+use Rattle.elab_init.specs.elab_ctx.Steps.{spelling}
+use Rattle.elab_init.specs.elab_rules.Types.{Parameter}
+use Rattle.elab_init.specs.elab_rules.Lambdas.{Used, Scan, using, declaring, scanned, scanned_all, left_scope, names_if, name_among, parameter_names, used_in}
 use Rattle.lambda_captures.specs.declared.scanning.Used.{Used as UsedRec}
 use Rattle.lambda_captures.specs.declared.scanning.Scan.{Scan as ScanRec}
 use Rattle.lambda_captures.specs.Shown.{used_of, with_own, own_of, scan_of}

@@ -1,11 +1,11 @@
 -- What answers say of what is to be answered.
 use Rattle.std.specs.Prelude.{◌≡◌, List, map, take, length, Result, Ok, Err}
-use Rattle.cpp_lex.specs.Tokens.{Lexeme}
-use Rattle.cpp_tree.specs.declared.faults.ElabFault.{ElabFault}
-use Rattle.elab_ctx.specs.Ctx.{Capture, capture_of}
-use Rattle.elab_ctx.specs.declared.env.Capture.{Capture as CaptureRec}
-use Rattle.elab_ctx.specs.Says.{Faults}
-use Rattle.elab_rules.specs.Lambdas.{Scan}
+use Rattle.elab_init.specs.cpp_lex.Tokens.{Lexeme}
+use Rattle.elab_init.specs.cpp_tree.declared.faults.ElabFault.{ElabFault}
+use Rattle.elab_init.specs.elab_ctx.Ctx.{Capture, capture_of}
+use Rattle.elab_init.specs.elab_ctx.declared.env.Capture.{Capture as CaptureRec}
+use Rattle.elab_init.specs.elab_ctx.Says.{Faults}
+use Rattle.elab_init.specs.elab_rules.Lambdas.{Scan}
 use Rattle.lambda_captures.specs.declared.scanning.Scan.{Scan as ScanRec}
 use Rattle.lambda_captures.specs.Shown.{scan_of}
 

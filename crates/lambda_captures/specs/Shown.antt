@@ -1,11 +1,11 @@
 -- What the records of the code show.
 use Rattle.std.specs.Prelude.{ℕ, Vec, List, [], ◌∷◌, map, fold}
-use Rattle.cpp_lex.specs.Tokens.{Lexeme}
+use Rattle.elab_init.specs.cpp_lex.Tokens.{Lexeme}
 use Rattle.std.specs.declared.alloc.Global.{Global}
-use Rattle.elab_ctx.specs.declared.env.Capture.{Capture as CaptureRec}
-use Rattle.elab_ctx.specs.Ctx.{Capture, capture_of}
-use Rattle.elab_ctx.specs.Steps.{spelling}
-use Rattle.elab_rules.specs.Lambdas.{Used, Scan, Otherwise, nothing, by_copy, by_reference}
+use Rattle.elab_init.specs.elab_ctx.declared.env.Capture.{Capture as CaptureRec}
+use Rattle.elab_init.specs.elab_ctx.Ctx.{Capture, capture_of}
+use Rattle.elab_init.specs.elab_ctx.Steps.{spelling}
+use Rattle.elab_init.specs.elab_rules.Lambdas.{Used, Scan, Otherwise, nothing, by_copy, by_reference}
 use Rattle.lambda_captures.specs.declared.scanning.Used.{Used as UsedRec}
 use Rattle.lambda_captures.specs.declared.scanning.Scan.{Scan as ScanRec}
 use Rattle.lambda_captures.specs.declared.explicit.Otherwise.{Otherwise as OtherwiseRec}

@@ -1,18 +1,18 @@
 -- The definitions of names and captures, step by step.
 use Rattle.std.specs.Prelude.{ℕ, Bool, false, not, ◌&&◌, ◌||◌, List, [], ◌∷◌, ◌++◌, Option, Some, None, Result, Ok, if◌then◌else◌}
 use Rattle.std.specs.Str.{bytes_eq}
-use Rattle.cpp_types.specs.Typ.{Typ}
-use Rattle.cpp_types.specs.Conversion.{referred}
-use Rattle.cpp_types.specs.declared.classes.At.{At}
-use Rattle.cpp_ast.specs.Trees.{Trees, none, more}
-use Rattle.cpp_lex.specs.Tokens.{Lexeme}
-use Rattle.cpp_tree.specs.declared.faults.ElabFault.{ElabFault}
-use Rattle.cpp_tree.specs.declared.faults.IllRule.TheVariants.{OutOfProfile, Capture as CaptureRule}
-use Rattle.cpp_tree.specs.Typing.{form_in}
-use Rattle.elab_ctx.specs.Ctx.{Ctx, Capture}
-use Rattle.elab_ctx.specs.Steps.{and_then, check, spelling}
-use Rattle.elab_rules.specs.Types.{Parameter}
-use Rattle.elab_rules.specs.Lambdas.{Otherwise, captured_as, copies_closure, is_captured, capture_used, capture_this, adds, explicit_variable, Scan, declaring, scanned, scanned_all}
+use Rattle.elab_init.specs.cpp_types.Typ.{Typ}
+use Rattle.elab_init.specs.cpp_types.Conversion.{referred}
+use Rattle.elab_init.specs.cpp_types.declared.classes.At.{At}
+use Rattle.elab_init.specs.cpp_ast.Trees.{Trees, none, more}
+use Rattle.elab_init.specs.cpp_lex.Tokens.{Lexeme}
+use Rattle.elab_init.specs.cpp_tree.declared.faults.ElabFault.{ElabFault}
+use Rattle.elab_init.specs.cpp_tree.declared.faults.IllRule.TheVariants.{OutOfProfile, Capture as CaptureRule}
+use Rattle.elab_init.specs.cpp_tree.Typing.{form_in}
+use Rattle.elab_init.specs.elab_ctx.Ctx.{Ctx, Capture}
+use Rattle.elab_init.specs.elab_ctx.Steps.{and_then, check, spelling}
+use Rattle.elab_init.specs.elab_rules.Types.{Parameter}
+use Rattle.elab_init.specs.elab_rules.Lambdas.{Otherwise, captured_as, copies_closure, is_captured, capture_used, capture_this, adds, explicit_variable, Scan, declaring, scanned, scanned_all}
 
 -- Names
 

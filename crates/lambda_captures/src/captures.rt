@@ -1,20 +1,19 @@
 // Captures (C++14 5.1.2 p8 to p15).
 
 ghost use Rattle.std.specs.Prelude.{◌≡◌, ◌++◌, ◌∷◌, [], map, IfOk, OnOk};
-ghost use Rattle.cpp_types.specs.Typ.{typ_of};
-ghost use Rattle.cpp_tree.specs.Typing.{form_in};
-ghost use Rattle.elab_ctx.specs.Ctx.{ctx_of, special_of, capture_of};
-ghost use Rattle.elab_rules.specs.Statements.{is_trivial as is_trivial_of};
-ghost use Rattle.elab_rules.specs.Lambdas.{captured_as as captured_as_of, copies_closure as copies_closure_of, is_captured as is_captured_of, capture_variable as capture_variable_of, capture_this as capture_this_of, capture_used as capture_used_of, captured_uses};
+ghost use Rattle.elab_init.specs.cpp_types.Typ.{typ_of};
+ghost use Rattle.elab_init.specs.cpp_tree.Typing.{form_in};
+ghost use Rattle.elab_init.specs.elab_ctx.Ctx.{ctx_of, special_of, capture_of};
+ghost use Rattle.elab_init.specs.elab_rules.Statements.{is_trivial as is_trivial_of};
+ghost use Rattle.elab_init.specs.elab_rules.Lambdas.{captured_as as captured_as_of, copies_closure as copies_closure_of, is_captured as is_captured_of, capture_variable as capture_variable_of, capture_this as capture_this_of, capture_used as capture_used_of, captured_uses};
 ghost use Rattle.lambda_captures.specs.Shown.{used_of};
 ghost use Rattle.lambda_captures.specs.Steps.{capture_typed as capture_typed_of, capture_once};
 ghost use Rattle.lambda_captures.specs.Says.{Collects};
 
 use crate::scanning::Used;
-use cpp_tree::{ElabFault, IllRule};
-use cpp_types::{At, Shape, Ty, copy};
-use elab_conv::types::pointer_to;
-use elab_ctx::{Capture, Env, Special};
+use elab_init::below::{
+    At, Capture, ElabFault, Env, IllRule, Shape, Special, Ty, copy, pointer_to,
+};
 use elab_init::{referred_type, traits_at};
 use elab_names::captures::is_same_variable;
 use elab_names::parts::plain_type;

@@ -1,12 +1,12 @@
 // Captures that are written (C++14 5.1.2 p8, p9, p10).
 
 ghost use Rattle.std.specs.Prelude.{◌≡◌, ◌<◌, [], map, length, true};
-ghost use Rattle.cpp_lex.specs.Tokens.{lexemes_of};
-ghost use Rattle.cpp_ast.specs.Orders.{are_below};
-ghost use Rattle.elab_ctx.specs.Ctx.{ctx_of, capture_of};
-ghost use Rattle.elab_ctx.specs.Says.{Tells};
-ghost use Rattle.elab_ctx.specs.Steps.{spelling as spelling_of};
-ghost use Rattle.elab_rules.specs.Lambdas.{default_word as default_word_of, default_in as default_in_of, adds as adds_of, named_variable as named_variable_of, explicit_variable as explicit_variable_of, explicit_capture as explicit_capture_of, explicit_captures as explicit_captures_of};
+ghost use Rattle.elab_init.specs.cpp_lex.Tokens.{lexemes_of};
+ghost use Rattle.elab_init.specs.cpp_ast.Orders.{are_below};
+ghost use Rattle.elab_init.specs.elab_ctx.Ctx.{ctx_of, capture_of};
+ghost use Rattle.elab_init.specs.elab_ctx.Says.{Tells};
+ghost use Rattle.elab_init.specs.elab_ctx.Steps.{spelling as spelling_of};
+ghost use Rattle.elab_init.specs.elab_rules.Lambdas.{default_word as default_word_of, default_in as default_in_of, adds as adds_of, named_variable as named_variable_of, explicit_variable as explicit_variable_of, explicit_capture as explicit_capture_of, explicit_captures as explicit_captures_of};
 ghost use Rattle.elab_types.specs.Shown.{Says};
 ghost use Rattle.elab_types.specs.Syntax.{syntax_of, tree_at, trees_at};
 ghost use Rattle.lambda_captures.specs.Shown.{otherwise_of, captures_of};
@@ -15,11 +15,7 @@ ghost use Rattle.lambda_captures.specs.Says.{Collects};
 
 use crate::captures::{capture_this, capture_variable, is_captured};
 use crate::names::{is_member_here, local_number};
-use cpp_ast::{NodeId, NodeKind, Nodes};
-use cpp_lex::Tokens;
-use cpp_tree::{ElabFault, IllRule};
-use cpp_types::At;
-use elab_ctx::{Capture, Env};
+use elab_init::below::{At, Capture, ElabFault, Env, IllRule, NodeId, NodeKind, Nodes, Tokens};
 use elab_types::kids::first_kid;
 use elab_types::specifiers::{ill, is_spelled};
 use elab_types::syntax::{node_at, place, spelling};

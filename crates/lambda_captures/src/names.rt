@@ -1,15 +1,13 @@
 // Names in the body of a lambda (C++14 3.4, 5.1.2).
 
 ghost use Rattle.std.specs.Prelude.{◌≡◌, ◌<◌, length, true, false, is_some, IfOk, MatchOption};
-ghost use Rattle.cpp_ast.specs.Orders.{are_below};
-ghost use Rattle.elab_ctx.specs.Ctx.{ctx_of};
-ghost use Rattle.elab_rules.specs.Names.{is_local_entity, member_here};
-ghost use Rattle.elab_rules.specs.Lambdas.{entity_number, name_token as name_token_of, name_among as name_among_of};
+ghost use Rattle.elab_init.specs.cpp_ast.Orders.{are_below};
+ghost use Rattle.elab_init.specs.elab_ctx.Ctx.{ctx_of};
+ghost use Rattle.elab_init.specs.elab_rules.Names.{is_local_entity, member_here};
+ghost use Rattle.elab_init.specs.elab_rules.Lambdas.{entity_number, name_token as name_token_of, name_among as name_among_of};
 ghost use Rattle.elab_types.specs.Syntax.{syntax_of, tree_at, trees_at};
 
-use cpp_ast::{NodeId, NodeKind, Nodes};
-use cpp_names::{Entity, EntityKind};
-use elab_ctx::Env;
+use elab_init::below::{Entity, EntityKind, Env, NodeId, NodeKind, Nodes};
 use elab_names::member_found;
 use elab_types::syntax::node_at;
 use std::alloc::AllocError;

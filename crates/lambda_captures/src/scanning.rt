@@ -2,11 +2,11 @@
 
 ghost use Rattle.std.specs.Prelude.{◌≡◌, ◌<◌, ◌++◌, List, map, take, length, true, IfOk, OnOk};
 ghost use Rattle.std.specs.List.{list_any};
-ghost use Rattle.cpp_lex.specs.Tokens.{Lexeme, lexemes_of};
-ghost use Rattle.cpp_ast.specs.Orders.{are_below};
-ghost use Rattle.elab_ctx.specs.Ctx.{ctx_of};
-ghost use Rattle.elab_ctx.specs.Steps.{spelling as spelling_of};
-ghost use Rattle.elab_rules.specs.Lambdas.{using, using_name, declaring, scanned, scanned_all, scanned_apart, left_scope, used_in as used_in_of};
+ghost use Rattle.elab_init.specs.cpp_lex.Tokens.{Lexeme, lexemes_of};
+ghost use Rattle.elab_init.specs.cpp_ast.Orders.{are_below};
+ghost use Rattle.elab_init.specs.elab_ctx.Ctx.{ctx_of};
+ghost use Rattle.elab_init.specs.elab_ctx.Steps.{spelling as spelling_of};
+ghost use Rattle.elab_init.specs.elab_rules.Lambdas.{using, using_name, declaring, scanned, scanned_all, scanned_apart, left_scope, used_in as used_in_of};
 ghost use Rattle.elab_types.specs.Shown.{parameter_of};
 ghost use Rattle.elab_types.specs.Syntax.{syntax_of, tree_at, trees_at};
 ghost use Rattle.lambda_captures.specs.Shown.{used_of, scan_of};
@@ -14,10 +14,7 @@ ghost use Rattle.lambda_captures.specs.Steps.{spells, is_name, declarator_scanne
 ghost use Rattle.lambda_captures.specs.Says.{Scanned};
 
 use crate::names::{is_member_here, local_number, name_among};
-use cpp_ast::{NodeId, NodeKind, Nodes};
-use cpp_lex::Tokens;
-use cpp_types::At;
-use elab_ctx::Env;
+use elab_init::below::{At, Env, NodeId, NodeKind, Nodes, Tokens};
 use elab_types::Parameter;
 use elab_types::syntax::{node_at, place, spelling};
 use std::alloc::{AllocError, Global};

@@ -1,6 +1,6 @@
 //! What handlers catch.
 
-use cpp_types::{ClassRec, Shape, Ty};
+use cpp_tree::below::{ClassRec, Shape, Ty};
 use std::alloc::{AllocError, Global};
 
 /// What a reference refers to, and any other type itself.

@@ -1,8 +1,7 @@
 //! The numbers of kinds and operators.
 
+use cpp_tree::below::{BinOp, BlockKind, IntKind};
 use tx_code::Instr;
-use tx_events::BlockKind;
-use tx_ints::{BinOp, IntKind};
 
 /// The number of the kind of addresses.
 pub const ADDRESS: u8 = 9;

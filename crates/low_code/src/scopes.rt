@@ -83,5 +83,5 @@ pub struct Scope {
     /// Whether code in it can be reached; else it has no way out.
     pub live: bool,
     /// Where its objects have their place in the source.
-    pub at: cpp_types::At,
+    pub at: cpp_tree::below::At,
 }

@@ -1,9 +1,8 @@
 //! The spellings of types in objects.
 
+use cpp_tree::below::{ClassRec, FnTy, IntKind, Shape, Ty, copy, copy_function, spell};
 use cpp_tree::{FuncKind, TFunc};
-use cpp_types::{ClassRec, FnTy, Shape, Ty, copy, copy_function, spell};
 use std::alloc::{AllocError, Global};
-use tx_ints::IntKind;
 
 /// The kind by which a scalar of this type is stored; that of addresses for what is none.
 pub fn stored_kind(ty: &Ty) -> IntKind {

@@ -3,7 +3,7 @@
 use crate::effects::{effect, ends};
 use crate::numbers::ADDRESS;
 use crate::scopes::{Owner, Scope, ScopeKind};
-use cpp_types::At;
+use cpp_tree::below::At;
 use std::alloc::{AllocError, Global};
 use tx_code::Instr;
 

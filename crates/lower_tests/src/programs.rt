@@ -1,9 +1,7 @@
 //! Programs made by hand: one function, `int main()`.
+use cpp_tree::below::{At, BinOp, BlockKind, Cat, FnTy, FuncRec, IntKind, Safety, Shape, Ty};
 use cpp_tree::{Builtin, FuncKind, Linkage, Program, TFunc, TKind, TNode, TNodeId, UnitTree};
-use cpp_types::{At, Cat, FnTy, FuncRec, Safety, Shape, Ty};
 use std::alloc::{AllocError, Global};
-use tx_events::BlockKind;
-use tx_ints::{BinOp, IntKind};
 
 const AT: At = At {
     source: 0,

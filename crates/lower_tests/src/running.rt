@@ -1,6 +1,6 @@
 //! Programs that are compiled and run.
 ghost use Rattle.std.specs.Prelude.{◌<◌};
-ghost use Rattle.tx_events.specs.declared.TheConstants.{THREAD_LIMIT};
+ghost use Rattle.cpp_tree.specs.tx_events.declared.TheConstants.{THREAD_LIMIT};
 
 use crate::programs::{LOOP, ONE_BYTE, Row, THROWS, program};
 use choosers::named::{older, round};
@@ -9,9 +9,9 @@ use choosers::policy::{OlderRule, Policy};
 use choosers::{Clash, Seen};
 use clone_gen::generate;
 use code_verify::{GoodImage, verify};
+use cpp_tree::below::{End, THREAD_LIMIT};
 use std::alloc::Global;
 use std::test::Fail;
-use tx_events::{End, THREAD_LIMIT};
 use tx_linker::link;
 use tx_machine::Ran;
 use tx_machine::image::run;

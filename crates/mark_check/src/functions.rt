@@ -2,7 +2,7 @@
 
 ghost use Rattle.std.specs.Prelude.{◌≡◌, ◌<◌, ◌↔◌, IsTrue, IfOk, Some, length, map, nat_le, not, take};
 ghost use Rattle.std.specs.List.{list_all};
-ghost use Rattle.cpp_types.specs.Typ.{Typ, typ_of};
+ghost use Rattle.cpp_tree.specs.cpp_types.Typ.{Typ, typ_of};
 ghost use Rattle.cpp_tree.specs.declared.arena.TNodeId.{TNodeId};
 ghost use Rattle.cpp_tree.specs.Arena.{IsOrdered, trees_of};
 ghost use Rattle.cpp_tree.specs.Units.{func_of, unit_of, program_of};
@@ -14,8 +14,8 @@ ghost use Rattle.safe_blocks.specs.UnsafeFree.{has_unmarked_words as has_words, 
 ghost use Rattle.mark_check.specs.Functions.{is_body_unmarked as is_body, is_func_unmarked, are_funcs_unmarked, are_units_unmarked as are_units};
 
 use crate::trees::is_tree_unmarked;
+use cpp_tree::below::Ty;
 use cpp_tree::{TFunc, TNode, UnitTree};
-use cpp_types::Ty;
 use std::alloc::AllocError;
 use tx_safety::SafeProgram;
 

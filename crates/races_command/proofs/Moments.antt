@@ -4,20 +4,20 @@ use Rattle.std.specs.Prelude.{IfOk}
 use Rattle.std.specs.declared.alloc.AllocError.{AllocError}
 use Rattle.std.proofs.lemmas.List.{length-map}
 use Rattle.std.proofs.lemmas.Result.{IfOk-weaker}
-use Rattle.command_io.specs.Reads.{Wanted, ReadsWithin, StopsReading, wanted, wanted_each, wanted_given, bytes_of, behind}
-use Rattle.command_io.specs.Writes.{written_of}
-use Rattle.command_io.specs.declared.files.FileKind.TheVariants.{Source, Input, Schedule}
-use Rattle.command_io.specs.declared.files.Unread.{Unread}
-use Rattle.command_io.proofs.Steps.{reads_append}
-use Rattle.tx_answers.specs.Ends.{Ends, HaltsAmong, Settles}
-use Rattle.tx_answers.specs.declared.answer.Answer.{Answer}
-use Rattle.tx_answers.specs.declared.ends.Decision.{Decision}
-use Rattle.tx_answers.proofs.Endings.{ends_settled, halted_before, halted_behind, halted_ends}
-use Rattle.tx_host.specs.Told.{HostState}
-use Rattle.tx_words.specs.declared.command.Races.{Races}
-use Rattle.tx_words.specs.declared.command.Run.{Run}
+use Rattle.run_command.specs.command_io.Reads.{Wanted, ReadsWithin, StopsReading, wanted, wanted_each, wanted_given, bytes_of, behind}
+use Rattle.run_command.specs.command_io.Writes.{written_of}
+use Rattle.run_command.specs.command_io.declared.files.FileKind.TheVariants.{Source, Input, Schedule}
+use Rattle.run_command.specs.command_io.declared.files.Unread.{Unread}
+use Rattle.run_command.proofs.command_io.Steps.{reads_append}
+use Rattle.run_command.specs.tx_answers.Ends.{Ends, HaltsAmong, Settles}
+use Rattle.run_command.specs.tx_answers.declared.answer.Answer.{Answer}
+use Rattle.run_command.specs.tx_answers.declared.ends.Decision.{Decision}
+use Rattle.run_command.proofs.tx_answers.Endings.{ends_settled, halted_before, halted_behind, halted_ends}
+use Rattle.run_command.specs.tx_host.Told.{HostState}
+use Rattle.run_command.specs.tx_words.declared.command.Races.{Races}
+use Rattle.run_command.specs.tx_words.declared.command.Run.{Run}
 use Rattle.races_command.specs.Commands.{Decides, DecidesOn}
-use Rattle.exec_command.specs.Files.{schedule_file}
+use Rattle.run_command.specs.exec_command.Files.{schedule_file}
 use Rattle.run_command.specs.Commands.{AreTexts, source_files, input_file, wants_of}
 
 -- as many texts were read as files were wanted

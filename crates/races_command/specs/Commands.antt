@@ -1,21 +1,21 @@
 -- What `races` comes to.
 use Rattle.std.specs.Prelude.{◌≤◌, ◌<◌, ℕ, List, take, length, string_bytes}
 use Rattle.std.specs.List.{All}
-use Rattle.command_io.specs.Writes.{Written}
-use Rattle.cpp_tree.specs.declared.program.Program.{Program}
-use Rattle.exec_command.specs.Exec.{schedule_name, bad_schedule_line}
+use Rattle.run_command.specs.command_io.Writes.{Written}
+use Rattle.run_command.specs.cpp_tree.declared.program.Program.{Program}
+use Rattle.run_command.specs.exec_command.Exec.{schedule_name, bad_schedule_line}
 use Rattle.object_races.specs.ObjectRaces.{DecidesObjects}
 use Rattle.run_command.specs.Commands.{source_files, wants_of, AreTexts, TooMany, no_files}
-use Rattle.schedules.specs.Text.{Spells as Says, IsFirstBad, most_entries}
-use Rattle.source_verdict.specs.Verdict.{Accepts, RefusesTexts}
-use Rattle.tx_answers.specs.Ends.{Ends, Refuses}
-use Rattle.tx_answers.specs.declared.answer.Answer.{Answer}
-use Rattle.tx_answers.specs.declared.answer.Status.TheVariants.{BadSchedule}
-use Rattle.tx_code.specs.Objects.{ObjectView}
-use Rattle.tx_code.specs.WellFormed.{IsObject}
-use Rattle.tx_host.specs.Told.{HostState}
-use Rattle.tx_words.specs.declared.command.Races.{Races}
-use Rattle.tx_words.specs.declared.command.RunOptions.{RunOptions}
+use Rattle.run_command.specs.schedules.Text.{Spells as Says, IsFirstBad, most_entries}
+use Rattle.run_command.specs.source_verdict.Verdict.{Accepts, RefusesTexts}
+use Rattle.run_command.specs.tx_answers.Ends.{Ends, Refuses}
+use Rattle.run_command.specs.tx_answers.declared.answer.Answer.{Answer}
+use Rattle.run_command.specs.tx_answers.declared.answer.Status.TheVariants.{BadSchedule}
+use Rattle.run_command.specs.tx_code.Objects.{ObjectView}
+use Rattle.run_command.specs.tx_code.WellFormed.{IsObject}
+use Rattle.run_command.specs.tx_host.Told.{HostState}
+use Rattle.run_command.specs.tx_words.declared.command.Races.{Races}
+use Rattle.run_command.specs.tx_words.declared.command.RunOptions.{RunOptions}
 
 -- Some objects are linked, verified and run, and the races of the run are reported. Which ones the compiler makes of a program is not told yet.
 pub record RacesSome (o : RunOptions) (file input entries : List ℕ) (a : Answer) (writes : List Written) : Type 0 where

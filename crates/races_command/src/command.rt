@@ -1,23 +1,19 @@
 //! The command `races`.
 
 ghost use Rattle.std.specs.Prelude.{map, IfOk};
-ghost use Rattle.command_io.specs.Writes.{written_of};
-ghost use Rattle.exec_command.specs.Exec.{CanRun};
+ghost use Rattle.run_command.specs.command_io.Writes.{written_of};
+ghost use Rattle.run_command.specs.exec_command.Exec.{CanRun};
 ghost use Rattle.races_command.specs.Commands.{Reports, Decides, DecidesOn};
 ghost use Rattle.run_command.specs.Commands.{wants_of};
-ghost use Rattle.tx_answers.specs.Ends.{Ends};
+ghost use Rattle.run_command.specs.tx_answers.Ends.{Ends};
 
 use crate::steps::with_texts;
-use command_io::{FileKind, read_each, read_given};
-use exec_command::files::{read_schedule, schedule_name};
-use exec_command::halt_schedule;
-use exec_command::refusals::bad_schedule;
-use schedules::{ScheduleFault, read};
-use source_verdict::limits::{MOST_SOURCES, too_many_sources};
+use run_command::below::{
+    Answer, Decision, FileKind, Host, MOST_SOURCES, Races, ScheduleFault, bad_schedule, halt_among,
+    halt_given, halt_schedule, read, read_each, read_given, read_schedule, schedule_name, settle,
+    too_many_sources,
+};
 use std::alloc::{AllocError, Global};
-use tx_answers::{Answer, Decision, halt_among, halt_given, settle};
-use tx_host::Host;
-use tx_words::Races;
 
 // What the command decides on the texts of its files.
 fn decided(

@@ -2,21 +2,18 @@
 
 ghost use Rattle.std.specs.Prelude.{◌≡◌, map, IfOk, true, nat_lt, string_bytes};
 ghost use Rattle.std.specs.List.{list_all, All};
-ghost use Rattle.command_io.specs.Writes.{written_of};
-ghost use Rattle.exec_command.specs.Exec.{CanRun};
-ghost use Rattle.tx_code.specs.Objects.{object_view};
-ghost use Rattle.tx_code.specs.WellFormed.{IsObject};
-ghost use Rattle.tx_events.specs.declared.TheConstants.{THREAD_LIMIT};
+ghost use Rattle.run_command.specs.command_io.Writes.{written_of};
+ghost use Rattle.run_command.specs.exec_command.Exec.{CanRun};
+ghost use Rattle.run_command.specs.tx_code.Objects.{object_view};
+ghost use Rattle.run_command.specs.tx_code.WellFormed.{IsObject};
+ghost use Rattle.run_command.specs.tx_events.declared.TheConstants.{THREAD_LIMIT};
 ghost use Rattle.races_command.specs.Commands.{DecidesTexts, RacesSome};
 
 use object_races::with_objects;
-use source_verdict::{Verdict, verdict_of};
+use run_command::below::{
+    Decision, Object, RunOptions, SafeProgram, Verdict, unit_objects, verdict_of,
+};
 use std::alloc::{AllocError, Global};
-use tx_answers::Decision;
-use tx_code::Object;
-use tx_safety::SafeProgram;
-use tx_words::RunOptions;
-use unit_objects::unit_objects;
 
 // Objects are linked, verified and run, and the races of the run are reported.
 fn with_all(

@@ -25,7 +25,7 @@ use Rattle.tx_code.specs.Images.{ImageView}
 use Rattle.tx_code.specs.Linked.{ImageOf}
 use Rattle.tx_code.specs.Objects.{ObjectView}
 use Rattle.tx_code.specs.WellFormed.{IsObject}
-use Rattle.tx_events.specs.declared.End.{End}
+use Rattle.cpp_tree.specs.tx_events.declared.End.{End}
 use Rattle.tx_host.specs.Told.{HostState}
 use Rattle.tx_words.specs.declared.command.Replay.{Replay}
 

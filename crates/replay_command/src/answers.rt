@@ -7,10 +7,10 @@ ghost use Rattle.tx_answers.specs.Ends.{Refuses};
 ghost use Rattle.replay_command.specs.Replays.{end_line, status_of, limit_line, not_a_run_line, spent_line, Answers};
 
 use command_io::Write;
+use cpp_tree::below::End;
 use src_replay::Replayed;
 use std::alloc::{AllocError, Global};
 use tx_answers::{Decision, Status, bare, refusal};
-use tx_events::End;
 
 /// The number of the refusal of a limit.
 const LIMIT: u8 = 7;

@@ -1,2 +1,5 @@
+pub use Rattle.command_io.proofs as command_io
+pub use Rattle.exec_command.proofs as exec_command
+pub use Rattle.tx_answers.proofs as tx_answers
 pub mod Moments
 pub mod Objects

@@ -1,6 +1,7 @@
 //! The commands that compile sources: `run`, which runs what they are compiled to, `selftest`, which runs a generated program, and `build`, which writes an object.
 #![tactic(auto)]
 
+pub mod below;
 mod building;
 mod running;
 mod selftesting;

@@ -6,7 +6,7 @@ ghost use Rattle.command_io.specs.Writes.{written_of};
 ghost use Rattle.exec_command.specs.Exec.{CanRun};
 ghost use Rattle.tx_code.specs.Objects.{object_view};
 ghost use Rattle.tx_code.specs.WellFormed.{IsObject};
-ghost use Rattle.tx_events.specs.declared.TheConstants.{THREAD_LIMIT};
+ghost use Rattle.cpp_tree.specs.tx_events.declared.TheConstants.{THREAD_LIMIT};
 ghost use Rattle.cpp_tree.specs.Units.{program_of};
 ghost use Rattle.cpp_tree.specs.WellFormed.{WellFormed};
 ghost use Rattle.tx_safety.specs.Answers.{checked_in};

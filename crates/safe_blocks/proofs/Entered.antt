@@ -2,12 +2,12 @@
 use Rattle.std.specs.Prelude.{◌≡◌, ℕ, zero, suc, ℤ, ◌+◌, Bool, true, false, ◌&&◌, ◌||◌, cond, nat_lt, List, [], ◌∷◌, ◌++◌, Option, Some, None, Result, Ok, Err, refl}
 use Rattle.std.proofs.Common.{sym, ◌∙◌}
 use Rattle.std.proofs.lemmas.Bool.{false≢true, and_parts}
-use Rattle.tx_ints.specs.Words.{word_of}
-use Rattle.tx_ints.specs.declared.kinds.ArithTrap.{ArithTrap}
-use Rattle.tx_events.specs.declared.Reply.{Reply}
-use Rattle.tx_events.specs.declared.End.TheVariants.{Trapped}
-use Rattle.tx_events.specs.declared.Trap.TheVariants.{UnsafeCall}
-use Rattle.tx_events.specs.Thread.{no_atomic}
+use Rattle.cpp_tree.specs.tx_ints.Words.{word_of}
+use Rattle.cpp_tree.specs.tx_ints.declared.kinds.ArithTrap.{ArithTrap}
+use Rattle.cpp_tree.specs.tx_events.declared.Reply.{Reply}
+use Rattle.cpp_tree.specs.tx_events.declared.End.TheVariants.{Trapped}
+use Rattle.cpp_tree.specs.tx_events.declared.Trap.TheVariants.{UnsafeCall}
+use Rattle.cpp_tree.specs.tx_events.Thread.{no_atomic}
 use Rattle.cpp_tree.specs.declared.kinds.Builtin.{Builtin}
 use Rattle.cpp_tree.specs.declared.kinds.Builtin.TheVariants.{PutChar, GetChar, Spawn as SpawnThread, Join as JoinThread, Abort as AbortProgram}
 use Rattle.cpp_tree.specs.declared.kinds.TKind.{TKind}

@@ -3,8 +3,8 @@ use Rattle.std.proofs.Common.{◌≡◌, ◌∙◌, ℕ, zero, suc, ◌+◌, Boo
 use Rattle.std.specs.Prelude.{option_and_then, unwrap_or}
 use Rattle.std.specs.List.{list_all}
 use Rattle.std.proofs.lemmas.Bool.{false≢true, and_parts, and_from, or_right}
-use Rattle.cpp_types.specs.Typ.{Typ}
-use Rattle.cpp_types.specs.Class.{Class}
+use Rattle.cpp_tree.specs.cpp_types.Typ.{Typ}
+use Rattle.cpp_tree.specs.cpp_types.Class.{Class}
 use Rattle.cpp_tree.specs.Trees.{Tree, literal}
 use Rattle.cpp_tree.specs.Typing.{passes}
 use Rattle.cpp_tree.specs.Units.{Func as UnitFunc, Unit as TypedUnit, SlotFunc, TypedProgram}

@@ -3,8 +3,8 @@ use Rattle.std.specs.Prelude.{◌≡◌, ℕ, zero, suc, Bool, true, false, not,
 use Rattle.std.specs.List.{list_all}
 use Rattle.std.specs.Option.{option_or}
 use Rattle.std.proofs.lemmas.Bool.{false≢true, and_parts, and_from}
-use Rattle.cpp_types.specs.Typ.{Typ, Form}
-use Rattle.cpp_types.specs.Class.{Class}
+use Rattle.cpp_tree.specs.cpp_types.Typ.{Typ, Form}
+use Rattle.cpp_tree.specs.cpp_types.Class.{Class}
 use Rattle.cpp_tree.specs.declared.kinds.TKind.{TKind}
 use Rattle.cpp_tree.specs.declared.kinds.TKind.TheVariants.{Literal, Conditional, Comma, Materialize, FullExpression, Call, VirtualCall, PointerCall, Store, Construct, Pieces, Piece, Elements, Block, Init, Defer, Switch, Try}
 use Rattle.cpp_tree.specs.declared.roles.Role.{Role}

@@ -1,12 +1,12 @@
 -- Why `UnsafeFree` asks for more than that a program is well-formed and safe: a well-formed body may initialise a volatile scalar that is no variable,
 -- which no text does. The check reads `volatile` off variables, and finds nothing; the store is seen.
 use Rattle.std.specs.Prelude.{pos, true, false, List, [], ◌∷◌, None, codes}
-use Rattle.tx_ints.specs.declared.kinds.IntKind.TheVariants.{Int}
-use Rattle.tx_events.specs.declared.BlockKind.TheVariants.{NoExcept}
-use Rattle.tx_events.specs.declared.End.TheVariants.{Exit}
-use Rattle.tx_events.specs.declared.Event.{Event}
-use Rattle.tx_events.specs.declared.Event.TheVariants.{Store as Writes, BeginAtomic, EndAtomic, Stop}
-use Rattle.cpp_types.specs.Typ.{Typ, typ, int, signature, none as none_typs}
+use Rattle.cpp_tree.specs.tx_ints.declared.kinds.IntKind.TheVariants.{Int}
+use Rattle.cpp_tree.specs.tx_events.declared.BlockKind.TheVariants.{NoExcept}
+use Rattle.cpp_tree.specs.tx_events.declared.End.TheVariants.{Exit}
+use Rattle.cpp_tree.specs.tx_events.declared.Event.{Event}
+use Rattle.cpp_tree.specs.tx_events.declared.Event.TheVariants.{Store as Writes, BeginAtomic, EndAtomic, Stop}
+use Rattle.cpp_tree.specs.cpp_types.Typ.{Typ, typ, int, signature, none as none_typs}
 use Rattle.cpp_tree.specs.declared.kinds.TKind.TheVariants.{Literal, Global, Store, Block, Init, Return, Atomic}
 use Rattle.cpp_tree.specs.declared.program.FuncKind.TheVariants.{Plain}
 use Rattle.cpp_tree.specs.Units.{Func, TypedProgram}

@@ -1,9 +1,9 @@
 -- What the safety check is for: what happens in the blocks of a safe program.
 use Rattle.std.specs.Prelude.{◌≡◌, ℕ, ℤ, nat_le, Bool, true, false, not, ◌&&◌, ◌||◌, List, take, cond, Option, Some, None, slice_get}
 use Rattle.std.specs.List.{list_all}
-use Rattle.tx_events.specs.declared.Reply.{Reply}
-use Rattle.tx_events.specs.Thread.{no_atomic}
-use Rattle.cpp_types.specs.Typ.{Typ}
+use Rattle.cpp_tree.specs.tx_events.declared.Reply.{Reply}
+use Rattle.cpp_tree.specs.tx_events.Thread.{no_atomic}
+use Rattle.cpp_tree.specs.cpp_types.Typ.{Typ}
 use Rattle.cpp_tree.specs.declared.kinds.TKind.{TKind}
 use Rattle.cpp_tree.specs.declared.kinds.TKind.TheVariants.{Store, CopyScalar}
 use Rattle.cpp_tree.specs.declared.program.Program.{Program as TypedUnits}

@@ -1,6 +1,6 @@
 //! What holds of the blocks of linked programs. A function here does nothing: its clauses are the laws.
 ghost use Rattle.std.specs.Prelude.{◌≡◌, ℕ, ℤ, pos, Bool, true};
-ghost use Rattle.tx_events.specs.declared.End.TheVariants.{Exit};
+ghost use Rattle.cpp_tree.specs.tx_events.declared.End.TheVariants.{Exit};
 ghost use Rattle.src_mean.specs.Linked.{Program};
 ghost use Rattle.src_mean.specs.Frames.{State};
 ghost use Rattle.src_mean.specs.Source.{begins, main_state};

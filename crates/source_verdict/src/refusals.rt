@@ -11,8 +11,8 @@ ghost use Rattle.source_verdict.specs.Names.{reason_name};
 use crate::front::{FrontFault, Unread};
 use crate::names::{ill_name, limit_name, override_name, reason_name};
 use crate::places::place_line;
+use cpp_tree::below::At;
 use cpp_tree::{ElabFault, UnsafeReason};
-use cpp_types::At;
 use std::alloc::{AllocError, Global};
 use tx_answers::{Decision, Status, refusal};
 

@@ -3,10 +3,10 @@ use Rattle.std.proofs.Common.{◌≡◌, ◌∙◌, ◌<◌, ◌+◌, ◌-◌, �
 use Rattle.std.proofs.lemmas.Bool.{ltb-false}
 use Rattle.std.proofs.lemmas.List.{drop_more, append-nil, append_assoc, map-append}
 use Rattle.std.proofs.Math.ListN.{drop_of_length-le}
-use Rattle.cpp_types.specs.Typ.{Typ, typ_of, typs_of, signature, signature_of}
-use Rattle.cpp_types.specs.declared.types.Ty.{Ty}
-use Rattle.cpp_types.specs.declared.types.FnTy.{FnTy, out-FnTy, roll-FnTy, out-roll-FnTy}
-use Rattle.cpp_types.proofs.Views.{signature_view}
+use Rattle.cpp_tree.specs.cpp_types.Typ.{Typ, typ_of, typs_of, signature, signature_of}
+use Rattle.cpp_tree.specs.cpp_types.declared.types.Ty.{Ty}
+use Rattle.cpp_tree.specs.cpp_types.declared.types.FnTy.{FnTy, out-FnTy, roll-FnTy, out-roll-FnTy}
+use Rattle.cpp_tree.proofs.cpp_types.Views.{signature_view}
 use Rattle.src_mean.specs.Linked.{WordPlace}
 use Rattle.src_bind.specs.declared.infos.WordAt.{WordAt}
 use Rattle.src_bind.specs.Infos.{word_of}

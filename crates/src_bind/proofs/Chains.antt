@@ -1,8 +1,8 @@
 -- Chains of bases, looked through for a name.
 use Rattle.std.proofs.Common.{◌≡◌, ◌∙◌, ℕ, suc, Bool, true, false, List, ◌∷◌, Option, Some, None, ap}
 use Rattle.std.specs.List.{list_any}
-use Rattle.cpp_types.specs.Class.{Class, base_of}
-use Rattle.cpp_types.specs.Conversion.{chain, first_and}
+use Rattle.cpp_tree.specs.cpp_types.Class.{Class, base_of}
+use Rattle.cpp_tree.specs.cpp_types.Conversion.{chain, first_and}
 use Rattle.src_bind.specs.Bases.{is_named}
 
 any_first : (p : ℕ → Bool) (b : ℕ) (xs : List ℕ) → p b ≡ true → list_any p (b ∷ xs) ≡ true

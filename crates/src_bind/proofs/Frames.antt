@@ -1,9 +1,9 @@
 -- What a function's frame needs.
 use Rattle.std.proofs.Common.{◌≡◌, ◌∙◌, ◌+◌, ◌++◌, ◌∷◌, [], ℕ, Bool, List, drop, map, Option, Some, option_map, ap, sym, subst}
 use Rattle.std.specs.Global.{Vec}
-use Rattle.cpp_types.specs.Typ.{Typ}
-use Rattle.cpp_types.specs.Class.{Class}
-use Rattle.cpp_layout.specs.Frames.{AllComplete}
+use Rattle.cpp_tree.specs.cpp_types.Typ.{Typ}
+use Rattle.cpp_tree.specs.cpp_types.Class.{Class}
+use Rattle.cpp_tree.specs.cpp_layout.Frames.{AllComplete}
 use Rattle.cpp_tree.specs.Units.{Func as UnitFunc, TypedProgram}
 use Rattle.src_mean.specs.Linked.{Func}
 use Rattle.src_mean.specs.Links.{Def, func_at, linked_func}

@@ -1,7 +1,7 @@
 -- Functions by what tables have of them.
 use Rattle.std.proofs.Common.{◌≡◌, ◌∙◌, ℕ, Bool, List, [], ◌∷◌, map, refl, sym, ap, Option, Some, None, slice_get, option_map, option_and_then, unwrap_or}
 use Rattle.std.proofs.lemmas.Option.{slice_get-map}
-use Rattle.cpp_types.specs.Class.{Class}
+use Rattle.cpp_tree.specs.cpp_types.Class.{Class}
 use Rattle.cpp_tree.specs.declared.program.TFunc.{TFunc}
 use Rattle.cpp_tree.specs.declared.program.UnitTree.{UnitTree}
 use Rattle.cpp_tree.specs.declared.program.Program.{Program}

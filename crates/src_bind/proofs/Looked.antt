@@ -3,11 +3,11 @@ use Rattle.std.proofs.Common.{◌≡◌, ◌∙◌, ◌<◌, ◌+◌, ◌*◌, �
 use Rattle.std.specs.Global.{Vec}
 use Rattle.std.proofs.lemmas.Option.{slice_get-map, slice_get_within}
 use Rattle.std.proofs.Math.Path.{fun_ext}
-use Rattle.cpp_types.specs.Typ.{Signature}
-use Rattle.cpp_types.specs.Equal.{name_eq}
-use Rattle.cpp_types.specs.Spelling.{function_spelling}
-use Rattle.cpp_types.specs.Class.{Class}
-use Rattle.cpp_layout.specs.Layout.{table_address}
+use Rattle.cpp_tree.specs.cpp_types.Typ.{Signature}
+use Rattle.cpp_tree.specs.cpp_types.Equal.{name_eq}
+use Rattle.cpp_tree.specs.cpp_types.Spelling.{function_spelling}
+use Rattle.cpp_tree.specs.cpp_types.Class.{Class}
+use Rattle.cpp_tree.specs.cpp_layout.Layout.{table_address}
 use Rattle.cpp_tree.specs.Units.{Func as UnitFunc, Global, SlotFunc}
 use Rattle.src_mean.specs.Links.{Def, func_at, global_at, has_type, kept_funcs, kept_globals, kept_classes, global_size, global_offsets, number_in, number_if, number_of_symbol, numbered, def_of_func, def_of_global, class_name, is_or_has_base, linked, unsafe}
 use Rattle.src_bind.specs.declared.infos.FuncInfo.{FuncInfo}

@@ -2,9 +2,9 @@
 use Rattle.std.proofs.Common.{◌≡◌, ◌∙◌, ◌<◌, ◌≤◌, ℕ, true, List, [], map, length, ap, sym, subst, Option, Some}
 use Rattle.std.specs.Global.{Vec}
 use Rattle.std.specs.List.{list_all}
-use Rattle.cpp_types.specs.Typ.{Signature}
-use Rattle.cpp_types.specs.Class.{classes_of}
-use Rattle.cpp_types.specs.declared.classes.ClassRec.{ClassRec}
+use Rattle.cpp_tree.specs.cpp_types.Typ.{Signature}
+use Rattle.cpp_tree.specs.cpp_types.Class.{classes_of}
+use Rattle.cpp_tree.specs.cpp_types.declared.classes.ClassRec.{ClassRec}
 use Rattle.cpp_tree.specs.Units.{TypedProgram}
 use Rattle.src_mean.specs.Links.{Def, kept_funcs, kept_globals, kept_classes, global_size, global_offsets, globals_end, number_in}
 use Rattle.src_bind.specs.declared.infos.FuncInfo.{FuncInfo}

@@ -3,7 +3,7 @@ use Rattle.std.proofs.Common.{◌≡◌, ◌∙◌, ◌<◌, ◌≤◌, ℕ, suc
 use Rattle.std.specs.Global.{Vec}
 use Rattle.std.proofs.lemmas.List.{length-map}
 use Rattle.std.specs.List.{list_any}
-use Rattle.cpp_types.specs.Equal.{name_eq}
+use Rattle.cpp_tree.specs.cpp_types.Equal.{name_eq}
 use Rattle.src_mean.specs.Links.{Def, same_def, number_in, number_if}
 use Rattle.src_bind.specs.declared.defs.Found.{Found}
 use Rattle.src_bind.specs.Defs.{named, def_of, defs_of}

@@ -6,13 +6,13 @@ use Rattle.std.proofs.lemmas.Bool.{and_parts}
 use Rattle.std.proofs.lemmas.List.Folds.{list_all-append}
 use Rattle.std.proofs.lemmas.List.{map-append, append_assoc}
 use Rattle.std.proofs.lemmas.Option.{slice_get-map, slice_get-get_or}
-use Rattle.cpp_types.specs.Class.{Class}
-use Rattle.cpp_types.specs.Conversion.{form_of}
-use Rattle.cpp_layout.specs.Layout.{extent_of, next_multiple}
-use Rattle.cpp_layout.specs.Measured.{HoldsComplete, Measured}
-use Rattle.cpp_layout.specs.declared.extents.SizeAlign.{SizeAlign}
-use Rattle.cpp_layout.specs.declared.extents.TheConstants.{GREATEST_SIZE}
-use Rattle.cpp_layout.proofs.Ends.{next_low}
+use Rattle.cpp_tree.specs.cpp_types.Class.{Class}
+use Rattle.cpp_tree.specs.cpp_types.Conversion.{form_of}
+use Rattle.cpp_tree.specs.cpp_layout.Layout.{extent_of, next_multiple}
+use Rattle.cpp_tree.specs.cpp_layout.Measured.{HoldsComplete, Measured}
+use Rattle.cpp_tree.specs.cpp_layout.declared.extents.SizeAlign.{SizeAlign}
+use Rattle.cpp_tree.specs.cpp_layout.declared.extents.TheConstants.{GREATEST_SIZE}
+use Rattle.cpp_tree.proofs.cpp_layout.Ends.{next_low}
 use Rattle.cpp_tree.specs.Typing.{passes}
 use Rattle.cpp_tree.specs.Units.{Func as UnitFunc, Global, Unit as TypedUnit, TypedProgram}
 use Rattle.src_mean.specs.Links.{Def, name_lt, insert, sorted, kept_of, same_def, is_internal, is_string, strings_last, func_at, global_at, funcs_defined, globals_defined, all_funcs, all_globals, kept_funcs, kept_globals, global_size, globals_end}

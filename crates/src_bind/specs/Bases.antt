@@ -1,7 +1,7 @@
 -- Classes by name.
 use Rattle.std.specs.Prelude.{ℕ, Bool, List}
-use Rattle.cpp_types.specs.Class.{Class}
-use Rattle.cpp_types.specs.Equal.{name_eq}
+use Rattle.cpp_tree.specs.cpp_types.Class.{Class}
+use Rattle.cpp_tree.specs.cpp_types.Equal.{name_eq}
 use Rattle.src_mean.specs.Links.{class_name}
 
 -- a class has this name

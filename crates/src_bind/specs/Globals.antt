@@ -1,9 +1,9 @@
 -- Where globals lie, in tables.
 use Rattle.std.specs.Prelude.{◌≡◌, ◌≤◌, ℕ, ◌+◌, Bool, List, Some, slice_get, unwrap_or}
-use Rattle.cpp_types.specs.Conversion.{form_of}
-use Rattle.cpp_layout.specs.Layout.{extent_of}
-use Rattle.cpp_layout.specs.Measured.{HoldsComplete}
-use Rattle.cpp_layout.specs.declared.extents.TheConstants.{GREATEST_SIZE}
+use Rattle.cpp_tree.specs.cpp_types.Conversion.{form_of}
+use Rattle.cpp_tree.specs.cpp_layout.Layout.{extent_of}
+use Rattle.cpp_tree.specs.cpp_layout.Measured.{HoldsComplete}
+use Rattle.cpp_tree.specs.cpp_layout.declared.extents.TheConstants.{GREATEST_SIZE}
 use Rattle.cpp_tree.specs.Typing.{passes}
 use Rattle.cpp_tree.specs.Units.{Global, Unit as TypedUnit, TypedProgram}
 use Rattle.src_bind.specs.Numbers.{indexed}

@@ -1,13 +1,13 @@
 -- What the records of functions show.
 use Rattle.std.specs.Prelude.{◌≡◌, ◌≤◌, ℕ, Bool, false, ◌&&◌, List, [], map, Option, Some, None, slice_get, option_and_then, unwrap_or, is_some}
 use Rattle.std.specs.Global.{Vec}
-use Rattle.cpp_types.specs.Typ.{Signature}
-use Rattle.cpp_types.specs.Class.{Class}
-use Rattle.cpp_types.specs.Equal.{name_eq}
-use Rattle.cpp_types.specs.Spelling.{function_spelling}
-use Rattle.cpp_layout.specs.Layout.{frame_size}
-use Rattle.cpp_layout.specs.Frames.{AllComplete, item_extents}
-use Rattle.cpp_layout.specs.declared.frames.TheConstants.{GREATEST_FRAME}
+use Rattle.cpp_tree.specs.cpp_types.Typ.{Signature}
+use Rattle.cpp_tree.specs.cpp_types.Class.{Class}
+use Rattle.cpp_tree.specs.cpp_types.Equal.{name_eq}
+use Rattle.cpp_tree.specs.cpp_types.Spelling.{function_spelling}
+use Rattle.cpp_tree.specs.cpp_layout.Layout.{frame_size}
+use Rattle.cpp_tree.specs.cpp_layout.Frames.{AllComplete, item_extents}
+use Rattle.cpp_tree.specs.cpp_layout.declared.frames.TheConstants.{GREATEST_FRAME}
 use Rattle.cpp_tree.specs.declared.arena.TNodeId.{TNodeId}
 use Rattle.cpp_tree.specs.declared.program.TFunc.{TFunc}
 use Rattle.cpp_tree.specs.declared.program.UnitTree.{UnitTree}

@@ -1,7 +1,7 @@
 -- Tables of numbers.
 use Rattle.std.specs.Prelude.{ℕ, suc, List, [], ◌∷◌, map, Option, option_and_then, slice_get}
 use Rattle.std.specs.Global.{Vec}
-use Rattle.cpp_types.specs.Class.{Class}
+use Rattle.cpp_tree.specs.cpp_types.Class.{Class}
 use Rattle.cpp_tree.specs.Units.{Func as UnitFunc, Unit as TypedUnit}
 use Rattle.src_mean.specs.Links.{Def, def_of_func, number_in, number_of_symbol}
 use Rattle.src_bind.specs.Defs.{named}

@@ -1,9 +1,9 @@
 -- The linked program that tables show.
 use Rattle.std.specs.Prelude.{◌≡◌, ◌<◌, ◌≤◌, ℕ, Bool, true, cond, List, [], map, length, Option, Some, None, option_map, option_and_then}
 use Rattle.std.specs.Global.{Vec}
-use Rattle.cpp_types.specs.Typ.{Signature}
-use Rattle.cpp_types.specs.Class.{InOrder}
-use Rattle.cpp_layout.specs.Layout.{table_address}
+use Rattle.cpp_tree.specs.cpp_types.Typ.{Signature}
+use Rattle.cpp_tree.specs.cpp_types.Class.{InOrder}
+use Rattle.cpp_tree.specs.cpp_layout.Layout.{table_address}
 use Rattle.cpp_tree.specs.declared.arena.TNodeId.{TNodeId}
 use Rattle.cpp_tree.specs.declared.program.Program.{Program as Units}
 use Rattle.cpp_tree.specs.Units.{SlotFunc, TypedProgram, program_of}

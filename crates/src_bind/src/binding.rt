@@ -2,8 +2,8 @@
 
 ghost use Rattle.std.specs.Prelude.{◌≡◌, ◌<◌, true, length, map, IfOk, Some};
 ghost use Rattle.std.specs.List.{list_all};
-ghost use Rattle.cpp_types.specs.Typ.{Signature};
-ghost use Rattle.cpp_types.specs.Class.{classes_of};
+ghost use Rattle.cpp_tree.specs.cpp_types.Typ.{Signature};
+ghost use Rattle.cpp_tree.specs.cpp_types.Class.{classes_of};
 ghost use Rattle.cpp_tree.specs.Units.{program_of};
 ghost use Rattle.src_bind.specs.declared.infos.FuncInfo.{FuncInfo};
 ghost use Rattle.src_bind.specs.Defs.{defs_of};

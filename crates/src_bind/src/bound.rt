@@ -2,11 +2,11 @@
 
 ghost use Rattle.std.specs.Prelude.{◌≡◌, ◌+◌, ◌*◌, ◌&&◌, ℕ, [], option_copied, option_map, option_and_then, unwrap_or, slice_get, Option, MatchOption};
 ghost use Rattle.std.specs.List.{list_any};
-ghost use Rattle.cpp_types.specs.Typ.{Signature};
-ghost use Rattle.cpp_types.specs.Class.{classes_of, base_of as base_found, completion_of};
-ghost use Rattle.cpp_types.specs.Conversion.{chain};
-ghost use Rattle.cpp_types.specs.Equal.{name_eq};
-ghost use Rattle.cpp_types.specs.Spelling.{function_spelling};
+ghost use Rattle.cpp_tree.specs.cpp_types.Typ.{Signature};
+ghost use Rattle.cpp_tree.specs.cpp_types.Class.{classes_of, base_of as base_found, completion_of};
+ghost use Rattle.cpp_tree.specs.cpp_types.Conversion.{chain};
+ghost use Rattle.cpp_tree.specs.cpp_types.Equal.{name_eq};
+ghost use Rattle.cpp_tree.specs.cpp_types.Spelling.{function_spelling};
 ghost use Rattle.src_mean.specs.Links.{class_name as name_of_class, is_or_has_base as is_class_or_base, unsafe as without_safety};
 ghost use Rattle.src_bind.specs.Infos.{info_of};
 ghost use Rattle.src_bind.specs.Numbers.{entry};
@@ -17,10 +17,8 @@ ghost use Rattle.src_bind.specs.Bounds.{given};
 use crate::bound_program::Bound;
 use crate::infos::FuncInfo;
 use crate::lists::class_name;
-use cpp_layout::vtable_addr;
 use cpp_tree::Program;
-use cpp_types::ClassRec;
-use cpp_types::copyability::is_name;
+use cpp_tree::below::{ClassRec, is_name, vtable_addr};
 
 // What stands in a row of a table of numbers.
 fn number_at(table: &[Vec<u32>], row: u32, place: u32) -> Option<u32>

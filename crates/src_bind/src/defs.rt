@@ -5,7 +5,7 @@ ghost use Rattle.std.specs.List.{list_any};
 ghost use Rattle.src_mean.specs.Links.{name_lt, same_def, insert, sorted, kept_of, number_in};
 ghost use Rattle.src_bind.specs.Defs.{def_of, defs_of, place_of};
 
-use cpp_types::copyability::is_name;
+use cpp_tree::below::is_name;
 use std::alloc::{AllocError, Global};
 
 /// A definition of a unit, by its place in the unit's list.

@@ -1,7 +1,7 @@
 //! Where globals lie.
 
 ghost use Rattle.std.specs.Prelude.{◌≡◌, ◌≤◌, ℕ, map, IfOk, MatchOption, None, Some, slice_get};
-ghost use Rattle.cpp_types.specs.Class.{InOrder, classes_of};
+ghost use Rattle.cpp_tree.specs.cpp_types.Class.{InOrder, classes_of};
 ghost use Rattle.cpp_tree.specs.Units.{global_of, unit_of, program_of};
 ghost use Rattle.src_mean.specs.Links.{Def, global_at as global_found, global_size, global_offsets, globals_end};
 ghost use Rattle.src_bind.specs.Defs.{def_of, defs_of};
@@ -10,7 +10,7 @@ ghost use Rattle.src_bind.specs.Globals.{HasSize, HaveSizes, global_addresses as
 
 use crate::defs::{Found, number_in};
 use crate::lists::{is_internal, numbered};
-use cpp_layout::size_align;
+use cpp_tree::below::size_align;
 use cpp_tree::{Program, TGlobal, UnitTree};
 use std::alloc::{AllocError, Global};
 

@@ -1,20 +1,18 @@
 //! What a thread asks of a function.
 
 ghost use Rattle.std.specs.Prelude.{◌≡◌, ◌≤◌, ◌&&◌, true, false, [], not, is_some, map, IfOk, MatchOption, None, Some, option_copied, option_map};
-ghost use Rattle.cpp_types.specs.Typ.{Signature, typ, func, typ_of, signature_of};
-ghost use Rattle.cpp_types.specs.Class.{InOrder, classes_of};
-ghost use Rattle.cpp_types.specs.Spelling.{function_spelling};
+ghost use Rattle.cpp_tree.specs.cpp_types.Typ.{Signature, typ, func, typ_of, signature_of};
+ghost use Rattle.cpp_tree.specs.cpp_types.Class.{InOrder, classes_of};
+ghost use Rattle.cpp_tree.specs.cpp_types.Spelling.{function_spelling};
 ghost use Rattle.cpp_tree.specs.Units.{func_of, program_of};
 ghost use Rattle.src_mean.specs.Links.{func_at as func_found, word_kind as kind_of_word, is_marked as is_marked_typ, word_places, linked_func, is_plain_func, unsafe as without_safety};
 ghost use Rattle.src_bind.specs.Defs.{def_of};
 ghost use Rattle.src_bind.specs.Infos.{own_func, body_found, trees_in, word_of, info_of, is_of_type, type_found, says, has_body, HasFrame};
 
 use crate::defs::Found;
-use cpp_layout::frame;
+use cpp_tree::below::{ClassRec, FnTy, IntKind, Shape, Ty, copy_function, frame, spell};
 use cpp_tree::{FuncKind, Program, TFunc, TNodeId};
-use cpp_types::{ClassRec, FnTy, Shape, Ty, copy_function, spell};
 use std::alloc::{AllocError, Global};
-use tx_ints::IntKind;
 
 /// Where a call stores a word in the frame that it opens, and how.
 #[derive(Clone, Copy, Debug, PartialEq, Eq)]

@@ -1,15 +1,15 @@
 //! The definitions of a program, unit by unit, each unit's in the order of their symbols.
 
 ghost use Rattle.std.specs.Prelude.{◌≡◌, ◌++◌, ℕ, IfOk, OnOk, not, filter, map, Bool};
-ghost use Rattle.cpp_types.specs.Class.{classes_of};
-ghost use Rattle.cpp_types.specs.Equal.{flag_eq};
+ghost use Rattle.cpp_tree.specs.cpp_types.Class.{classes_of};
+ghost use Rattle.cpp_tree.specs.cpp_types.Equal.{flag_eq};
 ghost use Rattle.cpp_tree.specs.Units.{unit_of, program_of};
 ghost use Rattle.src_mean.specs.Links.{Def, funcs_defined, globals_defined, classes_defined, class_name as name_of_class, is_internal as is_internal_linkage, is_string as is_string_def, strings_last, sorted as sorted_defs, all_funcs as funcs_of_all, all_globals as globals_of_all, all_classes as classes_of_all, kept_funcs as funcs_kept, kept_globals as globals_kept, kept_classes as classes_kept};
 ghost use Rattle.src_bind.specs.Defs.{def_of, defs_of};
 
 use crate::defs::{Found, add_if, kept, sorted};
+use cpp_tree::below::ClassRec;
 use cpp_tree::{Linkage, Program, UnitTree};
-use cpp_types::ClassRec;
 use std::alloc::{AllocError, Global};
 
 // A place as a number of 32 bits. More count as want of memory.

@@ -1,7 +1,7 @@
 //! The numbers of functions and classes.
 
 ghost use Rattle.std.specs.Prelude.{◌≡◌, ℕ, false, [], map, IfOk};
-ghost use Rattle.cpp_types.specs.Class.{Class, classes_of};
+ghost use Rattle.cpp_tree.specs.cpp_types.Class.{Class, classes_of};
 ghost use Rattle.cpp_tree.specs.Units.{unit_of, program_of};
 ghost use Rattle.src_mean.specs.Links.{number_in as number_of_def, number_of_symbol as number_by_symbol};
 ghost use Rattle.src_bind.specs.Defs.{defs_of, named};
@@ -9,8 +9,8 @@ ghost use Rattle.src_bind.specs.Numbers.{func_numbers as numbers_of_funcs, unit_
 
 use crate::defs::{Found, number_in};
 use crate::lists::{is_internal, numbered};
+use cpp_tree::below::ClassRec;
 use cpp_tree::{Program, UnitTree};
-use cpp_types::ClassRec;
 use std::alloc::{AllocError, Global};
 
 // The numbers of a unit's functions.

@@ -2,11 +2,11 @@
 use Rattle.std.proofs.Common.{◌≡◌, ◌∙◌, ℕ, suc, Bool, true, false, List, [], ◌∷◌, Option, Some, None, map, refl, sym, ap}
 use Rattle.std.specs.Prelude.{◌||◌}
 use Rattle.std.specs.List.{list_any}
-use Rattle.cpp_types.specs.Typ.{Form, void, int, enum, null, ptr, ref, array, func, class, closure, tx_ex}
-use Rattle.cpp_types.specs.Class.{Class, base_of}
-use Rattle.cpp_types.specs.Conversion.{chain, bases, first_and}
-use Rattle.cpp_types.specs.Equal.{name_eq}
-use Rattle.cpp_types.specs.Spelling.{form_spelling}
+use Rattle.cpp_tree.specs.cpp_types.Typ.{Form, void, int, enum, null, ptr, ref, array, func, class, closure, tx_ex}
+use Rattle.cpp_tree.specs.cpp_types.Class.{Class, base_of}
+use Rattle.cpp_tree.specs.cpp_types.Conversion.{chain, bases, first_and}
+use Rattle.cpp_tree.specs.cpp_types.Equal.{name_eq}
+use Rattle.cpp_tree.specs.cpp_types.Spelling.{form_spelling}
 use Rattle.src_mean.specs.Exceptions.{caught_as, catches_form}
 use Rattle.src_frames.specs.Texts.{is_spelled, class_in}
 

@@ -4,7 +4,7 @@ use Rattle.std.specs.Prelude.{Option, None, Bool, false, cond, option_and_then}
 use Rattle.std.proofs.lemmas.Bool.{ltb-true, ltb-false}
 use Rattle.std.proofs.lemmas.List.{get_or_append_left, get_or_push, get_or_past}
 use Rattle.std.proofs.lemmas.Option.{slice_get_cases}
-use Rattle.cpp_types.specs.Typ.{typ_of}
+use Rattle.cpp_tree.specs.cpp_types.Typ.{typ_of}
 use Rattle.cpp_tree.specs.declared.arena.TNodeId.{TNodeId}
 use Rattle.cpp_tree.specs.declared.arena.TNode.{TNode}
 use Rattle.cpp_tree.specs.declared.program.UnitTree.{UnitTree}

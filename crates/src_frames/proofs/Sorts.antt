@@ -1,7 +1,7 @@
 -- What a frame is to those that look down the frames: for the exception that is handled, for open blocks, and for scopes.
 use Rattle.std.proofs.Common.{◌≡◌, List, ◌∷◌, refl, ap, false}
 use Rattle.std.specs.Prelude.{option_map, cond}
-use Rattle.tx_events.specs.Thread as threads
+use Rattle.cpp_tree.specs.tx_events.Thread as threads
 use Rattle.cpp_tree.specs.declared.program.Program.{Program}
 use Rattle.src_mean.specs.Frames as frames
 use Rattle.src_bind.specs.Tables.{Given}

@@ -5,7 +5,7 @@ use Rattle.std.proofs.lemmas.List.{reverse-append, map-append, append-nil}
 use Rattle.std.proofs.lemmas.Option.{get_or_from_slice_get}
 use Rattle.std.proofs.Math.Seq.{take-suc, drop-cons, take-length, drop-length}
 use Rattle.cpp_tree.specs.declared.program.Program.{Program}
-use Rattle.tx_events.specs.Thread.{no_atomic}
+use Rattle.cpp_tree.specs.tx_events.Thread.{no_atomic}
 use Rattle.src_mean.specs.Frames as frames
 use Rattle.src_bind.specs.Tables.{Given}
 use Rattle.src_frames.specs.declared.frames.Exception.{Exception}

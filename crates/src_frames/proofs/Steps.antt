@@ -3,7 +3,7 @@ use Rattle.std.proofs.Common.{◌≡◌, ◌∙◌, ℕ, zero, suc, ◌+◌, Lis
 use Rattle.std.specs.Prelude.{Some, None, slice_get}
 use Rattle.std.proofs.lemmas.Option.{slice_get_within, get_or_from_slice_get}
 use Rattle.std.proofs.Math.Seq.{drop-cons}
-use Rattle.tx_events.specs.declared.Event.TheVariants.{Silent}
+use Rattle.cpp_tree.specs.tx_events.declared.Event.TheVariants.{Silent}
 use Rattle.cpp_tree.specs.Trees.{Trees, none, more, first, rest}
 use Rattle.src_mean.specs.Linked.{Program, WordPlace}
 use Rattle.src_mean.specs.Frames.{Here, Callee, Frame, at, value, Run, Words, Passes}

@@ -1,7 +1,7 @@
 -- What the states of the code show.
 use Rattle.std.specs.Prelude.{ℕ, List, [], map, reverse, drop, Option, Some, None, unwrap_or, slice_get}
-use Rattle.tx_events.specs.Thread as threads
-use Rattle.cpp_types.specs.Typ.{Typ}
+use Rattle.cpp_tree.specs.tx_events.Thread as threads
+use Rattle.cpp_tree.specs.cpp_types.Typ.{Typ}
 use Rattle.cpp_tree.specs.declared.program.Program.{Program}
 use Rattle.cpp_tree.specs.Trees.{typ_in}
 use Rattle.src_mean.specs.Linked.{Func, WordPlace}

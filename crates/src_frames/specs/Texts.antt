@@ -1,9 +1,9 @@
 -- Types by their spellings.
 use Rattle.std.specs.Prelude.{ℕ, Bool, false, List, Option, Some, None}
-use Rattle.cpp_types.specs.Typ.{Form, Signature, signature, typ, void, func, class, none as no_typs}
-use Rattle.cpp_types.specs.Class.{Class}
-use Rattle.cpp_types.specs.Equal.{name_eq}
-use Rattle.cpp_types.specs.Spelling.{form_spelling}
+use Rattle.cpp_tree.specs.cpp_types.Typ.{Form, Signature, signature, typ, void, func, class, none as no_typs}
+use Rattle.cpp_tree.specs.cpp_types.Class.{Class}
+use Rattle.cpp_tree.specs.cpp_types.Equal.{name_eq}
+use Rattle.cpp_tree.specs.cpp_types.Spelling.{form_spelling}
 
 -- void()
 abbrev pub no_signature : Signature

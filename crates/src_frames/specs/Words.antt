@@ -1,8 +1,8 @@
 -- Values as words, and a call that has room.
 use Rattle.std.specs.Prelude.{ℕ, ℤ, List, ◌∷◌, Result, Ok, Err}
-use Rattle.tx_ints.specs.declared.kinds.ArithTrap.{ArithTrap}
-use Rattle.tx_ints.specs.Words.{word_of}
-use Rattle.tx_events.specs.declared.Event.TheVariants.{Silent}
+use Rattle.cpp_tree.specs.tx_ints.declared.kinds.ArithTrap.{ArithTrap}
+use Rattle.cpp_tree.specs.tx_ints.Words.{word_of}
+use Rattle.cpp_tree.specs.tx_events.declared.Event.TheVariants.{Silent}
 use Rattle.src_mean.specs.Linked.{Func}
 use Rattle.src_mean.specs.Frames.{Here, Frame, State, at, value, Passes, Then, Called}
 use Rattle.src_mean.specs.Source.{inside}

@@ -1,11 +1,11 @@
 //! The bytes of exceptions.
 
 ghost use Rattle.std.specs.Prelude.{◌≡◌, slice_set, slice_index_or};
-ghost use Rattle.cpp_layout.specs.Layout.{kind_size};
+ghost use Rattle.cpp_tree.specs.cpp_layout.Layout.{kind_size};
 ghost use Rattle.src_mean.specs.Exceptions.{bytes_of, with_bytes as bytes_put, read_bytes as bytes_read};
 
 use crate::words::size_of_kind;
-use tx_ints::IntKind;
+use cpp_tree::below::IntKind;
 
 /// The bytes with those of a number of a kind from an offset on, the least significant first.
 pub fn with_bytes(bytes: [u8; 64], offset: u32, kind: IntKind, word: u64) -> [u8; 64]

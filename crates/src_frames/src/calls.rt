@@ -1,7 +1,7 @@
 //! Calls (C++14 5.2.2, 10.3).
 
 ghost use Rattle.std.specs.Prelude.{◌≡◌, ◌+◌, ◌∷◌, ◌++◌, ℕ, true, false, [], IfOk, OnOk, MatchOption, None, Some, drop, nat_lt, slice_get};
-ghost use Rattle.tx_events.specs.declared.Event.TheVariants.{Silent};
+ghost use Rattle.cpp_tree.specs.tx_events.declared.Event.TheVariants.{Silent};
 ghost use Rattle.src_mean.specs.Frames.{at, Gives as GivesWord, Scope as ScopeOf, Passes as PassesWords, Object as ObjectOf};
 ghost use Rattle.src_mean.specs.Source.{target_of as target_in, source_of as source_in, result_words as words_of_result, first_word as word_at_first, second_word as word_at_second, enter as enters, enter_found as enters_found, enter_pointed as enters_pointed, spawn as spawns, built_in as runs_built_in, invoke as invokes, next_word as goes_to_word, call as calls, call_slot as calls_slot, is_safe as is_safe_func, give, called_signature, thread_signature};
 ghost use Rattle.cpp_tree.specs.Trees.{typ_in};
@@ -17,10 +17,10 @@ use crate::texts::called_text;
 use crate::trees::{KidsAt, TreeAt, head, rest};
 use crate::words::{int_value, long_value, plus};
 use cpp_tree::Builtin;
+use cpp_tree::below::{End, Event, Trap};
 use src_bind::{Bound, FuncInfo, WordAt};
 use std::alloc::AllocError;
 use std::mem;
-use tx_events::{End, Event, Trap};
 
 /// Where objects are built.
 pub fn target_of(way: Way) -> u64

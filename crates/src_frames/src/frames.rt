@@ -1,9 +1,8 @@
 //! What a thread has left to do, as frames over the nodes of units.
 
 use crate::trees::{KidsAt, TreeAt};
+use cpp_tree::below::{BinOp, BlockKind, End, IntKind};
 use cpp_tree::{Builtin, TKind};
-use tx_events::{BlockKind, End};
-use tx_ints::{BinOp, IntKind};
 
 /// Objects that wait for their destruction: what gives their address, and the destructions.
 #[derive(Clone, Copy, Debug, PartialEq, Eq)]

@@ -1,9 +1,9 @@
 //! States of a thread, and how one goes on with an event.
 
 ghost use Rattle.std.specs.Prelude.{◌≡◌, ◌≤◌, ◌+◌, ◌∷◌, ◌++◌, ℕ, true, IfOk, OnOk, Some, option_map, length, slice_get, take, drop};
-ghost use Rattle.tx_events.specs.declared.Event.TheVariants.{Silent};
-ghost use Rattle.tx_events.specs.declared.End.TheVariants.{Trapped as TrappedBy};
-ghost use Rattle.tx_events.specs.Thread.{no_atomic};
+ghost use Rattle.cpp_tree.specs.tx_events.declared.Event.TheVariants.{Silent};
+ghost use Rattle.cpp_tree.specs.tx_events.declared.End.TheVariants.{Trapped as TrappedBy};
+ghost use Rattle.cpp_tree.specs.tx_events.Thread.{no_atomic};
 ghost use Rattle.src_mean.specs.Frames.{at, Run as Runs, Gives as GivesWord, Waiting as Waits, blocks_of, handled as handled_of, puts, same_owner};
 ghost use Rattle.src_mean.specs.Source.{halt as halted, read as reads, write as writes, place_address as address_of_place, empty_stack as empty_stack_of};
 ghost use Rattle.src_bind.specs.Bounds.{given};
@@ -19,10 +19,9 @@ use crate::frames::{
 };
 use crate::trees::TreeAt;
 use crate::words::{plus, size_of_kind, stored_bytes};
+use cpp_tree::below::{End, Event, IntKind, Trap};
 use src_bind::Bound;
 use std::alloc::{AllocError, Global};
-use tx_events::{End, Event, Trap};
-use tx_ints::IntKind;
 
 /// What a step comes to: `Some` is a value that goes on to the next frame, and at `None` the step is done. On
 /// `AllocError` the state is of no more use.

@@ -2,10 +2,10 @@
 
 ghost use Rattle.std.specs.Prelude.{◌≡◌, false, [], IfOk, MatchOption, unwrap_or};
 ghost use Rattle.std.specs.List.{list_any};
-ghost use Rattle.cpp_types.specs.Typ.{typ_of, signature_of, shape_form, class as of_class};
-ghost use Rattle.cpp_types.specs.Class.{classes_of, base_of as base_found, completion_of};
-ghost use Rattle.cpp_types.specs.Conversion.{is_object_form, chain};
-ghost use Rattle.cpp_types.specs.Spelling.{form_spelling, function_spelling};
+ghost use Rattle.cpp_tree.specs.cpp_types.Typ.{typ_of, signature_of, shape_form, class as of_class};
+ghost use Rattle.cpp_tree.specs.cpp_types.Class.{classes_of, base_of as base_found, completion_of};
+ghost use Rattle.cpp_tree.specs.cpp_types.Conversion.{is_object_form, chain};
+ghost use Rattle.cpp_tree.specs.cpp_types.Spelling.{form_spelling, function_spelling};
 ghost use Rattle.cpp_tree.specs.Trees.{typ_in};
 ghost use Rattle.src_mean.specs.Exceptions.{is_object_typ, cancels as cancels_typ, cancels_form, catches as catches_typ, catches_form, form_in, thrown_typ};
 ghost use Rattle.src_mean.specs.Links.{unsafe as without_safety};
@@ -15,8 +15,7 @@ ghost use Rattle.src_frames.specs.Bounds.{tree_of};
 ghost use Rattle.src_frames.specs.Texts.{no_signature, function_in, is_spelled, class_in};
 
 use crate::trees::{TreeAt, type_of};
-use cpp_types::copyability::is_name;
-use cpp_types::{ClassRec, FnTy, Shape, Ty, copy, spell};
+use cpp_tree::below::{ClassRec, FnTy, Shape, Ty, copy, is_name, spell};
 use src_bind::Bound;
 use src_bind::infos::type_text;
 use std::alloc::{AllocError, Global};

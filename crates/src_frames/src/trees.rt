@@ -1,15 +1,15 @@
 //! The trees of a program by the places of their nodes.
 
 ghost use Rattle.std.specs.Prelude.{◌≡◌, ◌<◌, ◌^◌, option_copied, MatchOption, IfSome, Some, None, true, false};
-ghost use Rattle.cpp_types.specs.Typ.{typ, void, typ_of};
+ghost use Rattle.cpp_tree.specs.cpp_types.Typ.{typ, void, typ_of};
 ghost use Rattle.cpp_tree.specs.Trees.{node, literal, kind_of as root_kind, typ_in, kids_of as kids_in, first as first_kid, rest as kids_after, second as second_kid, third as third_kid};
 ghost use Rattle.src_bind.specs.Bounds.{given};
 ghost use Rattle.src_bind.specs.Infos.{trees_in};
 ghost use Rattle.src_frames.specs.Trees.{node_found, are_none, kid_of, count_of, kid_tree, kids_below};
 ghost use Rattle.src_frames.specs.Bounds.{tree_of, all_kids};
 
+use cpp_tree::below::Ty;
 use cpp_tree::{Program, TKind, TNode, TNodeId};
-use cpp_types::Ty;
 use src_bind::Bound;
 
 /// A tree: that of a node of a unit, or a word.

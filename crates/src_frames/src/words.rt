@@ -1,17 +1,16 @@
 //! Operations on words.
 
 ghost use Rattle.std.specs.Prelude.{◌≡◌, ◌≤◌, false};
-ghost use Rattle.tx_ints.specs.Integers.{InRange, is_shift as is_shift_of};
-ghost use Rattle.tx_ints.specs.Words.{value_of_word};
-ghost use Rattle.tx_ints.specs.declared.kinds.IntKind.TheVariants.{Int, Long};
-ghost use Rattle.cpp_layout.specs.Layout.{kind_size};
+ghost use Rattle.cpp_tree.specs.tx_ints.Integers.{InRange, is_shift as is_shift_of};
+ghost use Rattle.cpp_tree.specs.tx_ints.Words.{value_of_word};
+ghost use Rattle.cpp_tree.specs.tx_ints.declared.kinds.IntKind.TheVariants.{Int, Long};
+ghost use Rattle.cpp_tree.specs.cpp_layout.Layout.{kind_size};
 ghost use Rattle.src_mean.specs.Source.{converted as converted_to, plus as sum_of, stored_bytes as bytes_stored, right_value as right_operand, applied as applied_to, trap_of as trap_from, reply_word as word_of_reply};
 ghost use Rattle.src_frames.specs.Words.{as_word};
 
-use cpp_layout::extents::int_size;
-use tx_events::{Reply, Trap};
-use tx_ints::operators::apply;
-use tx_ints::{ArithTrap, BinOp, IntKind, value_of_word, word_of};
+use cpp_tree::below::{
+    ArithTrap, BinOp, IntKind, Reply, Trap, apply, int_size, value_of_word, word_of,
+};
 
 /// The number of a word in a kind, as a word.
 pub fn converted(kind: IntKind, word: u64) -> u64

@@ -1,7 +1,7 @@
 -- The cells of globals, one global after the other.
 use Rattle.std.proofs.Common.{◌≡◌, ◌≤◌, ◌∙◌, ◌+◌, ◌<◌, ℕ, zero, suc, List, [], ◌∷◌, ◌++◌, length, drop, get_or, refl, sym, ap, Option, Some, None, slice_get, option_map, option_and_then, unwrap_or, arith}
 use Rattle.std.proofs.lemmas.List.{drop_more, append-nil, append_assoc}
-use Rattle.tx_events.specs.declared.GlobalCell.{GlobalCell}
+use Rattle.cpp_tree.specs.tx_events.declared.GlobalCell.{GlobalCell}
 use Rattle.cpp_tree.specs.Units.{Global, Cell, Func as UnitFunc, Unit as TypedUnit, TypedProgram}
 use Rattle.src_mean.specs.Linked.{Program}
 use Rattle.src_mean.specs.Links.{Def, globals_in, funcs_in, global_at, cells_at, all_cells}

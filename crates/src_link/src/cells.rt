@@ -11,6 +11,7 @@ ghost use Rattle.src_link.specs.Cells.{init_at};
 ghost use Rattle.src_bind.specs.Tables.{CanBind, typed, linked_of};
 
 use cpp_layout::{fn_addr, size_align};
+use cpp_tree::below::GlobalCell;
 use cpp_tree::{CellKind, InitCell, Program, TGlobal, UnitTree};
 use cpp_types::copyability::is_name;
 use src_bind::Bound;
@@ -18,7 +19,6 @@ use src_bind::defs::Found;
 use src_bind::globals::offsets;
 use src_bind::lists::kept_globals;
 use std::alloc::{AllocError, Global};
-use tx_events::GlobalCell;
 
 // The first of a unit's globals with a symbol; as many as there are where none has it.
 fn global_place(unit: &UnitTree, symbol: &[u8]) -> usize

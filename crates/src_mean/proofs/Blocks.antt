@@ -4,20 +4,20 @@ use Rattle.std.proofs.Common.{sym, ap, subst, arith, lt-ltb, ◌∙◌}
 use Rattle.std.proofs.lemmas.Bool.{false≢true}
 use Rattle.std.proofs.lemmas.Nat.{pow_pos}
 use Rattle.std.specs.List.{list_all}
-use Rattle.tx_events.specs.declared.End.TheVariants.{Terminate, Trapped}
-use Rattle.tx_ints.specs.declared.kinds.ArithTrap.TheVariants.{Overflow as Overflows, DivideByZero as DividesByZero, ShiftRange as ShiftsBeyond}
-use Rattle.tx_events.specs.declared.Reply.TheVariants.{Nothing}
-use Rattle.tx_ints.specs.declared.kinds.ArithTrap.{ArithTrap}
-use Rattle.tx_ints.specs.Words.{word_of}
-use Rattle.tx_ints.specs.declared.kinds.IntKind.TheVariants.{Bool as BoolKind, Char, SChar, UChar, Short, UShort, Int, UInt, Long, ULong, LLong, ULLong}
-use Rattle.tx_ints.specs.declared.kinds.IntKind.{IntKind}
-use Rattle.cpp_layout.specs.Layout.{kind_size}
-use Rattle.tx_events.specs.declared.BlockKind.TheVariants.{NoExcept, Commit, Cancel}
-use Rattle.tx_events.specs.declared.Event.{Event}
-use Rattle.tx_events.specs.declared.Event.TheVariants.{Silent, Load as Reads, Store as Writes, Out, Inp, Spawn as Spawns, Join as Joins, BeginAtomic, EndAtomic, Raise, BeginSync, EndSync, Done, Stop}
-use Rattle.tx_events.specs.declared.Reply.{Reply}
-use Rattle.tx_events.specs.Thread.{Open, Atomic as AtomicBlock, Sync, Lawful, no_atomic, blocks_after, is_silent, is_size, is_empty, is_own_end, may_come}
-use Rattle.cpp_types.specs.Typ.{Typ}
+use Rattle.cpp_tree.specs.tx_events.declared.End.TheVariants.{Terminate, Trapped}
+use Rattle.cpp_tree.specs.tx_ints.declared.kinds.ArithTrap.TheVariants.{Overflow as Overflows, DivideByZero as DividesByZero, ShiftRange as ShiftsBeyond}
+use Rattle.cpp_tree.specs.tx_events.declared.Reply.TheVariants.{Nothing}
+use Rattle.cpp_tree.specs.tx_ints.declared.kinds.ArithTrap.{ArithTrap}
+use Rattle.cpp_tree.specs.tx_ints.Words.{word_of}
+use Rattle.cpp_tree.specs.tx_ints.declared.kinds.IntKind.TheVariants.{Bool as BoolKind, Char, SChar, UChar, Short, UShort, Int, UInt, Long, ULong, LLong, ULLong}
+use Rattle.cpp_tree.specs.tx_ints.declared.kinds.IntKind.{IntKind}
+use Rattle.cpp_tree.specs.cpp_layout.Layout.{kind_size}
+use Rattle.cpp_tree.specs.tx_events.declared.BlockKind.TheVariants.{NoExcept, Commit, Cancel}
+use Rattle.cpp_tree.specs.tx_events.declared.Event.{Event}
+use Rattle.cpp_tree.specs.tx_events.declared.Event.TheVariants.{Silent, Load as Reads, Store as Writes, Out, Inp, Spawn as Spawns, Join as Joins, BeginAtomic, EndAtomic, Raise, BeginSync, EndSync, Done, Stop}
+use Rattle.cpp_tree.specs.tx_events.declared.Reply.{Reply}
+use Rattle.cpp_tree.specs.tx_events.Thread.{Open, Atomic as AtomicBlock, Sync, Lawful, no_atomic, blocks_after, is_silent, is_size, is_empty, is_own_end, may_come}
+use Rattle.cpp_tree.specs.cpp_types.Typ.{Typ}
 use Rattle.cpp_tree.specs.declared.kinds.Builtin.{Builtin}
 use Rattle.cpp_tree.specs.declared.kinds.Builtin.TheVariants.{PutChar, GetChar, Spawn as SpawnThread, Join as JoinThread, Abort as AbortProgram}
 use Rattle.cpp_tree.specs.declared.kinds.TKind.{TKind}

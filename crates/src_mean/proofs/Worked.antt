@@ -1,10 +1,10 @@
 -- The worked programs, computed.
 use Rattle.std.specs.Prelude.{◌≡◌, pos, true, refl}
-use Rattle.tx_ints.specs.Integers.{apply_of, reduced}
-use Rattle.tx_ints.specs.Words.{word_of}
-use Rattle.tx_events.specs.Memory.{word_of as memory_word, read_at, merge}
-use Rattle.tx_events.specs.declared.End.TheVariants.{Exit, Abort, Terminate, Trapped}
-use Rattle.tx_events.specs.declared.Trap.TheVariants.{Overflow}
+use Rattle.cpp_tree.specs.tx_ints.Integers.{apply_of, reduced}
+use Rattle.cpp_tree.specs.tx_ints.Words.{word_of}
+use Rattle.cpp_tree.specs.tx_events.Memory.{word_of as memory_word, read_at, merge}
+use Rattle.cpp_tree.specs.tx_events.declared.End.TheVariants.{Exit, Abort, Terminate, Trapped}
+use Rattle.cpp_tree.specs.tx_events.declared.Trap.TheVariants.{Overflow}
 use Rattle.src_mean.specs.Source.{plus, stored_bytes}
 use Rattle.src_mean.specs.Notation.{bodies_fit}
 use Rattle.src_mean.specs.Runs.{outcome, ends}

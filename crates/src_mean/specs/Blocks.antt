@@ -1,13 +1,13 @@
 -- Worked programs on blocks: each in C++, its functions as typed trees, and its events but the silent ones, which it ends with.
 use Rattle.std.specs.Prelude.{pos, true, false, List, [], ◌∷◌, Some, None, codes}
-use Rattle.tx_ints.specs.declared.kinds.IntKind.TheVariants.{Char, Int, ULong}
-use Rattle.tx_ints.specs.declared.kinds.BinOp.TheVariants.{Add, Mul}
-use Rattle.tx_events.specs.declared.BlockKind.TheVariants.{NoExcept, Commit, Cancel}
-use Rattle.tx_events.specs.declared.End.TheVariants.{Exit, Trapped}
-use Rattle.tx_events.specs.declared.Trap.TheVariants.{Overflow}
-use Rattle.tx_events.specs.declared.Event.{Event}
-use Rattle.tx_events.specs.declared.Event.TheVariants.{Load as Reads, Store as Writes, Out, BeginAtomic, EndAtomic, Raise, Stop}
-use Rattle.cpp_types.specs.Typ.{int, ptr, ref, array, tx_ex, signature, none as none_typs}
+use Rattle.cpp_tree.specs.tx_ints.declared.kinds.IntKind.TheVariants.{Char, Int, ULong}
+use Rattle.cpp_tree.specs.tx_ints.declared.kinds.BinOp.TheVariants.{Add, Mul}
+use Rattle.cpp_tree.specs.tx_events.declared.BlockKind.TheVariants.{NoExcept, Commit, Cancel}
+use Rattle.cpp_tree.specs.tx_events.declared.End.TheVariants.{Exit, Trapped}
+use Rattle.cpp_tree.specs.tx_events.declared.Trap.TheVariants.{Overflow}
+use Rattle.cpp_tree.specs.tx_events.declared.Event.{Event}
+use Rattle.cpp_tree.specs.tx_events.declared.Event.TheVariants.{Load as Reads, Store as Writes, Out, BeginAtomic, EndAtomic, Raise, Stop}
+use Rattle.cpp_tree.specs.cpp_types.Typ.{int, ptr, ref, array, tx_ex, signature, none as none_typs}
 use Rattle.cpp_tree.specs.declared.kinds.Builtin.TheVariants.{PutChar}
 use Rattle.cpp_tree.specs.declared.kinds.TKind.TheVariants.{Literal, Local, Global, Load, Convert, Retype, Binary, Assign, Materialize, Builtin, Throw, Store, Block, Init, Return, Try, Handler, Atomic, Field}
 use Rattle.cpp_tree.specs.declared.program.FuncKind.TheVariants.{Plain}

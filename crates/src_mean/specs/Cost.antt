@@ -1,11 +1,11 @@
 -- Cost: how many steps of a thread a replay takes. Each silent step and each event counts one.
 use Rattle.std.specs.Prelude.{ℕ, ◌+◌, List, [], ◌∷◌}
-use Rattle.tx_events.specs.declared.Event.{Event}
-use Rattle.tx_events.specs.declared.Event.TheVariants.{BeginAtomic}
-use Rattle.tx_events.specs.Thread.{Thread}
-use Rattle.tx_events.specs.Memory.{MemoryLayout}
-use Rattle.tx_events.specs.Alone.{Inner, Inside, at_start, goes_on}
-use Rattle.tx_events.specs.World.{World, SilentSteps, none, one_more, EventStep, Step, Replays}
+use Rattle.cpp_tree.specs.tx_events.declared.Event.{Event}
+use Rattle.cpp_tree.specs.tx_events.declared.Event.TheVariants.{BeginAtomic}
+use Rattle.cpp_tree.specs.tx_events.Thread.{Thread}
+use Rattle.cpp_tree.specs.tx_events.Memory.{MemoryLayout}
+use Rattle.cpp_tree.specs.tx_events.Alone.{Inner, Inside, at_start, goes_on}
+use Rattle.cpp_tree.specs.tx_events.World.{World, SilentSteps, none, one_more, EventStep, Step, Replays}
 
 abbrev pub silent_cost : {S : Type 0} {a : Thread S} {s r : S} → SilentSteps a s r → ℕ
 silent_cost none = 0

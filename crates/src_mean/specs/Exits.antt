@@ -1,11 +1,11 @@
 -- Worked programs on ways out: each in C++, its functions as typed trees, and its events but the silent ones, which it ends with.
 use Rattle.std.specs.Prelude.{pos, true, false, List, [], ◌∷◌, Some, None, codes}
-use Rattle.tx_ints.specs.declared.kinds.IntKind.TheVariants.{Bool as BoolKind, Char, Int, ULong}
-use Rattle.tx_ints.specs.declared.kinds.BinOp.TheVariants.{Add, Sub, Eq}
-use Rattle.tx_events.specs.declared.End.TheVariants.{Exit, Terminate}
-use Rattle.tx_events.specs.declared.Event.{Event}
-use Rattle.tx_events.specs.declared.Event.TheVariants.{Load as Reads, Store as Writes, Out, BeginSync, EndSync, Stop}
-use Rattle.cpp_types.specs.Typ.{int, ptr, ref, array, class, void, signature, none as none_typs, more as more_typs}
+use Rattle.cpp_tree.specs.tx_ints.declared.kinds.IntKind.TheVariants.{Bool as BoolKind, Char, Int, ULong}
+use Rattle.cpp_tree.specs.tx_ints.declared.kinds.BinOp.TheVariants.{Add, Sub, Eq}
+use Rattle.cpp_tree.specs.tx_events.declared.End.TheVariants.{Exit, Terminate}
+use Rattle.cpp_tree.specs.tx_events.declared.Event.{Event}
+use Rattle.cpp_tree.specs.tx_events.declared.Event.TheVariants.{Load as Reads, Store as Writes, Out, BeginSync, EndSync, Stop}
+use Rattle.cpp_tree.specs.cpp_types.Typ.{int, ptr, ref, array, class, void, signature, none as none_typs, more as more_typs}
 use Rattle.cpp_tree.specs.declared.kinds.Builtin.TheVariants.{PutChar}
 use Rattle.cpp_tree.specs.declared.kinds.TKind.TheVariants.{Literal, Local, Global, Load, Convert, Retype, Binary, Conditional, Assign, Update, Call, Builtin, Throw, Rethrow, Store, Construct, Elements, Block, Init, Switch, Case, Default, Break, Return, Try, Handler, Synchronized, Destroy, Field}
 use Rattle.cpp_tree.specs.declared.program.FuncKind.TheVariants.{Plain, Constructor, Destructor}

@@ -1,11 +1,11 @@
 -- What a thread has left to do.
 use Rattle.std.specs.Prelude.{ℕ, Bool, true, false, cond, List, [], ◌∷◌, Option, Some, None}
-use Rattle.tx_ints.specs.declared.kinds.IntKind.{IntKind}
-use Rattle.tx_ints.specs.declared.kinds.BinOp.{BinOp}
-use Rattle.tx_events.specs.declared.End.{End}
-use Rattle.tx_events.specs.declared.Event.{Event}
-use Rattle.tx_events.specs.Thread.{Open}
-use Rattle.cpp_types.specs.Typ.{Typ, Signature}
+use Rattle.cpp_tree.specs.tx_ints.declared.kinds.IntKind.{IntKind}
+use Rattle.cpp_tree.specs.tx_ints.declared.kinds.BinOp.{BinOp}
+use Rattle.cpp_tree.specs.tx_events.declared.End.{End}
+use Rattle.cpp_tree.specs.tx_events.declared.Event.{Event}
+use Rattle.cpp_tree.specs.tx_events.Thread.{Open}
+use Rattle.cpp_tree.specs.cpp_types.Typ.{Typ, Signature}
 use Rattle.cpp_tree.specs.declared.kinds.Builtin.{Builtin}
 use Rattle.cpp_tree.specs.declared.kinds.TKind.{TKind}
 use Rattle.cpp_tree.specs.Trees.{Tree, Trees, none, more}

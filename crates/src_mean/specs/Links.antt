@@ -1,22 +1,22 @@
 -- The linked program of typed units: which definitions are kept, their numbers and addresses.
 use Rattle.std.specs.Prelude.{ℕ, zero, suc, ◌+◌, ◌==◌, Bool, true, false, not, cond, nat_lt, ◌&&◌, ◌||◌, List, [], ◌∷◌, ◌++◌, map, filter, take, Option, Some, None, is_some, option_map, option_and_then, unwrap_or, slice_get, ◌%◌, ◌^◌}
 use Rattle.std.specs.List.{list_any}
-use Rattle.tx_ints.specs.declared.kinds.IntKind.{IntKind}
-use Rattle.tx_ints.specs.declared.kinds.IntKind.TheVariants.{ULong}
-use Rattle.cpp_types.specs.Typ.{Typ, typ, Signature, signature}
-use Rattle.cpp_types.specs.Class.{Class}
-use Rattle.cpp_types.specs.Conversion.{bases}
-use Rattle.cpp_types.specs.Equal.{name_eq}
-use Rattle.cpp_types.specs.Spelling.{function_spelling}
-use Rattle.cpp_layout.specs.Layout.{extent_of, next_multiple, frame_size, function_address, table_address}
-use Rattle.cpp_layout.specs.Frames.{offsets_after, item_extents}
+use Rattle.cpp_tree.specs.tx_ints.declared.kinds.IntKind.{IntKind}
+use Rattle.cpp_tree.specs.tx_ints.declared.kinds.IntKind.TheVariants.{ULong}
+use Rattle.cpp_tree.specs.cpp_types.Typ.{Typ, typ, Signature, signature}
+use Rattle.cpp_tree.specs.cpp_types.Class.{Class}
+use Rattle.cpp_tree.specs.cpp_types.Conversion.{bases}
+use Rattle.cpp_tree.specs.cpp_types.Equal.{name_eq}
+use Rattle.cpp_tree.specs.cpp_types.Spelling.{function_spelling}
+use Rattle.cpp_tree.specs.cpp_layout.Layout.{extent_of, next_multiple, frame_size, function_address, table_address}
+use Rattle.cpp_tree.specs.cpp_layout.Frames.{offsets_after, item_extents}
 use Rattle.cpp_tree.specs.declared.program.Linkage.{Linkage}
 use Rattle.cpp_tree.specs.declared.program.Linkage.TheVariants.{External, Internal, Inline}
 use Rattle.cpp_tree.specs.declared.program.FuncKind.{FuncKind}
 use Rattle.cpp_tree.specs.declared.program.FuncKind.TheVariants.{Plain, Constructor, Destructor, ClosureCall}
 use Rattle.cpp_tree.specs.declared.program.CellKind.{CellKind}
 use Rattle.cpp_tree.specs.declared.program.CellKind.TheVariants.{Number, GlobalAddr, FuncAddr}
-use Rattle.tx_events.specs.declared.GlobalCell.{GlobalCell}
+use Rattle.cpp_tree.specs.tx_events.declared.GlobalCell.{GlobalCell}
 use Rattle.cpp_tree.specs.Trees.{literal}
 use Rattle.cpp_tree.specs.Typing.{kind_in}
 use Rattle.cpp_tree.specs.Units.{Func as UnitFunc, Global, Cell, Definition, SlotFunc, Unit as TypedUnit, TypedProgram}

@@ -1,9 +1,9 @@
 -- Short forms for the units of worked programs.
 use Rattle.std.specs.Prelude.{ℕ, suc, Bool, true, false, List, [], ◌∷◌, ◌++◌, map, Option, Some, None, codes}
 use Rattle.std.specs.List.{list_all}
-use Rattle.cpp_types.specs.Typ.{Typ, void, Signature, signature, none as none_typs}
-use Rattle.cpp_types.specs.Class.{Class, Member, Function}
-use Rattle.cpp_types.specs.declared.classes.Safety.TheVariants.{None as Unsaid}
+use Rattle.cpp_tree.specs.cpp_types.Typ.{Typ, void, Signature, signature, none as none_typs}
+use Rattle.cpp_tree.specs.cpp_types.Class.{Class, Member, Function}
+use Rattle.cpp_tree.specs.cpp_types.declared.classes.Safety.TheVariants.{None as Unsaid}
 use Rattle.cpp_tree.specs.declared.program.FuncKind.{FuncKind}
 use Rattle.cpp_tree.specs.declared.program.Linkage.TheVariants.{External}
 use Rattle.cpp_tree.specs.Trees.{Tree, nowhere}

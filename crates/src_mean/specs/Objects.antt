@@ -1,12 +1,12 @@
 -- Worked programs on objects: each in C++, its functions as typed trees, and its events but the silent ones, which it ends with.
 use Rattle.std.specs.Prelude.{pos, true, false, List, [], ◌∷◌, Some, None, codes}
-use Rattle.tx_ints.specs.declared.kinds.IntKind.TheVariants.{Bool as BoolKind, Char, Int, ULong}
-use Rattle.tx_ints.specs.declared.kinds.BinOp.TheVariants.{Add}
-use Rattle.tx_events.specs.declared.BlockKind.TheVariants.{NoExcept}
-use Rattle.tx_events.specs.declared.End.TheVariants.{Exit}
-use Rattle.tx_events.specs.declared.Event.{Event}
-use Rattle.tx_events.specs.declared.Event.TheVariants.{Load as Reads, Store as Writes, Out, BeginAtomic, EndAtomic, Stop}
-use Rattle.cpp_types.specs.Typ.{int, ptr, ref, class, closure, void, signature, none as none_typs, more as more_typs}
+use Rattle.cpp_tree.specs.tx_ints.declared.kinds.IntKind.TheVariants.{Bool as BoolKind, Char, Int, ULong}
+use Rattle.cpp_tree.specs.tx_ints.declared.kinds.BinOp.TheVariants.{Add}
+use Rattle.cpp_tree.specs.tx_events.declared.BlockKind.TheVariants.{NoExcept}
+use Rattle.cpp_tree.specs.tx_events.declared.End.TheVariants.{Exit}
+use Rattle.cpp_tree.specs.tx_events.declared.Event.{Event}
+use Rattle.cpp_tree.specs.tx_events.declared.Event.TheVariants.{Load as Reads, Store as Writes, Out, BeginAtomic, EndAtomic, Stop}
+use Rattle.cpp_tree.specs.cpp_types.Typ.{int, ptr, ref, class, closure, void, signature, none as none_typs, more as more_typs}
 use Rattle.cpp_tree.specs.declared.kinds.Builtin.TheVariants.{PutChar}
 use Rattle.cpp_tree.specs.declared.kinds.TKind.TheVariants.{Literal, Local, ClassTable, Load, Convert, Retype, Binary, Conditional, Assign, Update, Materialize, FullExpression, Call, VirtualCall, Builtin, Throw, Store, Construct, Pieces, Piece, Block, Init, Defer, Return, Try, Handler, Atomic, Destroy, Field}
 use Rattle.cpp_tree.specs.declared.program.FuncKind.TheVariants.{Plain, Constructor, Destructor, ClosureCall}

@@ -1,14 +1,14 @@
 -- Thread 0 alone with a memory and no input: what worked programs come to.
 use Rattle.std.specs.Prelude.{ℕ, zero, suc, negsuc, true, false, List, [], ◌∷◌, reverse, Option, Some, None}
-use Rattle.tx_events.specs.declared.BlockKind.TheVariants.{NoExcept, Commit, Cancel}
-use Rattle.tx_events.specs.declared.End.{End}
-use Rattle.tx_events.specs.declared.End.TheVariants.{Abort}
-use Rattle.tx_events.specs.declared.Event.{Event}
-use Rattle.tx_events.specs.declared.Event.TheVariants.{Silent, Load, Store, Out, Inp, Spawn, Join, BeginAtomic, EndAtomic, Raise, BeginSync, EndSync, Done, Stop}
-use Rattle.tx_events.specs.declared.Reply.{Reply}
-use Rattle.tx_events.specs.declared.Reply.TheVariants.{Nothing, Loaded, Byte}
-use Rattle.tx_events.specs.declared.GlobalCell.{GlobalCell}
-use Rattle.tx_events.specs.Memory.{load, store, no_bytes, with_cells}
+use Rattle.cpp_tree.specs.tx_events.declared.BlockKind.TheVariants.{NoExcept, Commit, Cancel}
+use Rattle.cpp_tree.specs.tx_events.declared.End.{End}
+use Rattle.cpp_tree.specs.tx_events.declared.End.TheVariants.{Abort}
+use Rattle.cpp_tree.specs.tx_events.declared.Event.{Event}
+use Rattle.cpp_tree.specs.tx_events.declared.Event.TheVariants.{Silent, Load, Store, Out, Inp, Spawn, Join, BeginAtomic, EndAtomic, Raise, BeginSync, EndSync, Done, Stop}
+use Rattle.cpp_tree.specs.tx_events.declared.Reply.{Reply}
+use Rattle.cpp_tree.specs.tx_events.declared.Reply.TheVariants.{Nothing, Loaded, Byte}
+use Rattle.cpp_tree.specs.tx_events.declared.GlobalCell.{GlobalCell}
+use Rattle.cpp_tree.specs.tx_events.Memory.{load, store, no_bytes, with_cells}
 use Rattle.cpp_tree.specs.Units.{TypedProgram}
 use Rattle.src_mean.specs.Linked.{Program}
 use Rattle.src_mean.specs.Links.{first_cells}

@@ -1,24 +1,24 @@
 -- The source thread: what a node does, event by event (C++14 clauses 5, 6, 8.5, 12, 15; the TS).
 use Rattle.std.specs.Prelude.{ℕ, zero, suc, ℤ, pos, ◌+◌, ◌*◌, ◌^◌, ◌%◌, ◌==◌, Bool, true, false, not, cond, nat_lt, ◌||◌, List, [], ◌∷◌, ◌++◌, Option, Some, None, Result, Ok, Err, slice_get, unwrap_or}
-use Rattle.tx_ints.specs.declared.kinds.IntKind.{IntKind}
-use Rattle.tx_ints.specs.declared.kinds.IntKind.TheVariants.{Int, Long}
-use Rattle.tx_ints.specs.declared.kinds.BinOp.{BinOp}
-use Rattle.tx_ints.specs.declared.kinds.ArithTrap.{ArithTrap}
-use Rattle.tx_ints.specs.declared.kinds.ArithTrap.TheVariants.{Overflow as Overflows, DivideByZero as DividesByZero, ShiftRange as ShiftsBeyond}
-use Rattle.tx_ints.specs.Integers.{apply_of, is_shift}
-use Rattle.tx_ints.specs.Words.{word_of, value_of_word}
-use Rattle.tx_events.specs.declared.Trap.{Trap}
-use Rattle.tx_events.specs.declared.Trap.TheVariants.{Overflow, DivideByZero, ShiftRange, StackOverflow, UnsafeCall, BadCall, BadVirtual}
-use Rattle.tx_events.specs.declared.End.{End}
-use Rattle.tx_events.specs.declared.End.TheVariants.{Exit as Exits, Abort as Aborts, Terminate, Trapped}
-use Rattle.tx_events.specs.declared.Event.{Event}
-use Rattle.tx_events.specs.declared.Event.TheVariants.{Silent, Load as Reads, Store as Writes, Out, Inp, Spawn as Spawns, Join as Joins, BeginAtomic, EndAtomic, Raise, BeginSync, EndSync, Done, Stop}
-use Rattle.tx_events.specs.declared.Reply.{Reply}
-use Rattle.tx_events.specs.declared.Reply.TheVariants.{Nothing, Loaded as WasRead, Byte, Id}
-use Rattle.tx_events.specs.Thread.{Thread, Open, Atomic as AtomicBlock, Sync, no_atomic}
-use Rattle.tx_events.specs.Memory.{stacks_start, stack_stride, stack_size}
-use Rattle.cpp_types.specs.Typ.{Typ, typ, Form, void, int, ptr, func, Signature, signature, none as no_typs, more as more_typs}
-use Rattle.cpp_layout.specs.Layout.{kind_size, function_address}
+use Rattle.cpp_tree.specs.tx_ints.declared.kinds.IntKind.{IntKind}
+use Rattle.cpp_tree.specs.tx_ints.declared.kinds.IntKind.TheVariants.{Int, Long}
+use Rattle.cpp_tree.specs.tx_ints.declared.kinds.BinOp.{BinOp}
+use Rattle.cpp_tree.specs.tx_ints.declared.kinds.ArithTrap.{ArithTrap}
+use Rattle.cpp_tree.specs.tx_ints.declared.kinds.ArithTrap.TheVariants.{Overflow as Overflows, DivideByZero as DividesByZero, ShiftRange as ShiftsBeyond}
+use Rattle.cpp_tree.specs.tx_ints.Integers.{apply_of, is_shift}
+use Rattle.cpp_tree.specs.tx_ints.Words.{word_of, value_of_word}
+use Rattle.cpp_tree.specs.tx_events.declared.Trap.{Trap}
+use Rattle.cpp_tree.specs.tx_events.declared.Trap.TheVariants.{Overflow, DivideByZero, ShiftRange, StackOverflow, UnsafeCall, BadCall, BadVirtual}
+use Rattle.cpp_tree.specs.tx_events.declared.End.{End}
+use Rattle.cpp_tree.specs.tx_events.declared.End.TheVariants.{Exit as Exits, Abort as Aborts, Terminate, Trapped}
+use Rattle.cpp_tree.specs.tx_events.declared.Event.{Event}
+use Rattle.cpp_tree.specs.tx_events.declared.Event.TheVariants.{Silent, Load as Reads, Store as Writes, Out, Inp, Spawn as Spawns, Join as Joins, BeginAtomic, EndAtomic, Raise, BeginSync, EndSync, Done, Stop}
+use Rattle.cpp_tree.specs.tx_events.declared.Reply.{Reply}
+use Rattle.cpp_tree.specs.tx_events.declared.Reply.TheVariants.{Nothing, Loaded as WasRead, Byte, Id}
+use Rattle.cpp_tree.specs.tx_events.Thread.{Thread, Open, Atomic as AtomicBlock, Sync, no_atomic}
+use Rattle.cpp_tree.specs.tx_events.Memory.{stacks_start, stack_stride, stack_size}
+use Rattle.cpp_tree.specs.cpp_types.Typ.{Typ, typ, Form, void, int, ptr, func, Signature, signature, none as no_typs, more as more_typs}
+use Rattle.cpp_tree.specs.cpp_layout.Layout.{kind_size, function_address}
 use Rattle.cpp_tree.specs.declared.kinds.Builtin.{Builtin}
 use Rattle.cpp_tree.specs.declared.kinds.Builtin.TheVariants.{PutChar, GetChar, Spawn as SpawnThread, Join as JoinThread, Abort as AbortProgram}
 use Rattle.cpp_tree.specs.declared.kinds.TKind.{TKind}

@@ -1,8 +1,8 @@
 //! Worked programs, and all that they do: the events of thread 0 but the silent ones, and the end. A function here does
 //! nothing: its clauses are computed by the check. Each program stands in `specs/`, in C++ beside its typed trees.
 ghost use Rattle.std.specs.Prelude.{◌≡◌, pos, true};
-ghost use Rattle.tx_events.specs.declared.End.TheVariants.{Exit, Abort, Terminate, Trapped};
-ghost use Rattle.tx_events.specs.declared.Trap.TheVariants.{Overflow};
+ghost use Rattle.cpp_tree.specs.tx_events.declared.End.TheVariants.{Exit, Abort, Terminate, Trapped};
+ghost use Rattle.cpp_tree.specs.tx_events.declared.Trap.TheVariants.{Overflow};
 ghost use Rattle.src_mean.specs.Notation.{bodies_fit};
 ghost use Rattle.src_mean.specs.Runs.{outcome, ends};
 ghost use Rattle.src_mean.specs.Blocks.{return_zero, return_zero_events, thin_path, thin_path_events, thin_path_overflow, thin_path_overflow_events, cancelled_block, cancelled_block_events, inner_cancel, inner_cancel_events, commit_on_throw, commit_on_throw_events, cancel_of_int, cancel_of_int_events};

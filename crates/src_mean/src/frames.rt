@@ -5,7 +5,7 @@ ghost use Rattle.cpp_tree.specs.declared.program.UnitTree.{UnitTree};
 ghost use Rattle.cpp_tree.specs.declared.program.TFunc.{TFunc};
 
 use cpp_tree::Program;
-use cpp_types::Ty;
+use cpp_tree::below::Ty;
 
 /// The items of a function's frame, by the index of its unit in the program and by its own in the unit: they lie one
 /// behind the other, each at the next multiple of its alignment.

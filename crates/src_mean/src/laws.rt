@@ -1,11 +1,11 @@
 //! What holds of the source thread of every program. A function here does nothing: its clauses are the laws.
 ghost use Rattle.std.specs.Prelude.{◌≡◌, ◌++◌, ◌∷◌, ℕ, ℤ, Bool, true, List};
 ghost use Rattle.std.specs.List.{list_all};
-ghost use Rattle.tx_events.specs.declared.End.TheVariants.{Terminate};
-ghost use Rattle.tx_events.specs.declared.Reply.{Reply};
-ghost use Rattle.tx_events.specs.declared.Reply.TheVariants.{Nothing};
-ghost use Rattle.tx_events.specs.declared.Event.TheVariants.{Silent, Stop};
-ghost use Rattle.tx_events.specs.Thread.{Lawful, is_silent};
+ghost use Rattle.cpp_tree.specs.tx_events.declared.End.TheVariants.{Terminate};
+ghost use Rattle.cpp_tree.specs.tx_events.declared.Reply.{Reply};
+ghost use Rattle.cpp_tree.specs.tx_events.declared.Reply.TheVariants.{Nothing};
+ghost use Rattle.cpp_tree.specs.tx_events.declared.Event.TheVariants.{Silent, Stop};
+ghost use Rattle.cpp_tree.specs.tx_events.Thread.{Lawful, is_silent};
 ghost use Rattle.cpp_tree.specs.Trees.{Tree};
 ghost use Rattle.src_mean.specs.Linked.{Program};
 ghost use Rattle.src_mean.specs.Exceptions.{Exception};

@@ -1,8 +1,8 @@
 -- Steps that look at kids, at what stands at a root, and at objects that wait.
 use Rattle.std.proofs.Common.{◌≡◌, ℕ, List, ◌∷◌, refl, ap, true, false}
 use Rattle.std.specs.Prelude.{Some, None}
-use Rattle.tx_events.specs.declared.Event.TheVariants.{Silent}
-use Rattle.cpp_types.specs.Typ.{Typ}
+use Rattle.cpp_tree.specs.tx_events.declared.Event.TheVariants.{Silent}
+use Rattle.cpp_tree.specs.cpp_types.Typ.{Typ}
 use Rattle.cpp_tree.specs.declared.kinds.TKind.{TKind}
 use Rattle.cpp_tree.specs.declared.kinds.TKind.TheVariants.{Literal, Local, Global, Function, ClassTable, Load, Convert, Retype, Binary, Conditional, Comma, Assign, Update, CopyAssign, Materialize, FullExpression, Call, VirtualCall, PointerCall, Builtin, Throw, Rethrow, Store, CopyScalar, Construct, CopyConstruct, CopyFrom, Pieces, Piece, Elements, Block, Init, Defer, Loop, Switch, Case, Default, Break, Continue, Return, Try, Handler, Atomic, Synchronized, Destroy, Field}
 use Rattle.cpp_tree.specs.Trees.{Tree, node, Trees, none, more, first, rest, kind_of, kids_of}

@@ -1,7 +1,7 @@
 //! How a thread goes on with a value.
 
 ghost use Rattle.std.specs.Prelude.{◌≡◌, ◌∷◌, ℕ, IfOk, OnOk};
-ghost use Rattle.tx_events.specs.declared.Event.TheVariants.{Silent};
+ghost use Rattle.cpp_tree.specs.tx_events.declared.Event.TheVariants.{Silent};
 ghost use Rattle.src_mean.specs.Source.{give, end_of as end_of_block};
 ghost use Rattle.src_mean.specs.Frames.{at, value as for_value, into, Run as Runs, Apply as Applies, UpdateBy as UpdatesBy};
 ghost use Rattle.src_bind.specs.Bounds.{given};
@@ -14,14 +14,13 @@ use crate::running::run;
 use crate::stack::pop_frame;
 use crate::statements::give_statement;
 use crate::throwing::give_exception;
+use cpp_tree::below::{BinOp, End, Event, IntKind};
 use src_bind::Bound;
 use src_frames::frames::{BlockFrame, Change, EndFrame, Frame, Open, ValueFrame, Way};
 use src_frames::state::{Going, State};
 use src_frames::trees::TreeAt;
 use src_frames::words::{applied, converted, int_value, trap_of};
 use std::alloc::AllocError;
-use tx_events::{End, Event};
-use tx_ints::{BinOp, IntKind};
 
 // The last event of a block that is left by its end.
 fn end_of(block: Open) -> Event

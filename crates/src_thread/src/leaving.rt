@@ -12,6 +12,7 @@ ghost use Rattle.src_thread.specs.Left.{left_on};
 use crate::objects::{clean, end_full};
 use crate::stack::pop_frame;
 use crate::statements::run_step;
+use cpp_tree::below::{End, Event};
 use src_bind::Bound;
 use src_frames::frames::{
     BlockFrame, CallFrame, EndFrame, Exception, ExceptionFrame, Exit, Frame, Here, LoopParts,
@@ -21,7 +22,6 @@ use src_frames::state::{Going, State};
 use src_frames::texts::cancels;
 use src_frames::trees::{KidsAt, head, rest};
 use std::alloc::AllocError;
-use tx_events::{End, Event};
 
 // What a frame does with what goes outward. On `AllocError` the state is of no more use.
 type Minding = Result<Left, AllocError>;

@@ -1,7 +1,7 @@
 //! Objects, from their initialisation to their destruction (C++14 12.2, 12.4, 12.6).
 
 ghost use Rattle.std.specs.Prelude.{◌≡◌, ◌*◌, ◌∷◌, [], IfOk};
-ghost use Rattle.tx_events.specs.declared.Event.TheVariants.{Silent};
+ghost use Rattle.cpp_tree.specs.tx_events.declared.Event.TheVariants.{Silent};
 ghost use Rattle.cpp_tree.specs.declared.program.Program.{Program};
 ghost use Rattle.cpp_tree.specs.Trees.{literal};
 ghost use Rattle.src_mean.specs.Frames.{at, into, of_pieces, Run as Runs, Keeps as KeepsSome, Waits as WaitsIn, InitAt as InitsAt, Cleans as CleansAll, Due as DueAt, Destroys as DestroysSome, Parts as PartsOf, Each as EachOf};

@@ -5,7 +5,7 @@ ghost use Rattle.src_mean.specs.Source.{is_case as is_case_kind, is_default as i
 ghost use Rattle.src_thread.specs.Kinds.{destroy_in, field_in, place_in};
 
 use cpp_tree::TKind;
-use tx_ints::IntKind;
+use cpp_tree::below::IntKind;
 
 /// A field of an exception.
 #[derive(Clone, Copy, Debug, PartialEq, Eq)]

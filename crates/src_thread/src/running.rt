@@ -1,7 +1,7 @@
 //! What a node does first.
 
 ghost use Rattle.std.specs.Prelude.{◌≡◌, ◌∷◌, IfOk};
-ghost use Rattle.tx_events.specs.declared.Event.TheVariants.{Silent};
+ghost use Rattle.cpp_tree.specs.tx_events.declared.Event.TheVariants.{Silent};
 ghost use Rattle.cpp_tree.specs.Trees.{kind_of as root_kind, kids_of as kids_in, first as first_kid, second as second_kid, third as third_kid};
 ghost use Rattle.src_mean.specs.Source.{give, run_node, target_of as target_in};
 ghost use Rattle.src_mean.specs.Frames.{at, value as for_value, Run as Runs, Opens as OpensSo, StoreTo as StoresTo};
@@ -13,8 +13,8 @@ ghost use Rattle.src_frames.specs.Bounds.{tree_of, all_kids, here_of, frames_of,
 use crate::giving::{run_before, run_into};
 use crate::leaving::{leave, rethrow};
 use crate::statements::{run_body, run_test};
-use cpp_layout::fn_addr;
 use cpp_tree::TKind;
+use cpp_tree::below::{Event, IntKind, fn_addr};
 use src_bind::Bound;
 use src_frames::calls::{source_of, target_of};
 use src_frames::frames::{
@@ -25,8 +25,6 @@ use src_frames::state::{Going, State, place_address, unit_of};
 use src_frames::trees::{KidsAt, TreeAt, first, head, kids_of, kind_of, rest, second, third};
 use src_frames::words::plus;
 use std::mem;
-use tx_events::Event;
-use tx_ints::IntKind;
 
 // The parts of a loop.
 fn loop_parts(bound: &Bound<'_>, kids: KidsAt) -> LoopParts

@@ -1,7 +1,7 @@
 //! Statements (C++14 clause 6).
 
 ghost use Rattle.std.specs.Prelude.{◌≡◌, ◌∷◌, ℕ, IfOk};
-ghost use Rattle.tx_events.specs.declared.Event.TheVariants.{Silent};
+ghost use Rattle.cpp_tree.specs.tx_events.declared.Event.TheVariants.{Silent};
 ghost use Rattle.src_mean.specs.Source.{give, is_case as is_case_kind, is_default as is_default_kind, from_label, run_items as runs_items, compare as compares};
 ghost use Rattle.src_mean.specs.Frames.{at, value as for_value, Run as Runs, Items as ItemsOf, Test as Tests, Body as Bodies, Step as Steps};
 ghost use Rattle.src_bind.specs.Bounds.{given};

@@ -7,14 +7,13 @@ ghost use Rattle.src_frames.specs.Bounds.{here_of, frames_of, linked_in, state_o
 ghost use Rattle.src_thread.specs.Thread.{program_of, shown};
 
 use crate::giving::give;
+use cpp_tree::below::{Event, Reply, Trap, word_of};
 use src_bind::Bound;
 use src_frames::calls::thread_func;
 use src_frames::frames::{EndFrame, Frame};
 use src_frames::state::{State, empty_stack};
 use src_frames::words::reply_word;
 use std::alloc::{AllocError, Global};
-use tx_events::{Event, Reply, Trap};
-use tx_ints::word_of;
 
 /// A thread of a bound program, which it shares with the other threads.
 #[derive(Drop)]

@@ -1,8 +1,8 @@
 //! Exceptions and their handlers (C++14 15.1, 15.3).
 
 ghost use Rattle.std.specs.Prelude.{◌≡◌, ◌∷◌, ℕ, false, IfOk};
-ghost use Rattle.tx_events.specs.declared.Event.TheVariants.{Silent};
-ghost use Rattle.cpp_layout.specs.Layout.{kind_size};
+ghost use Rattle.cpp_tree.specs.tx_events.declared.Event.TheVariants.{Silent};
+ghost use Rattle.cpp_tree.specs.cpp_layout.Layout.{kind_size};
 ghost use Rattle.cpp_tree.specs.declared.program.Program.{Program};
 ghost use Rattle.src_mean.specs.Exceptions.{no_bytes as zero_bytes, bytes_of, with_bytes as bytes_put, read_bytes as bytes_read};
 ghost use Rattle.src_mean.specs.Frames.{at, Gives as GivesWord, Fills as FillsIn, Trying as TryingOne, Takes as TakesOf};
@@ -14,6 +14,7 @@ ghost use Rattle.src_frames.specs.Bounds.{tree_of, all_kids, here_of, frames_of,
 use crate::leaving::leave;
 use crate::roots::{FieldAt, field_of, handler_place};
 use cpp_tree::TKind;
+use cpp_tree::below::IntKind;
 use src_bind::Bound;
 use src_frames::bytes::{read_bytes, with_bytes};
 use src_frames::frames::{Exception, ExceptionFrame, Exit, Frame, Way};
@@ -21,7 +22,6 @@ use src_frames::state::{Going, State, place_address};
 use src_frames::texts::{catches, is_object};
 use src_frames::trees::{KidsAt, TreeAt, first, head, kids_of, kind_of, rest};
 use src_frames::words::plus;
-use tx_ints::IntKind;
 
 // An exception of zero bytes.
 fn no_bytes(thrown: TreeAt) -> Exception

@@ -11,6 +11,7 @@ ghost use Rattle.cpp_tree.specs.WellFormed.{is_zero_of as is_zero_form, zero_typ
 ghost use Rattle.tree_heads.specs.Shown.{part_shown, part_typ};
 ghost use Rattle.tree_check.specs.Walk.{has_none, is_zero_piece};
 
+use cpp_tree::below::IntKind;
 use cpp_tree::{TKind, TNode, TNodeId, UnitTree};
 use cpp_types::{ClassRec, Shape, Ty, equal_shapes};
 use tree_heads::heads::is_prvalue;
@@ -19,7 +20,6 @@ use tree_heads::sizes::{has_size, is_sized};
 use tree_heads::types::{is_kind, is_plain_int, is_statement_type, kind_in, same_flag};
 use tree_nodes::nodes::{node_at, only_kid};
 use tree_rows::settings::Setting;
-use tx_ints::IntKind;
 
 /// The shape of the value in a `std::tx_exception`, else the shape of the type.
 fn shape_to_zero(ty: &Ty) -> &Shape

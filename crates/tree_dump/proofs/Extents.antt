@@ -1,12 +1,12 @@
 -- Classes whose objects have sizes.
 use Rattle.std.proofs.Common.{◌≡◌, ◌<◌, ℕ, suc, true, List, [], ◌∷◌, length, map, slice_get, Option, Some, None, is_some, refl, sym, ◌∙◌, ap, arith}
-use Rattle.cpp_types.specs.declared.classes.ClassRec.{ClassRec}
-use Rattle.cpp_types.specs.declared.classes.MemberRec.{MemberRec}
-use Rattle.cpp_types.specs.Typ.{Form}
-use Rattle.cpp_types.specs.Class.{Class, InOrder, class_of, member_of, completion_of, held_form}
-use Rattle.cpp_types.specs.Order.{all_consistent}
-use Rattle.cpp_types.proofs.OrderTests.{order_is}
-use Rattle.cpp_layout.specs.Measured.{IsComplete, HoldsComplete, HasMember}
+use Rattle.cpp_tree.specs.cpp_types.declared.classes.ClassRec.{ClassRec}
+use Rattle.cpp_tree.specs.cpp_types.declared.classes.MemberRec.{MemberRec}
+use Rattle.cpp_tree.specs.cpp_types.Typ.{Form}
+use Rattle.cpp_tree.specs.cpp_types.Class.{Class, InOrder, class_of, member_of, completion_of, held_form}
+use Rattle.cpp_tree.specs.cpp_types.Order.{all_consistent}
+use Rattle.cpp_tree.proofs.cpp_types.OrderTests.{order_is}
+use Rattle.cpp_tree.specs.cpp_layout.Measured.{IsComplete, HoldsComplete, HasMember}
 use Rattle.tree_dump.specs.Sized.{is_known, is_whole}
 
 pub in_order : (classes : List Class) → all_consistent classes ≡ true → InOrder classes

@@ -1,7 +1,7 @@
 -- Classes whose objects have sizes.
 use Rattle.std.specs.Prelude.{ℕ, Bool, true, List, Option, Some, None, is_some}
-use Rattle.cpp_types.specs.Typ.{Form}
-use Rattle.cpp_types.specs.Class.{Class, completion_of, held_form}
+use Rattle.cpp_tree.specs.cpp_types.Typ.{Form}
+use Rattle.cpp_tree.specs.cpp_types.Class.{Class, completion_of, held_form}
 
 abbrev pub is_known : List Class → Option ℕ → Bool
 is_known classes None = true

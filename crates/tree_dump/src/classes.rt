@@ -4,9 +4,8 @@ use crate::kinds::Named;
 use crate::sections::Section;
 use crate::sizes::{Ordered, offset_of, size_of};
 use crate::texts::{put, put_if, put_name, put_number, put_type, put_word, type_of_class};
-use cpp_layout::has_pointer;
+use cpp_tree::below::{ClassRec, MemberRec, has_pointer};
 use cpp_tree::{Program, SlotRec, UnitTree};
-use cpp_types::{ClassRec, MemberRec};
 use std::alloc::{AllocError, Global};
 
 // Where the base of a class ends.

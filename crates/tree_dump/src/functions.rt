@@ -6,8 +6,8 @@ use crate::nodes::{put_place, put_tree};
 use crate::places::Place;
 use crate::sections::Section;
 use crate::texts::{put, put_if, put_number, put_type, put_word};
+use cpp_tree::below::{Safety, Ty};
 use cpp_tree::{FuncKind, TFunc, TNodeId, TParam, UnitTree};
-use cpp_types::{Safety, Ty};
 use std::alloc::{AllocError, Global};
 
 fn kind_name(kind: FuncKind) -> &'static [u8] {

@@ -2,10 +2,9 @@
 
 use crate::sizes::Ordered;
 use crate::texts::{put, put_if, put_name, put_number, put_type, put_word, type_of_class};
+use cpp_tree::below::{BinOp, BlockKind, IntKind};
 use cpp_tree::{Builtin, TFunc, TGlobal, TKind};
 use std::alloc::{AllocError, Global};
-use tx_events::BlockKind;
-use tx_ints::{BinOp, IntKind};
 
 /// What nodes name by numbers.
 #[derive(Clone, Copy)]

@@ -5,8 +5,8 @@ ghost use Rattle.std.specs.Prelude.{◌≡◌, ◌<◌, length};
 use crate::kinds::{Named, put_node_kind};
 use crate::places::Place;
 use crate::texts::{put, put_indent, put_number, put_type};
+use cpp_tree::below::{At, Cat, Shape, Ty};
 use cpp_tree::{TNode, TNodeId};
-use cpp_types::{At, Cat, Shape, Ty};
 use std::alloc::{AllocError, Global};
 
 /// Puts a place.

@@ -1,15 +1,14 @@
 // Sizes of objects, and where their members lie.
 
 ghost use Rattle.std.specs.Prelude.{◌≡◌, true, IsSome};
-ghost use Rattle.cpp_types.specs.Typ.{shape_form};
-ghost use Rattle.cpp_types.specs.Class.{classes_of, completion_of};
-ghost use Rattle.cpp_types.specs.Order.{all_consistent};
+ghost use Rattle.cpp_tree.specs.cpp_types.Typ.{shape_form};
+ghost use Rattle.cpp_tree.specs.cpp_types.Class.{classes_of, completion_of};
+ghost use Rattle.cpp_tree.specs.cpp_types.Order.{all_consistent};
 ghost use Rattle.tree_dump.specs.Sized.{is_whole as is_whole_in};
 
-use cpp_layout::{SizeAlign, offset, size_align};
-use cpp_types::classes::record_at;
-use cpp_types::copyability::held_class;
-use cpp_types::{ClassRec, Shape, Ty, is_in_order};
+use cpp_tree::below::{
+    ClassRec, Shape, SizeAlign, Ty, held_class, is_in_order, offset, record_at, size_align,
+};
 use std::alloc::AllocError;
 
 /// Classes that are in order, so that their objects have sizes.

@@ -1,6 +1,6 @@
 // Parts of lines.
 
-use cpp_types::{ClassRec, Shape, Ty, spell};
+use cpp_tree::below::{ClassRec, Shape, Ty, spell};
 use itoa::Buffer;
 use std::alloc::{AllocError, Global};
 

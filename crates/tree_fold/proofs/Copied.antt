@@ -4,8 +4,8 @@ use Rattle.std.specs.Prelude.{option_map, unwrap_or}
 use Rattle.std.specs.declared.alloc.AllocError.{AllocError}
 use Rattle.std.proofs.lemmas.Bool.{ltb-true, lt-ltb, and_parts}
 use Rattle.std.proofs.lemmas.Option.{slice_get_read}
-use Rattle.cpp_types.specs.Typ.{typ_of}
-use Rattle.cpp_types.specs.declared.ranks.Cat.TheVariants.{Prvalue}
+use Rattle.cpp_tree.specs.cpp_types.Typ.{typ_of}
+use Rattle.cpp_tree.specs.cpp_types.declared.ranks.Cat.TheVariants.{Prvalue}
 use Rattle.cpp_tree.specs.declared.kinds.TKind.TheVariants.{Literal}
 use Rattle.cpp_tree.specs.declared.arena.TNodeId.{TNodeId}
 use Rattle.cpp_tree.specs.declared.arena.TNode.{TNode}

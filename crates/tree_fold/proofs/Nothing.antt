@@ -6,9 +6,9 @@ use Rattle.std.proofs.lemmas.Option.{cond_some}
 use Rattle.tx_ints.specs.declared.kinds.IntKind.{IntKind}
 use Rattle.tx_ints.specs.declared.kinds.BinOp.{BinOp}
 use Rattle.tx_ints.specs.declared.kinds.ArithTrap.{ArithTrap}
-use Rattle.cpp_types.specs.Typ.{Typ}
-use Rattle.cpp_types.specs.declared.classes.At.{At}
-use Rattle.cpp_types.specs.declared.ranks.Cat.{Cat}
+use Rattle.cpp_tree.specs.cpp_types.Typ.{Typ}
+use Rattle.cpp_tree.specs.cpp_types.declared.classes.At.{At}
+use Rattle.cpp_tree.specs.cpp_types.declared.ranks.Cat.{Cat}
 use Rattle.cpp_tree.specs.declared.kinds.TKind.{TKind}
 use Rattle.cpp_tree.specs.declared.kinds.TKind.TheVariants.{Literal, Convert, Binary, Conditional, Comma}
 use Rattle.cpp_tree.specs.Trees.{Tree, node, Trees, none, more}

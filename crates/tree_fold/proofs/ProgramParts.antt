@@ -10,8 +10,8 @@ use Rattle.cpp_tree.specs.declared.program.TFunc.{TFunc}
 use Rattle.cpp_tree.specs.declared.program.UnitTree.{UnitTree}
 use Rattle.cpp_tree.specs.Trees.{Tree}
 use Rattle.cpp_tree.specs.Arena.{tree_at, Grows, Adds}
-use Rattle.cpp_types.specs.declared.classes.ClassRec.{ClassRec}
-use Rattle.cpp_types.specs.Class.{classes_of}
+use Rattle.cpp_tree.specs.cpp_types.declared.classes.ClassRec.{ClassRec}
+use Rattle.cpp_tree.specs.cpp_types.Class.{classes_of}
 use Rattle.cpp_tree.specs.declared.program.Program.{Program}
 use Rattle.cpp_tree.specs.Units.{Func, Unit as TypedUnit, func_of, unit_of, program_of}
 use Rattle.tx_unsafe.specs.Volatile.{marked, has_volatile_part}

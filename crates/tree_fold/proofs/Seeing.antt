@@ -4,10 +4,10 @@ use Rattle.std.specs.Prelude.{option_map, unwrap_or}
 use Rattle.std.proofs.lemmas.Bool.{ltb-true, and_parts, cases_lt}
 use Rattle.std.proofs.lemmas.Option.{slice_get-get_or, slice_get_within, get_or_from_slice_get, cond_some, slice_get_read}
 use Rattle.std.proofs.lemmas.List.{get_or_append_left, get_or_push}
-use Rattle.cpp_types.specs.Typ.{Typ, typ_of}
-use Rattle.cpp_types.specs.declared.classes.At.{At}
-use Rattle.cpp_types.specs.declared.ranks.Cat.{Cat}
-use Rattle.cpp_types.specs.declared.ranks.Cat.TheVariants.{Prvalue}
+use Rattle.cpp_tree.specs.cpp_types.Typ.{Typ, typ_of}
+use Rattle.cpp_tree.specs.cpp_types.declared.classes.At.{At}
+use Rattle.cpp_tree.specs.cpp_types.declared.ranks.Cat.{Cat}
+use Rattle.cpp_tree.specs.cpp_types.declared.ranks.Cat.TheVariants.{Prvalue}
 use Rattle.cpp_tree.specs.declared.kinds.TKind.{TKind}
 use Rattle.cpp_tree.specs.declared.kinds.TKind.TheVariants.{Literal, Convert, Binary, Conditional, Comma}
 use Rattle.cpp_tree.specs.declared.arena.TNodeId.{TNodeId}

@@ -1,7 +1,7 @@
 -- Operands that may be dropped where they are not run: they are not unsafe (the TS, [dcl.fct.def.tx]), and have in them no call, no lambda, and no name of
 -- a function or a global, strings included. So what a program refers to, what is unsafe in it and whom it calls stay.
 use Rattle.std.specs.Prelude.{ℕ, Bool, true, false, not, ◌&&◌, ◌||◌}
-use Rattle.cpp_types.specs.Typ.{Typ, typ, closure}
+use Rattle.cpp_tree.specs.cpp_types.Typ.{Typ, typ, closure}
 use Rattle.cpp_tree.specs.declared.kinds.TKind.{TKind}
 use Rattle.cpp_tree.specs.declared.kinds.TKind.TheVariants.{Literal, Local, ClassTable, Load, Convert, Retype, Binary, Conditional, Comma, Assign, Update, CopyAssign, Materialize, FullExpression, Throw, Rethrow, Store, CopyScalar, CopyFrom, Pieces, Piece, Elements, Field}
 use Rattle.cpp_tree.specs.Trees.{Tree, node, Trees, none, more}

@@ -4,7 +4,7 @@ use Rattle.tx_ints.specs.declared.kinds.IntKind.{IntKind}
 use Rattle.tx_ints.specs.declared.kinds.IntKind.TheVariants.{Bool as BoolKind, Int}
 use Rattle.tx_ints.specs.declared.kinds.BinOp.{BinOp}
 use Rattle.tx_ints.specs.declared.kinds.BinOp.TheVariants.{Div}
-use Rattle.cpp_types.specs.Typ.{Typ, int, ptr, enum}
+use Rattle.cpp_tree.specs.cpp_types.Typ.{Typ, int, ptr, enum}
 use Rattle.cpp_tree.specs.declared.kinds.TKind.TheVariants.{Literal, Local, Global, Load, Convert, Binary, Conditional, Comma, Call, Throw}
 use Rattle.cpp_tree.specs.Trees.{Tree}
 use Rattle.cpp_tree.specs.Notation.{plain, prvalue, lvalue}

@@ -1,10 +1,10 @@
 -- Constant folding of trees: kids first, then the node.
 use Rattle.std.specs.Prelude.{ℕ, Bool, true, false, not, ◌&&◌, ◌||◌, ◌==◌, Option, Some, None, unwrap_or, cond}
-use Rattle.cpp_types.specs.Typ.{Typ, typ, Form, void, enum, ptr}
-use Rattle.cpp_types.specs.Conversion.{is_object_form}
-use Rattle.cpp_types.specs.declared.classes.At.{At}
-use Rattle.cpp_types.specs.declared.ranks.Cat.{Cat}
-use Rattle.cpp_types.specs.declared.ranks.Cat.TheVariants.{Lvalue, Prvalue}
+use Rattle.cpp_tree.specs.cpp_types.Typ.{Typ, typ, Form, void, enum, ptr}
+use Rattle.cpp_tree.specs.cpp_types.Conversion.{is_object_form}
+use Rattle.cpp_tree.specs.cpp_types.declared.classes.At.{At}
+use Rattle.cpp_tree.specs.cpp_types.declared.ranks.Cat.{Cat}
+use Rattle.cpp_tree.specs.cpp_types.declared.ranks.Cat.TheVariants.{Lvalue, Prvalue}
 use Rattle.cpp_tree.specs.declared.kinds.TKind.{TKind}
 use Rattle.cpp_tree.specs.declared.kinds.TKind.TheVariants.{Literal, Conditional}
 use Rattle.cpp_tree.specs.Trees.{Tree, node, Trees, none, more, kind_of}

@@ -1,6 +1,6 @@
 -- Steps of a run without an event.
 use Rattle.std.specs.Prelude.{◌≡◌, ℕ, zero, suc, List, ◌∷◌}
-use Rattle.tx_events.specs.declared.Event.TheVariants.{Silent}
+use Rattle.cpp_tree.specs.tx_events.declared.Event.TheVariants.{Silent}
 use Rattle.cpp_tree.specs.Trees.{Tree}
 use Rattle.src_mean.specs.Linked.{Program}
 use Rattle.src_mean.specs.Frames.{Here, Way, value, Frame, Run, State, at}

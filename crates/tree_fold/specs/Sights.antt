@@ -1,8 +1,8 @@
 -- What is known of each node's folded tree, and what becomes of a node by that of its kids.
 use Rattle.std.specs.Prelude.{◌≡◌, ◌==◌, ℕ, Bool, true, false, nat_lt, ◌&&◌, List, [], ◌∷◌, length, get_or, slice_get, Option, Some, None, option_map, unwrap_or, cond}
 use Rattle.std.specs.List.{list_all}
-use Rattle.cpp_types.specs.Typ.{Typ, typ_of}
-use Rattle.cpp_types.specs.declared.ranks.Cat.{Cat}
+use Rattle.cpp_tree.specs.cpp_types.Typ.{Typ, typ_of}
+use Rattle.cpp_tree.specs.cpp_types.declared.ranks.Cat.{Cat}
 use Rattle.cpp_tree.specs.declared.arena.TNode.{TNode}
 use Rattle.cpp_tree.specs.declared.arena.TNodeId.{TNodeId}
 use Rattle.cpp_tree.specs.declared.kinds.TKind.{TKind}

@@ -1,14 +1,14 @@
 // Nodes that may be dropped.
 
 ghost use Rattle.std.specs.Prelude.{◌≡◌};
-ghost use Rattle.cpp_types.specs.Typ.{typ_of};
+ghost use Rattle.cpp_tree.specs.cpp_types.Typ.{typ_of};
 ghost use Rattle.cpp_tree.specs.Typing.{is_void};
 ghost use Rattle.tx_unsafe.specs.Volatile.{marked};
 ghost use Rattle.tree_fold.specs.Bare.{is_closure, is_bare_object, is_bare_node};
 
 use crate::volatility::{has_volatile, is_volatile_class};
 use cpp_tree::TKind;
-use cpp_types::{Shape, Ty};
+use cpp_tree::below::{Shape, Ty};
 
 fn is_closure(ty: &Ty) -> bool
     ensures { result ≡ is_closure (typ_of ty.now) }

@@ -1,8 +1,8 @@
 // Folded trees in another list of nodes.
 
 ghost use Rattle.std.specs.Prelude.{◌≡◌, ◌<◌, ℕ, Bool, ◌++◌, ◌∷◌, [], true, length, unwrap_or, IfOk, OnOk};
-ghost use Rattle.cpp_types.specs.Typ.{typ_of};
-ghost use Rattle.cpp_types.specs.declared.ranks.Cat.TheVariants.{Prvalue};
+ghost use Rattle.cpp_tree.specs.cpp_types.Typ.{typ_of};
+ghost use Rattle.cpp_tree.specs.cpp_types.declared.ranks.Cat.TheVariants.{Prvalue};
 ghost use Rattle.cpp_tree.specs.declared.kinds.TKind.TheVariants.{Literal};
 ghost use Rattle.cpp_tree.specs.Arena.{IsOrdered, are_below, trees_of, tree_of, tree_at, trees_at, Adds};
 ghost use Rattle.cpp_tree.specs.Trees.{node as node_of, none};
@@ -10,8 +10,8 @@ ghost use Rattle.tree_fold.specs.Folding.{taken, folded, all_folded};
 ghost use Rattle.tree_fold.specs.Sights.{AreSights, Adding};
 
 use crate::sights::{Sight, constant, taken};
+use cpp_tree::below::{Cat, copy};
 use cpp_tree::{TKind, TNode, TNodeId, add_leaf, add_node};
-use cpp_types::{Cat, copy};
 use std::alloc::{AllocError, Global};
 
 // The node with this id, which shows its tree, and whose kids stand before it.

@@ -1,9 +1,9 @@
 //! What holds of folded trees. A function here does nothing: its clauses are the laws.
 
 ghost use Rattle.std.specs.Prelude.{◌≡◌, ◌==◌, ℕ, Bool, true, List, Some, cond};
-ghost use Rattle.cpp_types.specs.Typ.{Typ};
-ghost use Rattle.cpp_types.specs.declared.classes.At.{At};
-ghost use Rattle.cpp_types.specs.declared.ranks.Cat.{Cat};
+ghost use Rattle.cpp_tree.specs.cpp_types.Typ.{Typ};
+ghost use Rattle.cpp_tree.specs.cpp_types.declared.classes.At.{At};
+ghost use Rattle.cpp_tree.specs.cpp_types.declared.ranks.Cat.{Cat};
 ghost use Rattle.cpp_tree.specs.declared.kinds.TKind.TheVariants.{Conditional};
 ghost use Rattle.cpp_tree.specs.Trees.{Tree, node, none, more};
 ghost use Rattle.cpp_tree.specs.Units.{TypedProgram};

@@ -1,7 +1,7 @@
 // What the folded tree of each node shows of itself.
 
 ghost use Rattle.std.specs.Prelude.{◌≡◌, ◌<◌, ◌++◌, ◌∷◌, [], ℕ, Some, true, IfOk, IfSome, OnOk, length, slice_get};
-ghost use Rattle.cpp_types.specs.Typ.{typ_of};
+ghost use Rattle.cpp_tree.specs.cpp_types.Typ.{typ_of};
 ghost use Rattle.cpp_tree.specs.declared.kinds.TKind.TheVariants.{Literal};
 ghost use Rattle.cpp_tree.specs.Typing.{is_prvalue, goes_both_ways};
 ghost use Rattle.cpp_tree.specs.Roles.{is_throw};
@@ -13,8 +13,8 @@ ghost use Rattle.tree_fold.specs.Sights.{AreSights, has_none, only_word, pair_of
 
 use crate::bare::is_bare_node;
 use crate::words::{Operands, comma_word, converted, operator_word};
+use cpp_tree::below::{Cat, Shape, Ty};
 use cpp_tree::{TKind, TNode, TNodeId};
-use cpp_types::{Cat, Shape, Ty};
 use std::alloc::{AllocError, Global};
 
 /// What the folded tree of a node shows of itself.

@@ -1,12 +1,11 @@
 // Which objects are volatile or have a volatile part.
 
 ghost use Rattle.std.specs.Prelude.{◌≡◌};
-ghost use Rattle.cpp_types.specs.Typ.{typ_of, shape_form};
+ghost use Rattle.cpp_tree.specs.cpp_types.Typ.{typ_of, shape_form};
 ghost use Rattle.cpp_tree.specs.Typing.{passes};
 ghost use Rattle.tx_unsafe.specs.Volatile.{is_volatile_object, is_volatile_form, is_class_object, is_volatile_class, marked};
 
-use cpp_types::copyability::held_class;
-use cpp_types::{Shape, Ty};
+use cpp_tree::below::{Shape, Ty, held_class};
 
 /// Whether an object of the type is volatile or has a volatile part; `volatile` tells which classes have one.
 #[cycle(objects)]

@@ -1,6 +1,6 @@
 -- The parts of a lambda's object, one after another.
 use Rattle.std.proofs.Common.{◌≡◌, ◌∙◌, ℕ, suc, ◌+◌, Bool, true, false, ◌||◌, List, ap, arith}
-use Rattle.cpp_types.specs.Class.{Class}
+use Rattle.cpp_tree.specs.cpp_types.Class.{Class}
 use Rattle.cpp_tree.specs.Typing.{passes}
 use Rattle.cpp_tree.specs.Parts.{Objects, part_of, are_captured, any_captured}
 

@@ -3,7 +3,7 @@ use Rattle.std.proofs.Common.{◌≡◌, ◌∙◌, ℕ, zero, suc, ◌+◌, ◌
 use Rattle.std.specs.Prelude.{nat_eq, nat_lt}
 use Rattle.std.proofs.Math.Seq.{drop-cons}
 use Rattle.std.proofs.Math.Dec.{eqb-suc-suc}
-use Rattle.cpp_types.specs.Typ.{Typ, typ, array}
+use Rattle.cpp_tree.specs.cpp_types.Typ.{Typ, typ, array}
 use Rattle.cpp_tree.specs.Parts.{is_last, is_piece_at, are_element_pieces}
 use Rattle.tree_heads.specs.declared.heads.Head.{Head}
 use Rattle.tree_heads.specs.Shown.{shown}

@@ -2,8 +2,8 @@
 use Rattle.std.proofs.Common.{◌≡◌, ◌∙◌, ℕ, zero, suc, ◌+◌, ◌/◌, ◌<◌, ◌≤◌, Bool, true, false, ◌&&◌, ◌==◌, length, map, drop, List, [], ◌∷◌, ◌++◌, Option, Some, None, cond, refl, sym, ap, arith}
 use Rattle.std.specs.Prelude.{nat_le}
 use Rattle.std.proofs.lemmas.Bool.{leb-true, leb-false}
-use Rattle.cpp_types.specs.Class.{Class}
-use Rattle.cpp_types.specs.Typ.{Typ}
+use Rattle.cpp_tree.specs.cpp_types.Class.{Class}
+use Rattle.cpp_tree.specs.cpp_types.Typ.{Typ}
 use Rattle.cpp_tree.specs.Typing.{Head, form_in}
 use Rattle.cpp_tree.specs.Parts.{Scalar, is_field_of, are_fields, stride_of, element_of, one_element, element_scalars, object_scalars}
 use Rattle.tree_heads.specs.Fields.{behind, left}

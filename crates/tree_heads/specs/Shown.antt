@@ -1,6 +1,6 @@
 -- What the check's own types show.
 use Rattle.std.specs.Prelude.{false}
-use Rattle.cpp_types.specs.Typ.{Typ, typ, class, typ_of}
+use Rattle.cpp_tree.specs.cpp_types.Typ.{Typ, typ, class, typ_of}
 use Rattle.cpp_tree.specs.Typing.{Head as NodeHead}
 use Rattle.cpp_tree.specs.Parts.{Part as ClassPart, Objects as DestroyedObjects}
 use Rattle.tree_heads.specs.declared.heads.Head.{Head}

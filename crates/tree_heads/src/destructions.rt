@@ -1,8 +1,8 @@
 // Destructions of what was built.
 
 ghost use Rattle.std.specs.Prelude.{◌≡◌, ℕ, List, false, option_map};
-ghost use Rattle.cpp_types.specs.Typ.{typ, class as class_form, typ_of};
-ghost use Rattle.cpp_types.specs.Class.{Class, InOrder, classes_of};
+ghost use Rattle.cpp_tree.specs.cpp_types.Typ.{typ, class as class_form, typ_of};
+ghost use Rattle.cpp_tree.specs.cpp_types.Class.{Class, InOrder, classes_of};
 ghost use Rattle.cpp_tree.specs.Parts.{are_objects as are_array_objects, are_whole as are_whole_object, closure_in as closure_in_typ, are_captured as are_captured_by, any_captured as any_captured_by, captured_within as captured_to, are_captures as are_captures_of, are_destroyed as are_destroyed_with};
 ghost use Rattle.cpp_tree.specs.Typing.{passes};
 ghost use Rattle.tree_heads.specs.Shown.{part_shown, part_typ, objects_shown};
@@ -10,7 +10,7 @@ ghost use Rattle.tree_heads.specs.Shown.{part_shown, part_typ, objects_shown};
 use crate::parts::{Part, PartType, count_of_parts, part_at};
 use crate::sizes::{depth_of, has_size};
 use crate::types::is_class;
-use cpp_types::{ClassRec, Shape, Ty};
+use cpp_tree::below::{ClassRec, Shape, Ty};
 
 /// All that a destruction destroys: so many objects of a class.
 #[derive(Clone, Copy)]

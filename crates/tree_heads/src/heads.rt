@@ -1,9 +1,9 @@
 // Heads of nodes: what a node's parent asks of it.
 
 ghost use Rattle.std.specs.Prelude.{◌≡◌};
-ghost use Rattle.cpp_types.specs.Typ.{typ_of};
-ghost use Rattle.cpp_types.specs.Conversion.{is_lvalue as is_lvalue_cat};
-ghost use Rattle.cpp_types.specs.Equal.{typ_eq};
+ghost use Rattle.cpp_tree.specs.cpp_types.Typ.{typ_of};
+ghost use Rattle.cpp_tree.specs.cpp_types.Conversion.{is_lvalue as is_lvalue_cat};
+ghost use Rattle.cpp_tree.specs.cpp_types.Equal.{typ_eq};
 ghost use Rattle.cpp_tree.specs.Typing.{gives as gives_word, is_prvalue as is_prvalue_cat, is_bool as is_test, is_lvalue_of as is_lvalue_typ, is_prvalue_of as is_prvalue_typ, is_temporary as is_temporary_kind, is_argument as is_argument_kind, is_bound as is_bound_head, initialises as initialises_head, builds as builds_head, goes_both_ways as goes_two_ways};
 ghost use Rattle.tree_heads.specs.Shown.{shown};
 
@@ -12,8 +12,7 @@ use crate::types::{
     word_kind,
 };
 use cpp_tree::TKind;
-use cpp_types::{Cat, Shape, Ty, equal_types};
-use tx_ints::IntKind;
+use cpp_tree::below::{Cat, IntKind, Shape, Ty, equal_types};
 
 /// A node without its place and its kids.
 #[derive(Clone, Copy)]

@@ -2,19 +2,17 @@
 
 ghost use Rattle.std.specs.Prelude.{◌≡◌, ◌||◌, option_map, Some};
 ghost use Rattle.std.specs.List.{list_any};
-ghost use Rattle.cpp_types.specs.Typ.{class, typ_of, shape_form};
-ghost use Rattle.cpp_types.specs.Class.{InOrder, classes_of, class_of, base_of};
-ghost use Rattle.cpp_types.specs.Conversion.{chain};
+ghost use Rattle.cpp_tree.specs.cpp_types.Typ.{class, typ_of, shape_form};
+ghost use Rattle.cpp_tree.specs.cpp_types.Class.{InOrder, classes_of, class_of, base_of};
+ghost use Rattle.cpp_tree.specs.cpp_types.Conversion.{chain};
 ghost use Rattle.cpp_tree.specs.Typing.{qualified};
-ghost use Rattle.cpp_types.specs.Equal.{typ_eq, form_eq};
+ghost use Rattle.cpp_tree.specs.cpp_types.Equal.{typ_eq, form_eq};
 ghost use Rattle.cpp_tree.specs.Parts.{sized_class, member_part as member_part_of, part_of, count_of_parts as number_of_parts, pointer_behind as pointer_after, adds_pointer_at as is_pointer_added, has_pointer_at as is_pointer_at};
 ghost use Rattle.tree_heads.specs.Shown.{part_shown, part_typ};
 
 use crate::sizes::{class_size, completion, is_sized, sized_record};
 use crate::types::{is_qualified, same_flag};
-use cpp_layout::{has_pointer, offset};
-use cpp_types::classes::record_at;
-use cpp_types::{ClassRec, Shape, Ty};
+use cpp_tree::below::{ClassRec, Shape, Ty, has_pointer, offset, record_at};
 
 /// The type of a part.
 #[derive(Clone, Copy)]

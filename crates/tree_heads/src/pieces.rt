@@ -1,9 +1,9 @@
 // Pieces and elements of objects that are built.
 
 ghost use Rattle.std.specs.Prelude.{◌≡◌, ◌&&◌, ◌<◌, ◌≤◌, ◌*◌, ◌-◌, ◌^◌, map, false, Bool};
-ghost use Rattle.cpp_types.specs.Typ.{typ, array, typ_of};
-ghost use Rattle.cpp_types.specs.Equal.{typ_eq};
-ghost use Rattle.cpp_types.specs.Class.{InOrder, classes_of};
+ghost use Rattle.cpp_tree.specs.cpp_types.Typ.{typ, array, typ_of};
+ghost use Rattle.cpp_tree.specs.cpp_types.Equal.{typ_eq};
+ghost use Rattle.cpp_tree.specs.cpp_types.Class.{InOrder, classes_of};
 ghost use Rattle.cpp_tree.specs.Parts.{is_at as is_piece_kind, is_piece_at as is_piece_typ, is_piece_of as is_part_piece, are_part_pieces as are_part_pieces_from, are_class_pieces as are_pieces_of_class, are_element_pieces as are_element_pieces_from, are_pieces as are_pieces_of, are_elements as are_elements_of};
 ghost use Rattle.tree_heads.specs.Shown.{shown, part_shown};
 
@@ -11,7 +11,7 @@ use crate::heads::{Head, builds};
 use crate::parts::{Part, count_of_parts, is_part_typ, part_at};
 use crate::sizes::{has_size, is_sized, size_in};
 use cpp_tree::TKind;
-use cpp_types::{ClassRec, Shape, Ty, equal_types};
+use cpp_tree::below::{ClassRec, Shape, Ty, equal_types};
 
 fn is_at(at: u64, kind: TKind) -> bool
     ensures { result ≡ is_piece_kind at kind }

@@ -1,8 +1,8 @@
 // The scalars of exceptions.
 
 ghost use Rattle.std.specs.Prelude.{◌≡◌, ◌≤◌, ℕ, nat_le, map, option_map};
-ghost use Rattle.cpp_types.specs.Typ.{typ_of, shape_form};
-ghost use Rattle.cpp_types.specs.Class.{InOrder, classes_of};
+ghost use Rattle.cpp_tree.specs.cpp_types.Typ.{typ_of, shape_form};
+ghost use Rattle.cpp_tree.specs.cpp_types.Class.{InOrder, classes_of};
 ghost use Rattle.cpp_tree.specs.Typing.{passes};
 ghost use Rattle.cpp_tree.specs.Parts.{is_field_of, scalar_at, element_of as element_in, one_element, element_scalars, object_scalars, part_scalars, scalars_within, scalars_of, are_fields as are_fields_of, size_in as size_of, is_value_form, are_scalars as are_scalars_of};
 ghost use Rattle.tree_heads.specs.Shown.{shown, part_shown};
@@ -13,8 +13,7 @@ use crate::parts::{Part, PartType, count_of_parts, part_at};
 use crate::sizes::{size_in, stride_of};
 use crate::types::{is_object_shape, kind_in};
 use cpp_tree::TKind;
-use cpp_types::{ClassRec, Shape, Ty, equal_kinds};
-use tx_ints::IntKind;
+use cpp_tree::below::{ClassRec, IntKind, Shape, Ty, equal_kinds};
 
 /// How many bytes an exception has at most.
 const GREATEST_EXCEPTION: u32 = 64;

@@ -1,16 +1,13 @@
 // Sizes of objects, where they have one.
 
 ghost use Rattle.std.specs.Prelude.{◌≡◌, is_some, MatchOption, None, Some};
-ghost use Rattle.cpp_types.specs.Typ.{typ_of, shape_form};
-ghost use Rattle.cpp_types.specs.Class.{InOrder, classes_of, class_of, completion_of};
-ghost use Rattle.cpp_types.specs.Typ.{typ, class as class_form};
+ghost use Rattle.cpp_tree.specs.cpp_types.Typ.{typ_of, shape_form};
+ghost use Rattle.cpp_tree.specs.cpp_types.Class.{InOrder, classes_of, class_of, completion_of};
+ghost use Rattle.cpp_tree.specs.cpp_types.Typ.{typ, class as class_form};
 ghost use Rattle.std.specs.Prelude.{false};
 ghost use Rattle.cpp_tree.specs.Parts.{holds_complete as is_held_complete, size_in as size_of, has_size as has_size_of, sized_class, stride_of as stride_in, depth_of as depth_in};
 
-use cpp_layout::size_align;
-use cpp_types::classes::record_at;
-use cpp_types::copyability::held_class;
-use cpp_types::{ClassRec, Shape, Ty};
+use cpp_tree::below::{ClassRec, Shape, Ty, held_class, record_at, size_align};
 
 /// How many classes were completed before this one.
 pub fn completion(classes: &[ClassRec], class: u32) -> Option<u32>

@@ -1,15 +1,17 @@
 // Types: the kinds of their words, and comparisons of types.
 
 ghost use Rattle.std.specs.Prelude.{◌≡◌, Some, false};
-ghost use Rattle.tx_ints.specs.declared.kinds.IntKind.TheVariants.{Bool as BoolKind};
-ghost use Rattle.cpp_types.specs.Typ.{typ, void, int, array, typ_of, shape_form};
-ghost use Rattle.cpp_types.specs.Equal.{flag_eq, typ_eq, form_eq};
-ghost use Rattle.cpp_types.specs.Conversion.{is_object_form};
+ghost use Rattle.cpp_tree.specs.tx_ints.declared.kinds.IntKind.TheVariants.{Bool as BoolKind};
+ghost use Rattle.cpp_tree.specs.cpp_types.Typ.{typ, void, int, array, typ_of, shape_form};
+ghost use Rattle.cpp_tree.specs.cpp_types.Equal.{flag_eq, typ_eq, form_eq};
+ghost use Rattle.cpp_tree.specs.cpp_types.Conversion.{is_object_form};
 ghost use Rattle.cpp_tree.specs.Typing.{is_void as is_void_typ, is_class_typ, is_reference as is_reference_typ, is_class as is_class_form, qualified, unqualified, without_exception, same_shape as is_same_shape, kind_in as kind_in_form, is_kind as is_kind_in, same_kind as is_same_kind, scalar_of as is_scalar, is_scalar_value as is_scalar_typ, word_kind as word_kind_of, is_promoted as is_promoted_kind, gives_promoted as is_promoted_in, is_word_of as is_word_in, is_statement_typ, is_class_prvalue as is_object_prvalue, is_result as is_result_typ};
 
 use crate::heads::{is_lvalue, is_prvalue};
-use cpp_types::{Cat, Shape, Ty, equal_kinds, equal_shapes, equal_types};
-use tx_ints::{IntKind, promote, value_of_word, word_of};
+use cpp_tree::below::{
+    Cat, IntKind, Shape, Ty, equal_kinds, equal_shapes, equal_types, promote, value_of_word,
+    word_of,
+};
 
 pub fn same_flag(a: bool, b: bool) -> bool
     ensures { result ≡ flag_eq a b }

@@ -3,9 +3,9 @@ use Rattle.std.proofs.Common.{◌≡◌, ◌∙◌, ◌<◌, ◌≤◌, ℕ, zer
 use Rattle.std.specs.Cmp.Derive.{both_true}
 use Rattle.std.proofs.lemmas.Bool.{and_parts, ltb-true, lt-ltb}
 use Rattle.std.proofs.lemmas.List.{at_drop_more, at_drop_all}
-use Rattle.cpp_types.specs.Typ.{Typ}
-use Rattle.cpp_types.specs.declared.ranks.Cat.{Cat}
-use Rattle.cpp_types.specs.declared.classes.At.{At}
+use Rattle.cpp_tree.specs.cpp_types.Typ.{Typ}
+use Rattle.cpp_tree.specs.cpp_types.declared.ranks.Cat.{Cat}
+use Rattle.cpp_tree.specs.cpp_types.declared.classes.At.{At}
 use Rattle.cpp_tree.specs.declared.kinds.TKind.TheVariants.{Init}
 use Rattle.cpp_tree.specs.declared.arena.TNode.{TNode}
 use Rattle.cpp_tree.specs.declared.arena.TNodeId.{TNodeId}

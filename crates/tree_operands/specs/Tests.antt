@@ -1,6 +1,6 @@
 -- Parts of the rows of nodes that are tested by a function of their own.
 use Rattle.std.specs.Prelude.{Bool, false, ◌||◌, ◌&&◌, is_some}
-use Rattle.tx_ints.specs.declared.kinds.IntKind.TheVariants.{Long}
+use Rattle.cpp_tree.specs.tx_ints.declared.kinds.IntKind.TheVariants.{Long}
 use Rattle.cpp_types.specs.Typ.{Typ, typ, void, int, ptr, func, Signature, signature, none, more}
 use Rattle.cpp_types.specs.declared.ranks.Cat.{Cat}
 use Rattle.cpp_tree.specs.Typing.{Head, same_kind, word_kind}

@@ -1,9 +1,9 @@
 // What loads, stores and operators ask of their operands.
 
 ghost use Rattle.std.specs.Prelude.{◌≡◌, ◌&&◌, false, cond};
-ghost use Rattle.tx_ints.specs.declared.kinds.IntKind.TheVariants.{Bool as BoolKind};
+ghost use Rattle.cpp_tree.specs.tx_ints.declared.kinds.IntKind.TheVariants.{Bool as BoolKind};
 ghost use Rattle.tree_operands.specs.Tests.{has_word};
-ghost use Rattle.tx_ints.specs.Integers.{is_shift as is_shift_op};
+ghost use Rattle.cpp_tree.specs.tx_ints.Integers.{is_shift as is_shift_op};
 ghost use Rattle.cpp_types.specs.Typ.{typ, void, int, typ_of, shape_form};
 ghost use Rattle.cpp_types.specs.Equal.{flag_eq, typ_eq};
 ghost use Rattle.cpp_tree.specs.Typing.{unqualified, without_exception, same_shape as is_same_shape, scalar_of as is_scalar, is_scalar_value as is_scalar_typ, kind_in as kind_in_form, is_kind as is_kind_in};
@@ -12,13 +12,13 @@ ghost use Rattle.cpp_tree.specs.Roles.{is_throw as is_throw_kind};
 ghost use Rattle.tree_heads.specs.Shown.{shown};
 
 use cpp_tree::TKind;
+use cpp_tree::below::{BinOp, IntKind};
 use cpp_types::{Cat, Shape, Ty, equal_kinds, equal_shapes, equal_types};
 use tree_heads::heads::{Head, gives, is_lvalue, is_lvalue_of, is_prvalue, is_prvalue_of};
 use tree_heads::types::{
     is_class_type, is_kind, is_plain_bool, is_plain_void, is_promoted, is_promoted_word,
     is_scalar_of, is_scalar_value, is_void, kind_in, same_flag, same_kind, same_shape, word_kind,
 };
-use tx_ints::{BinOp, IntKind};
 
 /// Whether a scalar of the type is loaded and stored by this kind and with this mark.
 pub fn is_access(kind: IntKind, volatile: bool, ty: &Ty) -> bool

@@ -3,19 +3,19 @@
 ghost use Rattle.std.specs.Prelude.{◌≡◌, map, false};
 ghost use Rattle.cpp_types.specs.Typ.{typ, int, func, more, none, typ_of, typs_of, signature_of};
 ghost use Rattle.cpp_types.specs.Equal.{typ_eq, signature_eq, typs_eq};
-ghost use Rattle.tx_ints.specs.declared.kinds.IntKind.TheVariants.{Long};
+ghost use Rattle.cpp_tree.specs.tx_ints.declared.kinds.IntKind.TheVariants.{Long};
 ghost use Rattle.tree_operands.specs.Tests.{thread_signature, thread_pointer};
 ghost use Rattle.cpp_tree.specs.Typing.{object, passed, is_word, are_words as are_words_of, is_result as is_result_typ};
 ghost use Rattle.cpp_tree.specs.Rows.{is_constructor as is_constructor_kind, is_destructor as is_destructor_kind, is_special as is_special_kind, result_in, param_words, signature_words};
 ghost use Rattle.tree_heads.specs.Shown.{shown};
 
+use cpp_tree::below::IntKind;
 use cpp_tree::{FuncKind, TFunc};
 use cpp_types::{Cat, FnTy, Shape, Ty};
 use tree_heads::heads::{Head, initialises, is_argument, is_lvalue, is_prvalue};
 use tree_heads::types::{
     is_class, is_class_type, is_plain_int, is_plain_void, is_result, is_unqualified,
 };
-use tx_ints::IntKind;
 
 pub fn is_constructor(kind: FuncKind) -> bool
     ensures { result ≡ is_constructor_kind kind }

@@ -15,6 +15,7 @@ ghost use Rattle.tree_rows.specs.Settings.{setting_shown};
 ghost use Rattle.tree_rows.specs.Tests.{is_callee};
 
 use crate::settings::{Setting, equal_functions, function_at, has_slot, is_member_of};
+use cpp_tree::below::IntKind;
 use cpp_tree::{Builtin, FuncKind, TFunc};
 use cpp_types::copyability::takes_only;
 use cpp_types::{Cat, FnTy, Shape, Ty};
@@ -25,7 +26,6 @@ use tree_heads::types::{is_class, is_plain_int, is_plain_void};
 use tree_operands::words::{
     are_words, is_constructor, is_int_word, is_result_of, is_special, is_thread_word, passes_words,
 };
-use tx_ints::IntKind;
 
 // Whether a type is that of the function.
 fn is_function_type(ty: &Ty, of: &FnTy) -> bool

@@ -14,6 +14,7 @@ ghost use Rattle.tree_rows.specs.Settings.{setting_shown};
 use crate::objects::are_scalars;
 use crate::settings::{Setting, is_item_of};
 use cpp_tree::TKind;
+use cpp_tree::below::IntKind;
 use cpp_types::{Cat, Shape, Ty, equal_shapes};
 use tree_heads::heads::{Head, initialises, is_lvalue, is_prvalue, is_prvalue_of};
 use tree_heads::kids::{behind, kid};
@@ -22,7 +23,6 @@ use tree_heads::types::{
     is_void, is_word_of,
 };
 use tree_operands::access::{is_without_qualifiers, is_zero_literal};
-use tx_ints::IntKind;
 
 /// Whether the word is one of a value of the kind.
 pub fn is_word_in(found: Option<IntKind>, word: u64) -> bool

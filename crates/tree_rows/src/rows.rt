@@ -18,6 +18,7 @@ use crate::exceptions::{are_cases, is_handler, is_return, is_throw_of, is_word_i
 use crate::objects::{are_elements, are_pieces};
 use crate::settings::{Setting, is_global_of, is_item_of};
 use cpp_tree::TKind;
+use cpp_tree::below::{BinOp, IntKind};
 use cpp_types::{Cat, Ty, equal_shapes};
 use tree_heads::heads::{Head, builds, initialises, is_bool, is_lvalue, is_lvalue_of, is_prvalue};
 use tree_heads::kids::{behind, kid};
@@ -29,7 +30,6 @@ use tree_operands::access::{
     is_access, is_binary, is_branch, is_copied_from, is_load, is_loaded, is_retyped, is_update,
     is_without_qualifiers, same_value,
 };
-use tx_ints::{BinOp, IntKind};
 
 // Whether the address and the initialiser are those of an object that is built.
 fn is_built(setting: Setting<'_>, address: Head<'_>, init: Head<'_>, heads: &[Head<'_>]) -> bool

@@ -1,9 +1,8 @@
 // A tree that is made node by node, and the texts of faults.
 
+use cpp_tree::below::{At, BinOp, Cat, IntKind, Shape, Ty};
 use cpp_tree::{ElabFault, IllRule, TKind, TNodeId, UnitTree, add_binary, add_leaf, add_unary};
-use cpp_types::{At, Cat, Shape, Ty};
 use std::alloc::{AllocError, Global};
-use tx_ints::{BinOp, IntKind};
 
 const AT: At = At {
     source: 0,

@@ -1,10 +1,9 @@
 // The frame of a function.
 
+use cpp_tree::below::{At, FnTy, FuncRec, IntKind, Safety, Shape, Ty};
 use cpp_tree::{FuncKind, Linkage, Program, TFunc, UnitTree};
-use cpp_types::{At, FnTy, FuncRec, Safety, Shape, Ty};
 use src_mean::frame_of;
 use std::alloc::{AllocError, Global};
-use tx_ints::IntKind;
 
 fn plain(shape: Shape) -> Ty {
     Ty {

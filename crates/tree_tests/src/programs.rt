@@ -2,11 +2,10 @@
 // each of a kind, a type, a category and kids.
 
 use case_texts::field;
+use cpp_tree::below::{At, BinOp, Cat, FnTy, FuncRec, IntKind, Safety, Shape, Ty};
 use cpp_tree::{FuncKind, Linkage, Program, TFunc, TKind, TNode, TNodeId, TParam, UnitTree};
-use cpp_types::{At, Cat, FnTy, FuncRec, Safety, Shape, Ty};
 use std::alloc::{AllocError, Global};
 use tree_check::is_well_formed;
-use tx_ints::{BinOp, IntKind};
 
 const AT: At = At {
     source: 0,

@@ -4,12 +4,11 @@ ghost use Rattle.std.specs.Prelude.{◌≡◌, ◌<◌, true, IfOk, OnOk, Some, 
 ghost use Rattle.cpp_tree.specs.Arena.{IsOrdered, are_below};
 ghost use Rattle.tx_safety.specs.Marks.{AreReadable};
 
+use cpp_tree::below::{At, BlockKind, Cat, FnTy, FuncRec, Safety, Shape, Ty};
 use cpp_tree::{
     Builtin, FuncKind, Linkage, Program, TFunc, TKind, TNode, TNodeId, UnitTree, add_node,
 };
-use cpp_types::{At, Cat, FnTy, FuncRec, Safety, Shape, Ty};
 use std::alloc::{AllocError, Global};
-use tx_events::BlockKind;
 use tx_safety::{SafetyFault, check};
 
 fn at(offset: u32) -> At {

@@ -1,14 +1,14 @@
 -- Programs that are judged by the definition: each in C++, as far as it matters beside its typed trees. Places are made up; they go upwards as in the text.
 use Rattle.std.specs.Prelude.{ℕ, Bool, true, false, List, [], ◌∷◌, Option, Some, None}
-use Rattle.tx_ints.specs.declared.kinds.IntKind.TheVariants.{Int, ULong}
-use Rattle.tx_ints.specs.declared.kinds.BinOp.TheVariants.{Add}
-use Rattle.tx_events.specs.declared.BlockKind.TheVariants.{NoExcept}
-use Rattle.cpp_types.specs.Typ.{Typ, typ, int, class, ptr, func, void, signature, none as none_typs}
-use Rattle.cpp_types.specs.Class.{Class}
-use Rattle.cpp_types.specs.declared.classes.At.{At}
-use Rattle.cpp_types.specs.declared.classes.Safety.{Safety}
-use Rattle.cpp_types.specs.declared.classes.Safety.TheVariants.{None as Undeclared, Safe, Dynamic}
-use Rattle.cpp_types.specs.declared.ranks.Cat.TheVariants.{Lvalue, Prvalue}
+use Rattle.cpp_tree.specs.tx_ints.declared.kinds.IntKind.TheVariants.{Int, ULong}
+use Rattle.cpp_tree.specs.tx_ints.declared.kinds.BinOp.TheVariants.{Add}
+use Rattle.cpp_tree.specs.tx_events.declared.BlockKind.TheVariants.{NoExcept}
+use Rattle.cpp_tree.specs.cpp_types.Typ.{Typ, typ, int, class, ptr, func, void, signature, none as none_typs}
+use Rattle.cpp_tree.specs.cpp_types.Class.{Class}
+use Rattle.cpp_tree.specs.cpp_types.declared.classes.At.{At}
+use Rattle.cpp_tree.specs.cpp_types.declared.classes.Safety.{Safety}
+use Rattle.cpp_tree.specs.cpp_types.declared.classes.Safety.TheVariants.{None as Undeclared, Safe, Dynamic}
+use Rattle.cpp_tree.specs.cpp_types.declared.ranks.Cat.TheVariants.{Lvalue, Prvalue}
 use Rattle.cpp_tree.specs.declared.faults.UnsafeReason.{UnsafeReason}
 use Rattle.cpp_tree.specs.declared.kinds.Builtin.TheVariants.{PutChar}
 use Rattle.cpp_tree.specs.declared.kinds.TKind.{TKind}

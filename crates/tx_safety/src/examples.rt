@@ -1,8 +1,8 @@
 //! Programs that are judged, by the definition. A function here does nothing: its clauses are computed by the check. Each
 //! program stands in `specs/Examples.antt`, in C++ beside its typed trees.
 ghost use Rattle.std.specs.Prelude.{◌≡◌, Some, None, true, false};
-ghost use Rattle.cpp_types.specs.Typ.{int, ref, array, class};
-ghost use Rattle.cpp_types.specs.declared.classes.Safety.TheVariants.{Safe, Dynamic};
+ghost use Rattle.cpp_tree.specs.cpp_types.Typ.{int, ref, array, class};
+ghost use Rattle.cpp_tree.specs.cpp_types.declared.classes.Safety.TheVariants.{Safe, Dynamic};
 ghost use Rattle.cpp_tree.specs.Notation.{plain};
 ghost use Rattle.cpp_tree.specs.declared.faults.UnsafeReason.TheVariants.{VolatileRead, VolatileWrite, VolatileTemp, VolatileLocal, VolatileParam, CallsUnsafe, CallsUnsafePointer};
 ghost use Rattle.tx_safety.specs.Safe.{first_unsafe, is_safe};

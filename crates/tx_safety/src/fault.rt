@@ -1,7 +1,7 @@
 // Why a program is refused.
 
 use cpp_tree::UnsafeReason;
-use cpp_types::At;
+use cpp_tree::below::At;
 use std::alloc::AllocError;
 use thiserror::Error;
 

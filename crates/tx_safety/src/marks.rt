@@ -9,8 +9,8 @@ ghost use Rattle.tx_unsafe.specs.Volatile.{marked};
 ghost use Rattle.tx_safety.specs.Safe.{is_declared, is_promised, safe};
 ghost use Rattle.tx_safety.specs.Marks.{mark_at, may_from, is_marked_call, later, latest, mark_by, mark_of, new_mark, with_mark, count_marks, SoundMarks, ClosedMarks, AreContents, IsContents, HaveRoots};
 
+use cpp_tree::below::Safety;
 use cpp_tree::{TFunc, TNode};
-use cpp_types::Safety;
 use std::alloc::{AllocError, Global};
 use tx_unsafe::{CallSite, Contents, contents_of};
 

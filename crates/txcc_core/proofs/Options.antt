@@ -1,12 +1,12 @@
 -- What the words say can be done.
 use Rattle.std.proofs.Common.{ℕ, List}
-use Rattle.tx_words.specs.Names.{IsInBounds}
-use Rattle.tx_words.specs.Reads.{Says}
-use Rattle.tx_words.specs.declared.command.Command.{Command}
-use Rattle.tx_words.specs.declared.command.Command.TheVariants as command
-use Rattle.tx_words.specs.declared.command.PickerName.{PickerName}
-use Rattle.tx_words.specs.declared.command.PickerName.TheVariants.{Round, Clash, File}
-use Rattle.exec_command.specs.Exec.{HasSlot}
+use Rattle.run_command.specs.tx_words.Names.{IsInBounds}
+use Rattle.run_command.specs.tx_words.Reads.{Says}
+use Rattle.run_command.specs.tx_words.declared.command.Command.{Command}
+use Rattle.run_command.specs.tx_words.declared.command.Command.TheVariants as command
+use Rattle.run_command.specs.tx_words.declared.command.PickerName.{PickerName}
+use Rattle.run_command.specs.tx_words.declared.command.PickerName.TheVariants.{Round, Clash, File}
+use Rattle.run_command.specs.exec_command.Exec.{HasSlot}
 use Rattle.txcc_core.specs.TopCall.{CanDo}
 
 has_slot : (p : PickerName) → IsInBounds p → HasSlot p

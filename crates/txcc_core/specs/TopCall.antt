@@ -1,22 +1,22 @@
 -- What an answer of the program says.
 use Rattle.std.specs.Prelude.{◌≡◌, ◌≤◌, Bool, true, false, ℕ, List, [], ◌∷◌, codes, string_bytes}
-use Rattle.tx_host.specs.Told.{HostState}
-use Rattle.command_io.specs.Reads.{Wanted, wanted}
-use Rattle.command_io.specs.declared.files.FileKind.TheVariants as kind
-use Rattle.command_io.specs.Writes.{Written, to_err}
-use Rattle.tx_words.specs.Reads.{Says}
-use Rattle.tx_words.specs.declared.command.Build.{Build}
-use Rattle.tx_words.specs.declared.command.Races.{Races}
+use Rattle.run_command.specs.tx_host.Told.{HostState}
+use Rattle.run_command.specs.command_io.Reads.{Wanted, wanted}
+use Rattle.run_command.specs.command_io.declared.files.FileKind.TheVariants as kind
+use Rattle.run_command.specs.command_io.Writes.{Written, to_err}
+use Rattle.run_command.specs.tx_words.Reads.{Says}
+use Rattle.run_command.specs.tx_words.declared.command.Build.{Build}
+use Rattle.run_command.specs.tx_words.declared.command.Races.{Races}
 use Rattle.races_command.specs.Commands.{Reports}
 use Rattle.replay_command.specs.Replays.{Replays}
 use Rattle.run_command.specs.Commands.{Runs, DecidesBuild, DecidesSelftest}
-use Rattle.tx_words.specs.declared.command.Command.{Command}
-use Rattle.tx_words.specs.declared.command.Command.TheVariants as command
-use Rattle.tx_answers.specs.declared.answer.Answer.{Answer}
-use Rattle.tx_answers.specs.declared.answer.Status.TheVariants.{Usage, Memory}
-use Rattle.tx_answers.specs.Ends.{Ends, bare, on_one}
+use Rattle.run_command.specs.tx_words.declared.command.Command.{Command}
+use Rattle.run_command.specs.tx_words.declared.command.Command.TheVariants as command
+use Rattle.run_command.specs.tx_answers.declared.answer.Answer.{Answer}
+use Rattle.run_command.specs.tx_answers.declared.answer.Status.TheVariants.{Usage, Memory}
+use Rattle.run_command.specs.tx_answers.Ends.{Ends, bare, on_one}
 use Rattle.text_commands.specs.TextCommands.{Disassembles, Assembles}
-use Rattle.exec_command.specs.Exec.{CanRun, Executes}
+use Rattle.run_command.specs.exec_command.Exec.{CanRun, Executes}
 use Rattle.check_command.specs.Check.{Checks}
 use Rattle.explain_command.specs.Explain.{DecidesExplanation}
 

@@ -3,7 +3,6 @@
 
 mod top;
 
+pub use run_command::below::{Answer, End, Refusal, Status, Trap};
 pub use top::txcc;
-pub use tx_answers::{Answer, Refusal, Status};
-pub use tx_events::{End, Trap};
 pub use tx_machine::Ran;

@@ -1,23 +1,22 @@
 //! The top call: from words to what is written.
 
 ghost use Rattle.std.specs.Prelude.{◌≡◌, ◌≤◌, [], map, length, IfOk, codes, string_bytes, ℕ, List};
-ghost use Rattle.command_io.specs.Writes.{written_of};
-ghost use Rattle.exec_command.specs.Exec.{CanRun};
-ghost use Rattle.tx_answers.specs.Ends.{Ends, bare};
+ghost use Rattle.run_command.specs.command_io.Writes.{written_of};
+ghost use Rattle.run_command.specs.exec_command.Exec.{CanRun};
+ghost use Rattle.run_command.specs.tx_answers.Ends.{Ends, bare};
 ghost use Rattle.txcc_core.specs.TopCall.{Answers, CanDo, Does, DecidesUsage, no_files, Builds, RacesUnfolded};
 
 use check_command::check;
-use command_io::Write;
-use exec_command::exec;
 use explain_command::explain;
 use races_command::races;
 use replay_command::replay;
+use run_command::below::{
+    Answer, Build, Command, Decision, Host, Races, Status, Write, bare, exec, settle,
+    tx_words_read as read,
+};
 use run_command::{build, run, selftest};
 use std::alloc::{AllocError, Global};
 use text_commands::{asm, dis};
-use tx_answers::{Answer, Decision, Status, bare, settle};
-use tx_host::Host;
-use tx_words::{Build, Command, Races, read};
 
 // What is written where the words say no command.
 fn usage_lines(alloc: Global) -> Result<Decision, AllocError>

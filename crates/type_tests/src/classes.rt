@@ -3,7 +3,7 @@
 
 use crate::types::{plain, read as read_type, read_all};
 use case_texts::field;
-use cpp_types::{At, ClassRec, FnTy, FuncRec, MemberRec, Safety, Shape};
+use cpp_layout::below::{At, ClassRec, FnTy, FuncRec, MemberRec, Safety, Shape};
 use std::alloc::{AllocError, Global};
 
 // A function from its name, its parameters and where it is written, with colons between them.

@@ -2,9 +2,7 @@
 
 use crate::types::read;
 use case_texts::field;
-use cpp_types::comparison::better;
-use cpp_types::conversions::{conversion_between, rank};
-use cpp_types::{Cat, ClassRec, Ty};
+use cpp_layout::below::{Cat, ClassRec, Ty, better, conversion_between, rank};
 use std::alloc::{AllocError, Global};
 
 /// The category of an expression.

@@ -1,18 +1,16 @@
 // Layouts: calls whose premises are tested before.
 
 ghost use Rattle.std.specs.Prelude.{◌≡◌, ◌≤◌, true, false, map};
-ghost use Rattle.cpp_types.specs.Typ.{typ, class, typ_of, shape_form};
-ghost use Rattle.cpp_types.specs.Class.{InOrder, classes_of};
+ghost use Rattle.cpp_layout.specs.cpp_types.Typ.{typ, class, typ_of, shape_form};
+ghost use Rattle.cpp_layout.specs.cpp_types.Class.{InOrder, classes_of};
 ghost use Rattle.cpp_layout.specs.Layout.{class_extent};
 ghost use Rattle.cpp_layout.specs.Measured.{IsComplete, HoldsComplete, HasMember};
 ghost use Rattle.cpp_layout.specs.Frames.{AllComplete};
 
+use cpp_layout::below::{ClassRec, Shape, Ty, held_class, is_in_order, record_at};
 use cpp_layout::extents::SizeAlign;
 use cpp_layout::frames::{FrameFault, FrameRec, frame};
 use cpp_layout::objects::{TooLarge, offset, size_align};
-use cpp_types::classes::record_at;
-use cpp_types::copyability::held_class;
-use cpp_types::{ClassRec, Shape, Ty, is_in_order};
 use std::alloc::{AllocError, Global};
 
 // The members of a class whose offsets are written.

@@ -9,11 +9,7 @@ mod overloads;
 mod types;
 
 use case_texts::is_case;
-use cpp_types::copyability::trivially_copyable;
-use cpp_types::copying::copy;
-use cpp_types::equality::same;
-use cpp_types::spelling::spell;
-use cpp_types::{ClassRec, Ty, is_in_order};
+use cpp_layout::below::{ClassRec, Ty, copy, is_in_order, same, spell, trivially_copyable};
 use std::alloc::{AllocError, Global};
 use std::io;
 

@@ -3,9 +3,9 @@
 
 use crate::conversions::category;
 use crate::types::{plain, read, read_all};
+use cpp_layout::below::{ClassRec, FnTy, Shape};
 use cpp_overload::calls::{Arg, Cand};
 use cpp_overload::choice::choose;
-use cpp_types::{ClassRec, FnTy, Shape};
 use std::alloc::{AllocError, Global};
 
 // A candidate.

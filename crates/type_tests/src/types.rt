@@ -1,8 +1,7 @@
 // Types as words: `const-pointer-int`, `reference-3-#0` for a reference to an array of three of the class 0.
 
-use cpp_types::{FnTy, Shape, Ty};
+use cpp_layout::below::{FnTy, IntKind, Shape, Ty};
 use std::alloc::{AllocError, Global};
-use tx_ints::IntKind;
 
 const KINDS: [(&str, IntKind); 12] = [
     ("bool", IntKind::Bool),

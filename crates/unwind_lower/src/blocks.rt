@@ -2,14 +2,13 @@
 
 use crate::items::{Item, Leaving, Turn, Way};
 use crate::lowering::Lowering;
+use cpp_tree::below::{At, BlockKind};
 use cpp_tree::{TKind, TNode, TNodeId};
-use cpp_types::At;
 use low_code::nodes::{kid, node_at};
 use low_code::numbers::{ADDRESS, SYNC_EDGE, block_number};
 use low_code::{Jump, Owner, ScopeKind, Sort};
 use std::alloc::AllocError;
 use tx_code::Instr;
-use tx_events::BlockKind;
 
 impl<'a> Lowering<'a> {
     /// A statement.

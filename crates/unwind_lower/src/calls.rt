@@ -2,15 +2,14 @@
 
 use crate::items::{Item, Way};
 use crate::lowering::Lowering;
+use cpp_tree::below::{At, IntKind};
 use cpp_tree::{Builtin, TKind, TNode, TNodeId};
-use cpp_types::At;
 use low_code::nodes::{kid, node_at};
 use low_code::numbers::{ADDRESS, load};
 use low_code::types::{called_type, function_text, gives, is_void, member_text, word_count};
 use low_code::{Owner, ScopeKind};
 use std::alloc::AllocError;
 use tx_code::Instr;
-use tx_ints::IntKind;
 
 // A number of words as an operand, with the address of a class result where `into`.
 fn operand(words: usize, into: bool) -> Result<u8, AllocError> {

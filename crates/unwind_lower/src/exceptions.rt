@@ -2,8 +2,8 @@
 
 use crate::items::{Item, Way};
 use crate::lowering::Lowering;
+use cpp_tree::below::{At, IntKind, Shape, Ty};
 use cpp_tree::{TKind, TNode, TNodeId};
-use cpp_types::{At, Shape, Ty};
 use low_code::caught::{caught_classes, referred};
 use low_code::nodes::{kid, node_at};
 use low_code::numbers::{kind_number, load, store};
@@ -11,7 +11,6 @@ use low_code::types::{is_class_type, is_void};
 use low_code::{ScopeKind, Sort};
 use std::alloc::AllocError;
 use tx_code::Instr;
-use tx_ints::IntKind;
 
 // An offset in an exception.
 fn offset_in(offset: u32) -> Result<u8, AllocError> {

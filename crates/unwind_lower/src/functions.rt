@@ -2,8 +2,8 @@
 
 use crate::items::{Item, Way};
 use crate::lowering::Lowering;
+use cpp_tree::below::At;
 use cpp_tree::{Program, TFunc, TNodeId, UnitTree};
-use cpp_types::At;
 use low_code::nodes::node_at;
 use low_code::numbers::store;
 use low_code::rows::rows_of;

@@ -1,7 +1,7 @@
 //! What is still to be written.
 
 use cpp_tree::TNodeId;
-use cpp_types::At;
+use cpp_tree::below::At;
 use low_code::{Jump, Owner};
 use tx_code::Instr;
 

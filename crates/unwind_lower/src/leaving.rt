@@ -2,7 +2,7 @@
 
 use crate::items::{Item, Leaving};
 use crate::lowering::Lowering;
-use cpp_types::At;
+use cpp_tree::below::At;
 use low_code::types::gives;
 use low_code::{Address, Owner, Scope, ScopeKind, Sort};
 use std::alloc::AllocError;

@@ -1,8 +1,8 @@
 //! A function whose body is being written.
 
 use crate::items::{Item, Way};
+use cpp_tree::below::{At, Ty};
 use cpp_tree::{Program, TFunc, TNode, UnitTree};
-use cpp_types::{At, Ty};
 use low_code::nodes::kid;
 use low_code::types::bare_text;
 use low_code::{NameTable, Writer};

@@ -2,8 +2,8 @@
 
 use crate::items::{Item, Way};
 use crate::lowering::Lowering;
+use cpp_tree::below::At;
 use cpp_tree::{TKind, TNode, TNodeId};
-use cpp_types::At;
 use low_code::nodes::{kid, node_at};
 use low_code::numbers::{ADDRESS, load, store};
 use low_code::{Address, Owner, ScopeKind};

@@ -2,8 +2,8 @@
 
 use crate::items::Item;
 use crate::lowering::Lowering;
+use cpp_tree::below::At;
 use cpp_tree::{TKind, TNode, TNodeId};
-use cpp_types::At;
 use low_code::nodes::node_at;
 use low_code::{Scope, ScopeKind};
 use std::alloc::AllocError;

@@ -1,19 +1,19 @@
-use Rattle.cpp_ast.specs.Orders.{are_below}
-use Rattle.cpp_lex.specs.Tokens.{lexemes_of}
-use Rattle.cpp_tree.specs.Arena.{trees_of}
-use Rattle.cpp_types.specs.Typ.{typ_of}
-use Rattle.elab_ctx.specs.Ctx.{closure_of, ctx_of, work_of}
-use Rattle.elab_ctx.specs.Says.{Faults}
-use Rattle.elab_ctx.specs.Steps.{at_of}
+use Rattle.elab_rows.specs.cpp_ast.Orders.{are_below}
+use Rattle.elab_rows.specs.cpp_lex.Tokens.{lexemes_of}
+use Rattle.elab_rows.specs.cpp_tree.Arena.{trees_of}
+use Rattle.elab_rows.specs.cpp_types.Typ.{typ_of}
+use Rattle.elab_rows.specs.elab_ctx.Ctx.{closure_of, ctx_of, work_of}
+use Rattle.elab_rows.specs.elab_ctx.Says.{Faults}
+use Rattle.elab_rows.specs.elab_ctx.Steps.{at_of}
 use Rattle.elab_expr.proofs.Declaring.{after_start, array_fault, array_is, array_made, clause_fault, enclosed_is, exception_by, exception_fault, exception_is, exception_says, function_fault, function_is, function_made, function_safe, function_safe_fault, inner_fault, next_parameter, open_is, open_made, parameter_base_fault, parameter_by, parameter_declared_fault, parameter_fault, parameter_is, parameter_says, parameters_are, parameters_done, pointer_is, pointer_made, reference_is, reference_made, refused_says, says_same, type_base_fault, type_by, type_declared_fault, type_id_is, type_made}
 use Rattle.elab_expr.proofs.FormRows.{call_is, call_row_of, cast_is, cast_row_of, functional_is, functional_row_of, leaf_is, many_is, over_row, size_is, size_row, type_is, type_row, wrapped_is}
 use Rattle.elab_expr.proofs.Several.{below_take, last_is, no_kids, rest_from, so_far_one, some_kids, trees_past, trees_step, vec_len_is}
 use Rattle.elab_expr.proofs.Stages.{argument_fault, base_fault, call_typed, callee_fault, cast_type_fault, cast_typed, cast_value_fault, first_fault, functional_typed, made_type_fault, over_fault, over_typed, refused_typed, size_fault, size_typed, type_fault, type_typed, types_same, value_fault, wrapped_typed}
-use Rattle.elab_rules.specs.Expressions.{leaf_or_row, parameters_with, specified_with}
-use Rattle.elab_rules.specs.Types.{with_function}
-use Rattle.elab_types.proofs.KidLists.{wider}
-use Rattle.elab_types.specs.Shown.{declared_of, parameter_of, qualifiers_of, specifiers_of}
-use Rattle.elab_types.specs.Syntax.{syntax_of, tree_at, trees_at}
+use Rattle.elab_rows.specs.elab_rules.Expressions.{leaf_or_row, parameters_with, specified_with}
+use Rattle.elab_rows.specs.elab_rules.Types.{with_function}
+use Rattle.elab_rows.proofs.elab_types.KidLists.{wider}
+use Rattle.elab_rows.specs.elab_types.Shown.{declared_of, parameter_of, qualifiers_of, specifiers_of}
+use Rattle.elab_rows.specs.elab_types.Syntax.{syntax_of, tree_at, trees_at}
 use Rattle.std.proofs.Common.{Err, Ok, [], ap, drop, length, map, refl, rules, subst, sym, take, true, ◌-◌, ◌∙◌, ◌≡◌}
 use Rattle.std.proofs.lemmas.List.{map-append}
 use Rattle.elab_expr.proofs.+expressions.Goals as goal

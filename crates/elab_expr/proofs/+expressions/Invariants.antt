@@ -1,12 +1,12 @@
 -- Kids have lower ids; forms of one node call one another in this order.
 use Rattle.std.proofs.Common.{◌≡◌, ◌+◌, ◌*◌, map, drop}
-use Rattle.cpp_lex.specs.Tokens.{lexemes_of}
-use Rattle.elab_ctx.specs.Ctx.{ctx_of, work_of, closure_of}
-use Rattle.cpp_tree.specs.Arena.{trees_of}
-use Rattle.elab_rules.specs.Types.{no_specifiers}
-use Rattle.elab_rules.specs.Expressions.{operands_with, all_specified_with, parameters_in_with, parameters_with}
-use Rattle.elab_types.specs.Syntax.{syntax_of, tree_at, trees_at}
-use Rattle.elab_types.specs.Shown.{specifiers_of, parameter_of}
+use Rattle.elab_rows.specs.cpp_lex.Tokens.{lexemes_of}
+use Rattle.elab_rows.specs.elab_ctx.Ctx.{ctx_of, work_of, closure_of}
+use Rattle.elab_rows.specs.cpp_tree.Arena.{trees_of}
+use Rattle.elab_rows.specs.elab_rules.Types.{no_specifiers}
+use Rattle.elab_rows.specs.elab_rules.Expressions.{operands_with, all_specified_with, parameters_in_with, parameters_with}
+use Rattle.elab_rows.specs.elab_types.Syntax.{syntax_of, tree_at, trees_at}
+use Rattle.elab_rows.specs.elab_types.Shown.{specifiers_of, parameter_of}
 use Rattle.elab_expr.proofs.Several.{SoFar}
 use Rattle.elab_expr.proofs.Declaring.{after}
 use Rattle.elab_expr.proofs.+expressions.Given as goal

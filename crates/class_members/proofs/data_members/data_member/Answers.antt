@@ -1,8 +1,8 @@
 use Rattle.std.proofs.Common.{◌≡◌, rules, map, Ok, Err, subst}
 use Rattle.cpp_types.specs.Typ.{typ_of}
 use Rattle.cpp_types.specs.Class.{member_of}
-use Rattle.elab_ctx.specs.Ctx.{ctx_of}
-use Rattle.elab_ctx.specs.Says.{Faults}
+use Rattle.elab_init.specs.elab_ctx.Ctx.{ctx_of}
+use Rattle.elab_init.specs.elab_ctx.Says.{Faults}
 use Rattle.class_members.specs.Parts.{fits_member}
 use Rattle.class_members.proofs.Chains.{data_member_refused, data_member_done}
 use Rattle.class_members.proofs.data_members.data_member.Goals as goal

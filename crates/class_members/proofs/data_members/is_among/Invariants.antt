@@ -1,6 +1,6 @@
 use Rattle.std.proofs.Common.{◌≡◌, drop, map}
-use Rattle.elab_ctx.specs.Ctx.{func_of}
-use Rattle.elab_rules.specs.Classes.{has_function}
+use Rattle.elab_init.specs.elab_ctx.Ctx.{func_of}
+use Rattle.elab_init.specs.elab_rules.Classes.{has_function}
 use Rattle.class_members.proofs.data_members.is_among.Given as goal
 
 abbrev pub invariant-loop-found : goal.invariant-loop-found

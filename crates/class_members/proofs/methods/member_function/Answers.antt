@@ -1,7 +1,7 @@
 use Rattle.std.proofs.Common.{◌≡◌, rules, map, option_map, Ok, Err, subst}
 use Rattle.cpp_types.specs.Class.{member_of}
-use Rattle.elab_ctx.specs.Ctx.{ctx_of, func_of}
-use Rattle.elab_ctx.specs.Says.{Faults}
+use Rattle.elab_init.specs.elab_ctx.Ctx.{ctx_of, func_of}
+use Rattle.elab_init.specs.elab_ctx.Says.{Faults}
 use Rattle.class_members.specs.Shown.{home_of, header_of, marks_of, definition_of}
 use Rattle.class_members.specs.Parts.{member_made}
 use Rattle.class_members.proofs.Chains.{member_function_refused, member_function_done}

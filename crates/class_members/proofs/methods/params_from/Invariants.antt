@@ -1,6 +1,6 @@
 use Rattle.std.proofs.Common.{◌≡◌, ◌++◌, drop, map}
-use Rattle.cpp_tree.specs.Units.{param_of}
-use Rattle.elab_rules.specs.Functions.{param_of as declared_param}
+use Rattle.elab_init.specs.cpp_tree.Units.{param_of}
+use Rattle.elab_init.specs.elab_rules.Functions.{param_of as declared_param}
 use Rattle.elab_types.specs.Shown.{parameter_of}
 use Rattle.class_members.proofs.methods.params_from.Given as goal
 

@@ -1,7 +1,7 @@
 use Rattle.std.proofs.Common.{◌≡◌, drop, map}
 use Rattle.cpp_types.specs.Class.{classes_of, function_of}
-use Rattle.cpp_tree.specs.Units.{slot_of}
-use Rattle.elab_rules.specs.Classes.{overridden_from}
+use Rattle.elab_init.specs.cpp_tree.Units.{slot_of}
+use Rattle.elab_init.specs.elab_rules.Classes.{overridden_from}
 use Rattle.class_members.proofs.overriding.overridden_among.Given as goal
 
 abbrev pub invariant-loop-slot : goal.invariant-loop-slot

@@ -1,5 +1,5 @@
 use Rattle.cpp_types.specs.Typ.{typ_of}
-use Rattle.elab_ctx.specs.Ctx.{ctx_of, traits_of}
+use Rattle.elab_init.specs.elab_ctx.Ctx.{ctx_of, traits_of}
 use Rattle.class_records.proofs.Whole.{whole_is}
 use Rattle.class_records.proofs.beginning.add_whole.Goals as goal
 

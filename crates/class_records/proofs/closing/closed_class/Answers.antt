@@ -1,5 +1,5 @@
 use Rattle.cpp_types.specs.Class.{classes_of}
-use Rattle.elab_ctx.proofs.Sizes.{in_order}
+use Rattle.elab_init.proofs.elab_ctx.Sizes.{in_order}
 use Rattle.class_records.proofs.closing.closed_class.Goals as goal
 
 pub size_align-requires-clause-in_order : goal.size_align-requires-clause-in_order

@@ -1,8 +1,8 @@
 use Rattle.std.proofs.Common.{List, ap, map, sym, ◌∙◌}
 use Rattle.cpp_types.specs.Class.{member_of}
 use Rattle.cpp_types.specs.declared.classes.MemberRec.{MemberRec}
-use Rattle.elab_ctx.specs.Ctx.{ctx_of, special_of}
-use Rattle.elab_rules.specs.Classes.{takes_const, with_destructor, with_copy, with_default}
+use Rattle.elab_init.specs.elab_ctx.Ctx.{ctx_of, special_of}
+use Rattle.elab_init.specs.elab_rules.Classes.{takes_const, with_destructor, with_copy, with_default}
 use Rattle.class_members.specs.Shown.{home_of}
 use Rattle.class_records.proofs.Completion.{completed_is}
 use Rattle.class_records.proofs.closing.completed.Goals as goal

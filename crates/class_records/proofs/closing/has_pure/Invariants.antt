@@ -1,8 +1,8 @@
 use Rattle.std.proofs.Common.{◌≡◌, drop, map}
 use Rattle.std.specs.List.{list_any}
 use Rattle.cpp_types.specs.Class.{classes_of}
-use Rattle.cpp_tree.specs.Units.{SlotFunc, slot_of}
-use Rattle.elab_rules.specs.Classes.{is_pure, slot_function}
+use Rattle.elab_init.specs.cpp_tree.Units.{SlotFunc, slot_of}
+use Rattle.elab_init.specs.elab_rules.Classes.{is_pure, slot_function}
 use Rattle.class_records.proofs.closing.has_pure.Given as goal
 
 abbrev pub invariant-loop-slot : goal.invariant-loop-slot

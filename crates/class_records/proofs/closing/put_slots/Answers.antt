@@ -1,8 +1,8 @@
 use Rattle.std.proofs.Common.{Vec, Global, List, ap, map}
 use Rattle.std.proofs.lemmas.List.{map-set}
-use Rattle.cpp_tree.specs.Units.{SlotFunc, slot_of}
-use Rattle.cpp_tree.specs.declared.program.SlotRec.{SlotRec}
-use Rattle.elab_ctx.specs.Ctx.{ctx_of}
+use Rattle.elab_init.specs.cpp_tree.Units.{SlotFunc, slot_of}
+use Rattle.elab_init.specs.cpp_tree.declared.program.SlotRec.{SlotRec}
+use Rattle.elab_init.specs.elab_ctx.Ctx.{ctx_of}
 use Rattle.class_records.proofs.closing.put_slots.Goals as goal
 
 pub returns : goal.returns

@@ -1,6 +1,6 @@
 use Rattle.std.proofs.Common.{List, ap}
 use Rattle.std.proofs.lemmas.List.{map-set}
-use Rattle.elab_ctx.specs.Ctx.{ctx_of, traits_of, Traits}
+use Rattle.elab_init.specs.elab_ctx.Ctx.{ctx_of, traits_of, Traits}
 use Rattle.class_records.proofs.closing.put_traits.Goals as goal
 
 pub returns : goal.returns

@@ -2,7 +2,7 @@ use Rattle.std.proofs.Common.{List, ap, sym, ◌∙◌}
 use Rattle.std.proofs.lemmas.List.{map-set}
 use Rattle.cpp_types.specs.Class.{Class, class_of, classes_of}
 use Rattle.cpp_types.specs.Order.{all_consistent}
-use Rattle.elab_ctx.specs.Ctx.{ctx_of}
+use Rattle.elab_init.specs.elab_ctx.Ctx.{ctx_of}
 use Rattle.class_records.proofs.Renewal.{renewed}
 use Rattle.class_records.proofs.renewing.put_class.Goals as goal
 

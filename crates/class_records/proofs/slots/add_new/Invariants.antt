@@ -1,8 +1,8 @@
 use Rattle.std.proofs.Common.{◌≡◌, ◌++◌, drop, map}
 use Rattle.cpp_types.specs.Class.{function_of}
-use Rattle.cpp_tree.specs.Units.{slot_of as slot_shown}
-use Rattle.elab_ctx.specs.Ctx.{ctx_of}
-use Rattle.elab_rules.specs.Classes.{new_slots}
+use Rattle.elab_init.specs.cpp_tree.Units.{slot_of as slot_shown}
+use Rattle.elab_init.specs.elab_ctx.Ctx.{ctx_of}
+use Rattle.elab_init.specs.elab_rules.Classes.{new_slots}
 use Rattle.class_members.specs.Shown.{home_of}
 use Rattle.class_records.proofs.slots.add_new.Given as goal
 

@@ -1,7 +1,7 @@
 use Rattle.std.proofs.Common.{◌≡◌, Some, drop, map}
 use Rattle.cpp_types.specs.Class.{function_of}
-use Rattle.cpp_tree.specs.Units.{slot_of as slot_shown}
-use Rattle.elab_rules.specs.Classes.{overrider_from}
+use Rattle.elab_init.specs.cpp_tree.Units.{slot_of as slot_shown}
+use Rattle.elab_init.specs.elab_rules.Classes.{overrider_from}
 use Rattle.class_records.proofs.slots.overrider.Given as goal
 
 abbrev pub invariant-loop-i : goal.invariant-loop-i

@@ -1,7 +1,7 @@
 use Rattle.std.proofs.Common.{◌≡◌, ◌++◌, drop, map}
 use Rattle.cpp_types.specs.Class.{classes_of, function_of}
-use Rattle.cpp_tree.specs.Units.{slot_of as slot_shown}
-use Rattle.elab_rules.specs.Classes.{overriding}
+use Rattle.elab_init.specs.cpp_tree.Units.{slot_of as slot_shown}
+use Rattle.elab_init.specs.elab_rules.Classes.{overriding}
 use Rattle.class_records.proofs.slots.overriding.Given as goal
 
 abbrev pub invariant-loop-slot : goal.invariant-loop-slot

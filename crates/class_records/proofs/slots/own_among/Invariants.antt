@@ -1,7 +1,7 @@
 use Rattle.std.proofs.Common.{◌≡◌, ◌++◌, drop, map}
 use Rattle.cpp_types.specs.Class.{function_of}
-use Rattle.elab_ctx.specs.Ctx.{func_of}
-use Rattle.elab_rules.specs.Classes.{own_functions}
+use Rattle.elab_init.specs.elab_ctx.Ctx.{func_of}
+use Rattle.elab_init.specs.elab_rules.Classes.{own_functions}
 use Rattle.class_records.proofs.slots.own_among.Given as goal
 
 abbrev pub invariant-loop-found : goal.invariant-loop-found

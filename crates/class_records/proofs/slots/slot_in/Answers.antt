@@ -1,7 +1,7 @@
 use Rattle.std.proofs.Common.{map}
 use Rattle.cpp_types.specs.Class.{classes_of, function_of}
-use Rattle.cpp_tree.specs.Units.{slot_of as slot_shown}
-use Rattle.elab_rules.specs.Classes.{slot_function}
+use Rattle.elab_init.specs.cpp_tree.Units.{slot_of as slot_shown}
+use Rattle.elab_init.specs.elab_rules.Classes.{slot_function}
 use Rattle.class_records.proofs.Overriders.{copy_none}
 use Rattle.class_records.proofs.slots.slot_in.Goals as goal
 

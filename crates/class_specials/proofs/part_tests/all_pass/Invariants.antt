@@ -1,7 +1,7 @@
 use Rattle.std.proofs.Common.{◌≡◌, drop, map}
 use Rattle.std.specs.List.{list_all}
 use Rattle.cpp_types.specs.Class.{member_of}
-use Rattle.elab_ctx.specs.Ctx.{ctx_of}
+use Rattle.elab_init.specs.elab_ctx.Ctx.{ctx_of}
 use Rattle.class_specials.specs.Tests.{member_passes}
 use Rattle.class_specials.proofs.part_tests.all_pass.Given as goal
 

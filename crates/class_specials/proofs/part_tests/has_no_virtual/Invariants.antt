@@ -1,7 +1,7 @@
 use Rattle.std.proofs.Common.{◌≡◌, ◌&&◌, drop, map}
 use Rattle.std.specs.List.{list_any}
-use Rattle.elab_ctx.specs.Ctx.{Func, func_of}
-use Rattle.elab_rules.specs.Initialising.{same_number}
+use Rattle.elab_init.specs.elab_ctx.Ctx.{Func, func_of}
+use Rattle.elab_init.specs.elab_rules.Initialising.{same_number}
 use Rattle.class_specials.proofs.part_tests.has_no_virtual.Given as goal
 
 abbrev pub invariant-loop-found : goal.invariant-loop-found

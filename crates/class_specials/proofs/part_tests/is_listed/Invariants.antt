@@ -1,5 +1,5 @@
 use Rattle.std.proofs.Common.{◌≡◌, drop}
-use Rattle.elab_rules.specs.Classes.{is_listed}
+use Rattle.elab_init.specs.elab_rules.Classes.{is_listed}
 use Rattle.class_specials.proofs.part_tests.is_listed.Given as goal
 
 abbrev pub invariant-loop-found : goal.invariant-loop-found

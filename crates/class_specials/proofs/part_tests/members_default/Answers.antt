@@ -1,7 +1,7 @@
 use Rattle.std.proofs.Common.{◌≡◌, rules, true}
 use Rattle.cpp_types.specs.Class.{member_of}
-use Rattle.elab_ctx.specs.Ctx.{ctx_of}
-use Rattle.elab_rules.specs.Classes.{members_default}
+use Rattle.elab_init.specs.elab_ctx.Ctx.{ctx_of}
+use Rattle.elab_init.specs.elab_rules.Classes.{members_default}
 use Rattle.std.proofs.Common.{map}
 use Rattle.class_specials.proofs.Defaults.{default_more}
 use Rattle.class_specials.proofs.part_tests.members_default.Goals as goal

@@ -1,8 +1,8 @@
 use Rattle.std.proofs.Common.{◌≡◌, drop, map}
 use Rattle.std.specs.List.{list_all}
 use Rattle.cpp_types.specs.Class.{Member, member_of, held}
-use Rattle.elab_ctx.specs.Ctx.{ctx_of}
-use Rattle.elab_rules.specs.Classes.{class_test}
+use Rattle.elab_init.specs.elab_ctx.Ctx.{ctx_of}
+use Rattle.elab_init.specs.elab_rules.Classes.{class_test}
 use Rattle.class_specials.specs.Tests.{passes}
 use Rattle.class_specials.proofs.part_tests.members_pass.Given as goal
 

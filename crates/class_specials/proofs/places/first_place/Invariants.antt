@@ -1,6 +1,6 @@
 use Rattle.std.proofs.Common.{◌≡◌, drop, map}
-use Rattle.elab_ctx.specs.Ctx.{func_of}
-use Rattle.elab_rules.specs.Functions.{first_from}
+use Rattle.elab_init.specs.elab_ctx.Ctx.{func_of}
+use Rattle.elab_init.specs.elab_rules.Functions.{first_from}
 use Rattle.class_members.specs.Shown.{home_of}
 use Rattle.class_specials.specs.Tests.{is_wanted}
 use Rattle.class_specials.proofs.places.first_place.Given as goal

@@ -1,5 +1,5 @@
 use Rattle.std.proofs.Common.{◌∙◌, ne_eqb}
-use Rattle.elab_rules.specs.Classes.{own_reference}
+use Rattle.elab_init.specs.elab_rules.Classes.{own_reference}
 use Rattle.class_specials.proofs.Singles.{other_long}
 use Rattle.class_specials.proofs.places.is_only_own_reference.Goals as goal
 

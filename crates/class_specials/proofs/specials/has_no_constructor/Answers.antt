@@ -1,6 +1,6 @@
 use Rattle.std.proofs.Common.{◌≡◌, ◌∙◌, rules, ap, map, is_none}
-use Rattle.elab_ctx.specs.Ctx.{func_of}
-use Rattle.elab_rules.specs.Initialising.{is_constructor}
+use Rattle.elab_init.specs.elab_ctx.Ctx.{func_of}
+use Rattle.elab_init.specs.elab_rules.Initialising.{is_constructor}
 use Rattle.class_specials.proofs.Firsts.{none_first}
 use Rattle.class_specials.proofs.specials.has_no_constructor.Goals as goal
 

@@ -1,11 +1,11 @@
 use Rattle.std.proofs.Common.{◌≡◌, ◌∙◌, rules, refl, sym, ap, subst, map, drop, List, Option, Some, None, Ok, Err, true, false, not, option_map, ◌∷◌, ◌+◌, []}
-use Rattle.cpp_lex.specs.Tokens.{lexemes_of}
-use Rattle.elab_ctx.specs.Ctx.{ctx_of, work_of}
-use Rattle.elab_ctx.specs.Says.{Faults}
-use Rattle.elab_types.specs.Syntax.{syntax_of, tree_at, trees_at}
+use Rattle.elab_expr.specs.cpp_lex.Tokens.{lexemes_of}
+use Rattle.elab_expr.specs.elab_ctx.Ctx.{ctx_of, work_of}
+use Rattle.elab_expr.specs.elab_ctx.Says.{Faults}
+use Rattle.elab_expr.specs.elab_types.Syntax.{syntax_of, tree_at, trees_at}
 use Rattle.class_members.specs.Shown.{home_of, reading}
-use Rattle.elab_rules.specs.Functions.{text_sized}
-use Rattle.elab_rules.specs.Classes.{begun, Home}
+use Rattle.elab_expr.specs.elab_rules.Functions.{text_sized}
+use Rattle.elab_expr.specs.elab_rules.Classes.{begun, Home}
 use Rattle.class_table.specs.Written.{at_hand, class_read, read_members}
 use Rattle.class_table.proofs.Closing.{text_fails, name_fails, base_fails, head_is, head_with, reads_refused}
 use Rattle.class_table.proofs.class_walk.class_read.Goals as goal

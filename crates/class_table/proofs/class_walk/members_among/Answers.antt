@@ -1,7 +1,7 @@
 use Rattle.std.proofs.Common.{◌≡◌, true, List, length, subst, sym}
-use Rattle.cpp_ast.specs.Orders.{are_below}
-use Rattle.cpp_ast.specs.declared.arena.NodeId.{NodeId}
-use Rattle.elab_types.proofs.KidLists.{wider}
+use Rattle.elab_expr.specs.cpp_ast.Orders.{are_below}
+use Rattle.elab_expr.specs.cpp_ast.declared.arena.NodeId.{NodeId}
+use Rattle.elab_expr.proofs.elab_types.KidLists.{wider}
 use Rattle.elab_expr.proofs.Several.{below_at}
 use Rattle.class_table.proofs.class_walk.members_among.Goals as goal
 

@@ -1,6 +1,6 @@
 use Rattle.std.proofs.Common.{◌≡◌, drop}
-use Rattle.elab_rules.specs.Members.{members_among}
-use Rattle.elab_types.specs.Syntax.{syntax_of, trees_at}
+use Rattle.elab_expr.specs.elab_rules.Members.{members_among}
+use Rattle.elab_expr.specs.elab_types.Syntax.{syntax_of, trees_at}
 use Rattle.class_table.proofs.class_walk.members_among.Given as goal
 
 abbrev pub invariant-loop-kid : goal.invariant-loop-kid

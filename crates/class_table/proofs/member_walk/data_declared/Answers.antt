@@ -1,16 +1,16 @@
 use Rattle.std.proofs.Common.{◌≡◌, ◌∙◌, rules, refl, sym, ap, subst, map, drop, List, Option, Some, None, Ok, Err, true, false, not, option_map, ◌∷◌, ◌+◌}
-use Rattle.cpp_lex.specs.Tokens.{lexemes_of}
-use Rattle.cpp_types.specs.Typ.{Typ, typ_of}
-use Rattle.elab_ctx.specs.Ctx.{ctx_of, work_of}
-use Rattle.elab_ctx.specs.Says.{Faults}
-use Rattle.elab_ctx.specs.Steps.{and_then, check, each_of, at_of}
-use Rattle.elab_types.specs.Syntax.{syntax_of, tree_at, trees_at}
+use Rattle.elab_expr.specs.cpp_lex.Tokens.{lexemes_of}
+use Rattle.elab_expr.specs.cpp_types.Typ.{Typ, typ_of}
+use Rattle.elab_expr.specs.elab_ctx.Ctx.{ctx_of, work_of}
+use Rattle.elab_expr.specs.elab_ctx.Says.{Faults}
+use Rattle.elab_expr.specs.elab_ctx.Steps.{and_then, check, each_of, at_of}
+use Rattle.elab_expr.specs.elab_types.Syntax.{syntax_of, tree_at, trees_at}
 use Rattle.class_members.specs.Shown.{home_of, reading, storage_of, header_of, marks_of, definition_of}
 use Rattle.class_table.proofs.Walking.{refused, answers_same, faults_then}
-use Rattle.elab_types.specs.Shown.{declared_of}
-use Rattle.cpp_tree.specs.declared.faults.IllRule.TheVariants.{BadDeclaration, OutOfProfile}
-use Rattle.elab_rules.specs.Statements.{name_of}
-use Rattle.elab_rules.specs.Classes.{has_initialiser, no_function_words, marks_from, no_marks, data_member}
+use Rattle.elab_expr.specs.elab_types.Shown.{declared_of}
+use Rattle.elab_expr.specs.cpp_tree.declared.faults.IllRule.TheVariants.{BadDeclaration, OutOfProfile}
+use Rattle.elab_expr.specs.elab_rules.Statements.{name_of}
+use Rattle.elab_expr.specs.elab_rules.Classes.{has_initialiser, no_function_words, marks_from, no_marks, data_member}
 use Rattle.class_table.specs.Written.{data_declared}
 use Rattle.class_table.proofs.member_walk.data_declared.Goals as goal
 

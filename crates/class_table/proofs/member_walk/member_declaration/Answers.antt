@@ -1,16 +1,16 @@
 use Rattle.std.proofs.Common.{◌≡◌, ◌∙◌, rules, refl, sym, ap, subst, map, drop, List, Option, Some, None, Ok, Err, true, false, not, option_map, ◌∷◌, ◌+◌}
-use Rattle.cpp_lex.specs.Tokens.{lexemes_of}
-use Rattle.cpp_types.specs.Typ.{Typ, typ_of}
-use Rattle.elab_ctx.specs.Ctx.{ctx_of, work_of}
-use Rattle.elab_ctx.specs.Says.{Faults}
-use Rattle.elab_ctx.specs.Steps.{and_then, check, each_of, at_of}
-use Rattle.elab_types.specs.Syntax.{syntax_of, tree_at, trees_at}
+use Rattle.elab_expr.specs.cpp_lex.Tokens.{lexemes_of}
+use Rattle.elab_expr.specs.cpp_types.Typ.{Typ, typ_of}
+use Rattle.elab_expr.specs.elab_ctx.Ctx.{ctx_of, work_of}
+use Rattle.elab_expr.specs.elab_ctx.Says.{Faults}
+use Rattle.elab_expr.specs.elab_ctx.Steps.{and_then, check, each_of, at_of}
+use Rattle.elab_expr.specs.elab_types.Syntax.{syntax_of, tree_at, trees_at}
 use Rattle.class_members.specs.Shown.{home_of, reading, storage_of, header_of, marks_of, definition_of}
 use Rattle.class_table.proofs.Walking.{refused, answers_same, faults_then}
-use Rattle.cpp_ast.specs.declared.arena.NodeId.{NodeId}
-use Rattle.elab_rules.specs.Expressions.{type_of_specifiers}
-use Rattle.elab_rules.specs.Functions.{no_storage}
-use Rattle.elab_rules.specs.Classes.{Started, started_from, member_declaration, member_declarator}
+use Rattle.elab_expr.specs.cpp_ast.declared.arena.NodeId.{NodeId}
+use Rattle.elab_expr.specs.elab_rules.Expressions.{type_of_specifiers}
+use Rattle.elab_expr.specs.elab_rules.Functions.{no_storage}
+use Rattle.elab_expr.specs.elab_rules.Classes.{Started, started_from, member_declaration, member_declarator}
 use Rattle.class_table.proofs.Closing.{declaration_fails, declaration_by, started_more}
 use Rattle.class_table.proofs.member_walk.member_declaration.Goals as goal
 

@@ -1,23 +1,23 @@
 use Rattle.std.proofs.Common.{◌≡◌, ◌∙◌, rules, refl, sym, ap, subst, map, drop, length, List, Option, Some, None, Ok, Err, true, false, not, option_map, ◌∷◌, ◌+◌}
-use Rattle.cpp_lex.specs.Tokens.{lexemes_of}
-use Rattle.cpp_types.specs.Typ.{Typ, typ_of}
-use Rattle.elab_ctx.specs.Ctx.{ctx_of, work_of}
-use Rattle.elab_ctx.specs.Says.{Faults}
-use Rattle.elab_ctx.specs.Steps.{and_then, check, each_of, at_of}
-use Rattle.elab_types.specs.Syntax.{syntax_of, tree_at, trees_at}
+use Rattle.elab_expr.specs.cpp_lex.Tokens.{lexemes_of}
+use Rattle.elab_expr.specs.cpp_types.Typ.{Typ, typ_of}
+use Rattle.elab_expr.specs.elab_ctx.Ctx.{ctx_of, work_of}
+use Rattle.elab_expr.specs.elab_ctx.Says.{Faults}
+use Rattle.elab_expr.specs.elab_ctx.Steps.{and_then, check, each_of, at_of}
+use Rattle.elab_expr.specs.elab_types.Syntax.{syntax_of, tree_at, trees_at}
 use Rattle.class_members.specs.Shown.{home_of, reading, storage_of, header_of, marks_of, definition_of}
 use Rattle.class_table.proofs.Walking.{refused, answers_same, faults_then}
-use Rattle.elab_types.specs.Shown.{declared_of}
-use Rattle.cpp_tree.specs.declared.faults.IllRule.TheVariants.{BadDeclaration, OutOfProfile}
-use Rattle.cpp_ast.specs.Trees.{node, more}
-use Rattle.elab_rules.specs.Expressions.{declared_by}
-use Rattle.elab_rules.specs.Statements.{is_own_name}
-use Rattle.elab_rules.specs.Classes.{within_bounds, member_named, member_declarator}
+use Rattle.elab_expr.specs.elab_types.Shown.{declared_of}
+use Rattle.elab_expr.specs.cpp_tree.declared.faults.IllRule.TheVariants.{BadDeclaration, OutOfProfile}
+use Rattle.elab_expr.specs.cpp_ast.Trees.{node, more}
+use Rattle.elab_expr.specs.elab_rules.Expressions.{declared_by}
+use Rattle.elab_expr.specs.elab_rules.Statements.{is_own_name}
+use Rattle.elab_expr.specs.elab_rules.Classes.{within_bounds, member_named, member_declarator}
 use Rattle.class_table.specs.Written.{member_declared}
 use Rattle.class_table.proofs.Members.{declarator_bound, declarator_fails, declarator_is}
-use Rattle.cpp_ast.specs.declared.arena.NodeId.{NodeId}
-use Rattle.cpp_ast.specs.Orders.{are_below}
-use Rattle.elab_types.proofs.KidLists.{wider}
+use Rattle.elab_expr.specs.cpp_ast.declared.arena.NodeId.{NodeId}
+use Rattle.elab_expr.specs.cpp_ast.Orders.{are_below}
+use Rattle.elab_expr.proofs.elab_types.KidLists.{wider}
 use Rattle.class_table.proofs.member_walk.member_declarator.Goals as goal
 
 pub declared_member-requires : goal.declared_member-requires

@@ -1,11 +1,11 @@
 use Rattle.std.proofs.Common.{◌≡◌, List, drop}
-use Rattle.cpp_lex.specs.Tokens.{lexemes_of}
-use Rattle.cpp_types.specs.Typ.{typ_of}
-use Rattle.elab_ctx.specs.Ctx.{ctx_of, work_of}
-use Rattle.elab_ctx.specs.Steps.{each_of}
-use Rattle.elab_rules.specs.Statements.{Body}
-use Rattle.elab_rules.specs.Classes.{member_declarator}
-use Rattle.elab_types.specs.Syntax.{syntax_of, trees_at}
+use Rattle.elab_expr.specs.cpp_lex.Tokens.{lexemes_of}
+use Rattle.elab_expr.specs.cpp_types.Typ.{typ_of}
+use Rattle.elab_expr.specs.elab_ctx.Ctx.{ctx_of, work_of}
+use Rattle.elab_expr.specs.elab_ctx.Steps.{each_of}
+use Rattle.elab_expr.specs.elab_rules.Statements.{Body}
+use Rattle.elab_expr.specs.elab_rules.Classes.{member_declarator}
+use Rattle.elab_expr.specs.elab_types.Syntax.{syntax_of, trees_at}
 use Rattle.class_members.specs.Shown.{home_of, reading, storage_of}
 use Rattle.class_table.proofs.member_walk.member_declarators.Given as goal
 

@@ -1,20 +1,20 @@
 use Rattle.std.proofs.Common.{◌≡◌, ◌∙◌, rules, refl, sym, ap, subst, map, drop, length, List, Option, Some, None, Ok, Err, true, false, not, option_map, ◌∷◌, ◌+◌}
-use Rattle.cpp_lex.specs.Tokens.{lexemes_of}
-use Rattle.cpp_types.specs.Typ.{Typ, typ_of}
-use Rattle.elab_ctx.specs.Ctx.{ctx_of, work_of}
-use Rattle.elab_ctx.specs.Says.{Faults}
-use Rattle.elab_ctx.specs.Steps.{and_then, check, each_of, at_of}
-use Rattle.elab_types.specs.Syntax.{syntax_of, tree_at, trees_at}
+use Rattle.elab_expr.specs.cpp_lex.Tokens.{lexemes_of}
+use Rattle.elab_expr.specs.cpp_types.Typ.{Typ, typ_of}
+use Rattle.elab_expr.specs.elab_ctx.Ctx.{ctx_of, work_of}
+use Rattle.elab_expr.specs.elab_ctx.Says.{Faults}
+use Rattle.elab_expr.specs.elab_ctx.Steps.{and_then, check, each_of, at_of}
+use Rattle.elab_expr.specs.elab_types.Syntax.{syntax_of, tree_at, trees_at}
 use Rattle.class_members.specs.Shown.{home_of, reading, storage_of, header_of, marks_of, definition_of}
 use Rattle.class_table.proofs.Walking.{refused, answers_same, faults_then}
-use Rattle.cpp_tree.specs.declared.program.FuncKind.TheVariants.{Plain, Constructor, Destructor}
-use Rattle.elab_rules.specs.Functions.{no_storage}
-use Rattle.elab_rules.specs.Classes.{member_of, member_declaration, started_from, declared_method}
+use Rattle.elab_expr.specs.cpp_tree.declared.program.FuncKind.TheVariants.{Plain, Constructor, Destructor}
+use Rattle.elab_expr.specs.elab_rules.Functions.{no_storage}
+use Rattle.elab_expr.specs.elab_rules.Classes.{member_of, member_declaration, started_from, declared_method}
 use Rattle.class_table.specs.Written.{defined_method}
 use Rattle.class_table.proofs.Walking.{declaration_member, constructor_member, destructor_member, function_defined, constructor_defined, destructor_defined}
-use Rattle.cpp_ast.specs.Orders.{are_below}
-use Rattle.elab_types.proofs.KidLists.{wider}
-use Rattle.cpp_ast.specs.declared.arena.NodeId.{NodeId}
+use Rattle.elab_expr.specs.cpp_ast.Orders.{are_below}
+use Rattle.elab_expr.proofs.elab_types.KidLists.{wider}
+use Rattle.elab_expr.specs.cpp_ast.declared.arena.NodeId.{NodeId}
 use Rattle.class_table.proofs.member_walk.member_of.Goals as goal
 
 pub member_declaration-requires : goal.member_declaration-requires

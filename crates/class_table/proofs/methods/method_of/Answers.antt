@@ -1,12 +1,12 @@
 use Rattle.std.proofs.Common.{◌≡◌, ◌∙◌, rules, refl, sym, ap, subst, map, drop, List, Option, Some, None, Ok, Err, true, false, not, option_map, ◌∷◌, ◌+◌}
-use Rattle.cpp_lex.specs.Tokens.{lexemes_of}
-use Rattle.cpp_types.specs.Typ.{Typ, typ_of}
-use Rattle.elab_ctx.specs.Ctx.{ctx_of, work_of}
-use Rattle.elab_ctx.specs.Says.{Faults}
-use Rattle.elab_types.specs.Syntax.{syntax_of, tree_at, trees_at}
+use Rattle.elab_expr.specs.cpp_lex.Tokens.{lexemes_of}
+use Rattle.elab_expr.specs.cpp_types.Typ.{Typ, typ_of}
+use Rattle.elab_expr.specs.elab_ctx.Ctx.{ctx_of, work_of}
+use Rattle.elab_expr.specs.elab_ctx.Says.{Faults}
+use Rattle.elab_expr.specs.elab_types.Syntax.{syntax_of, tree_at, trees_at}
 use Rattle.class_members.specs.Shown.{header_of, storage_of}
-use Rattle.elab_rules.specs.Functions.{no_storage}
-use Rattle.elab_rules.specs.Classes.{method_of, plain_method, special_method, started_from}
+use Rattle.elab_expr.specs.elab_rules.Functions.{no_storage}
+use Rattle.elab_expr.specs.elab_rules.Classes.{method_of, plain_method, special_method, started_from}
 use Rattle.class_table.specs.Written.{at_hand, method_shown}
 use Rattle.class_table.proofs.Functions.{says_same, method_plain, method_special}
 use Rattle.class_table.proofs.methods.method_of.Goals as goal

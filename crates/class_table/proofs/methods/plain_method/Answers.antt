@@ -1,11 +1,11 @@
 use Rattle.std.proofs.Common.{◌≡◌, ◌∙◌, rules, refl, sym, ap, subst, map, drop, List, Option, Some, None, Ok, Err, true, false, not, option_map, ◌∷◌, ◌+◌}
-use Rattle.cpp_lex.specs.Tokens.{lexemes_of}
-use Rattle.cpp_types.specs.Typ.{Typ, typ_of}
-use Rattle.elab_ctx.specs.Ctx.{ctx_of, work_of}
-use Rattle.elab_ctx.specs.Says.{Faults}
-use Rattle.elab_types.specs.Syntax.{syntax_of, tree_at, trees_at}
+use Rattle.elab_expr.specs.cpp_lex.Tokens.{lexemes_of}
+use Rattle.elab_expr.specs.cpp_types.Typ.{Typ, typ_of}
+use Rattle.elab_expr.specs.elab_ctx.Ctx.{ctx_of, work_of}
+use Rattle.elab_expr.specs.elab_ctx.Says.{Faults}
+use Rattle.elab_expr.specs.elab_types.Syntax.{syntax_of, tree_at, trees_at}
 use Rattle.class_members.specs.Shown.{header_of, storage_of}
-use Rattle.elab_rules.specs.Classes.{plain_method}
+use Rattle.elab_expr.specs.elab_rules.Classes.{plain_method}
 use Rattle.class_table.specs.Written.{at_hand, method_shown}
 use Rattle.class_table.proofs.Functions.{says_refused, plain_made, plain_fails}
 use Rattle.class_table.proofs.methods.plain_method.Goals as goal

@@ -1,5 +1,5 @@
-use Rattle.cpp_lex.specs.Tokens.{lexemes_of}
-use Rattle.elab_ctx.specs.Ctx.{ctx_of}
+use Rattle.elab_init.specs.cpp_lex.Tokens.{lexemes_of}
+use Rattle.elab_init.specs.elab_ctx.Ctx.{ctx_of}
 use Rattle.elab_types.specs.Syntax.{syntax_of, tree_at, trees_at}
 use Rattle.class_members.specs.Shown.{reading}
 use Rattle.class_texts.proofs.Places.{trees_next}

@@ -1,8 +1,8 @@
 use Rattle.std.proofs.Common.{◌≡◌, ◌+◌, ◌*◌, List, drop}
-use Rattle.cpp_lex.specs.Tokens.{lexemes_of}
-use Rattle.elab_ctx.specs.Ctx.{ctx_of, Work}
-use Rattle.elab_rules.specs.Statements.{Body}
-use Rattle.elab_rules.specs.Classes.{member_among}
+use Rattle.elab_init.specs.cpp_lex.Tokens.{lexemes_of}
+use Rattle.elab_init.specs.elab_ctx.Ctx.{ctx_of, Work}
+use Rattle.elab_init.specs.elab_rules.Statements.{Body}
+use Rattle.elab_init.specs.elab_rules.Classes.{member_among}
 use Rattle.class_members.specs.Shown.{reading}
 use Rattle.elab_types.specs.Syntax.{syntax_of, trees_at}
 use Rattle.class_texts.proofs.bounds.+named.Given as goal

@@ -1,6 +1,6 @@
 use Rattle.std.proofs.Common.{◌≡◌, drop}
-use Rattle.cpp_lex.specs.Tokens.{lexemes_of}
-use Rattle.elab_rules.specs.Classes.{started_from}
+use Rattle.elab_init.specs.cpp_lex.Tokens.{lexemes_of}
+use Rattle.elab_init.specs.elab_rules.Classes.{started_from}
 use Rattle.class_members.specs.Shown.{storage_of}
 use Rattle.elab_types.specs.Syntax.{syntax_of, trees_at}
 use Rattle.class_texts.proofs.started.started_from.Given as goal

@@ -1,6 +1,6 @@
 use Rattle.std.proofs.Common.{◌∙◌, ◌-◌, ap, take, length}
 use Rattle.elab_types.specs.Syntax.{syntax_of, trees_at}
-use Rattle.elab_rules.specs.Classes.{body_in}
+use Rattle.elab_init.specs.elab_rules.Classes.{body_in}
 use Rattle.class_texts.proofs.Bodies.{body_last}
 use Rattle.class_texts.proofs.texts.body_in.Goals as goal
 

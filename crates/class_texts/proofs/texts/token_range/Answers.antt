@@ -1,5 +1,5 @@
 use Rattle.std.proofs.Common.{◌≡◌, ◌∙◌, ◌+◌, ap, length, min, map, arith, add-one, slice_range}
-use Rattle.cpp_lex.specs.Tokens.{lexemes_of, lexeme_of}
+use Rattle.elab_init.specs.cpp_lex.Tokens.{lexemes_of, lexeme_of}
 use Rattle.class_texts.proofs.Ranges.{range_is}
 use Rattle.class_texts.proofs.texts.token_range.Goals as goal
 

@@ -1,6 +1,6 @@
 use Rattle.std.proofs.Common.{◌+◌, ◌++◌, nat_lt, refl, length, map}
-use Rattle.cpp_lex.specs.Tokens.{lexeme_of}
-use Rattle.elab_rules.specs.Functions.{joined}
+use Rattle.elab_init.specs.cpp_lex.Tokens.{lexeme_of}
+use Rattle.elab_init.specs.elab_rules.Functions.{joined}
 use Rattle.class_texts.proofs.Ranges.{joined_step}
 use Rattle.class_texts.proofs.texts.write_joined.Goals as goal
 

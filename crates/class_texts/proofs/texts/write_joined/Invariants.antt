@@ -1,6 +1,6 @@
 use Rattle.std.proofs.Common.{◌≡◌, ◌++◌, drop, map}
-use Rattle.cpp_lex.specs.Tokens.{lexeme_of}
-use Rattle.elab_rules.specs.Functions.{joined}
+use Rattle.elab_init.specs.cpp_lex.Tokens.{lexeme_of}
+use Rattle.elab_init.specs.elab_rules.Functions.{joined}
 use Rattle.class_texts.proofs.texts.write_joined.Given as goal
 
 abbrev pub invariant-loop-i : goal.invariant-loop-i

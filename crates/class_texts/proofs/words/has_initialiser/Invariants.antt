@@ -1,5 +1,5 @@
 use Rattle.std.proofs.Common.{◌≡◌, drop}
-use Rattle.elab_rules.specs.Classes.{has_initialiser}
+use Rattle.elab_init.specs.elab_rules.Classes.{has_initialiser}
 use Rattle.elab_types.specs.Syntax.{syntax_of, trees_at}
 use Rattle.class_texts.proofs.words.has_initialiser.Given as goal
 

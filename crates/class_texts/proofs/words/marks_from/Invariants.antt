@@ -1,6 +1,6 @@
 use Rattle.std.proofs.Common.{◌≡◌, drop}
-use Rattle.cpp_lex.specs.Tokens.{lexemes_of}
-use Rattle.elab_rules.specs.Classes.{marks_from, no_marks}
+use Rattle.elab_init.specs.cpp_lex.Tokens.{lexemes_of}
+use Rattle.elab_init.specs.elab_rules.Classes.{marks_from, no_marks}
 use Rattle.class_members.specs.Shown.{marks_of}
 use Rattle.elab_types.specs.Syntax.{syntax_of, trees_at}
 use Rattle.class_texts.proofs.words.marks_from.Given as goal

@@ -1,6 +1,6 @@
 use Rattle.std.proofs.Common.{map, drop}
-use Rattle.cpp_types.specs.Typ.{typ_of}
-use Rattle.cpp_types.specs.Class.{classes_of}
+use Rattle.cpp_layout.specs.cpp_types.Typ.{typ_of}
+use Rattle.cpp_layout.specs.cpp_types.Class.{classes_of}
 use Rattle.cpp_layout.specs.Frames.{AllComplete}
 use Rattle.clone_gen.proofs.sizes.all_complete.Given as goal
 

@@ -1,5 +1,5 @@
 use Rattle.std.proofs.Common.{◌∙◌, sym}
-use Rattle.elab_rules.specs.Braces.{is_written_constructor}
+use Rattle.elab_make.specs.elab_rules.Braces.{is_written_constructor}
 use Rattle.elab_aggregates.proofs.NoneFound.{passed_over, one_found, none_left}
 use Rattle.elab_aggregates.proofs.aggregates.has_no_constructor.Goals as goal
 

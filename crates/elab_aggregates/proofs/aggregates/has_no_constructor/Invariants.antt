@@ -1,7 +1,7 @@
 use Rattle.std.proofs.Common.{◌≡◌, drop, map}
-use Rattle.elab_ctx.specs.Ctx.{func_of}
-use Rattle.elab_rules.specs.Initialising.{places_from}
-use Rattle.elab_rules.specs.Braces.{is_written_constructor, is_empty}
+use Rattle.elab_make.specs.elab_ctx.Ctx.{func_of}
+use Rattle.elab_make.specs.elab_rules.Initialising.{places_from}
+use Rattle.elab_make.specs.elab_rules.Braces.{is_written_constructor, is_empty}
 use Rattle.elab_aggregates.proofs.aggregates.has_no_constructor.Given as goal
 
 abbrev pub invariant-loop-found : goal.invariant-loop-found

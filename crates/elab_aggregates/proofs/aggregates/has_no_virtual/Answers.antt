@@ -1,5 +1,5 @@
 use Rattle.std.proofs.Common.{◌∙◌, sym}
-use Rattle.elab_rules.specs.Braces.{is_virtual_member}
+use Rattle.elab_make.specs.elab_rules.Braces.{is_virtual_member}
 use Rattle.elab_aggregates.proofs.NoneFound.{passed_over, one_found, none_left}
 use Rattle.elab_aggregates.proofs.aggregates.has_no_virtual.Goals as goal
 

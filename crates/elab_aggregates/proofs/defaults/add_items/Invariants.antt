@@ -1,5 +1,5 @@
 use Rattle.std.proofs.Common.{◌≡◌, drop}
-use Rattle.elab_ctx.specs.Ctx.{work_of}
+use Rattle.elab_make.specs.elab_ctx.Ctx.{work_of}
 use Rattle.elab_aggregates.specs.MemberPieces.{with_items}
 use Rattle.elab_aggregates.proofs.defaults.add_items.Given as goal
 

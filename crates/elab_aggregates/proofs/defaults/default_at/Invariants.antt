@@ -1,7 +1,7 @@
 use Rattle.std.proofs.Common.{◌≡◌, drop, map}
-use Rattle.cpp_tree.specs.Arena.{trees_of}
-use Rattle.elab_ctx.specs.Ctx.{default_of}
-use Rattle.elab_rules.specs.Braces.{default_at}
+use Rattle.elab_make.specs.cpp_tree.Arena.{trees_of}
+use Rattle.elab_make.specs.elab_ctx.Ctx.{default_of}
+use Rattle.elab_make.specs.elab_rules.Braces.{default_at}
 use Rattle.elab_aggregates.proofs.defaults.default_at.Given as goal
 
 abbrev pub invariant-loop-found : goal.invariant-loop-found

@@ -1,5 +1,5 @@
-use Rattle.elab_ctx.specs.Ctx.{work_of, default_of}
-use Rattle.cpp_tree.specs.Arena.{trees_of}
+use Rattle.elab_make.specs.elab_ctx.Ctx.{work_of, default_of}
+use Rattle.elab_make.specs.cpp_tree.Arena.{trees_of}
 use Rattle.elab_aggregates.proofs.Aggregated.{part_put}
 use Rattle.elab_aggregates.proofs.defaults.default_made.Goals as goal
 

@@ -1,5 +1,5 @@
 use Rattle.std.proofs.Common.{arith}
-use Rattle.cpp_tree.proofs.Shown.{many_trees}
+use Rattle.elab_make.proofs.cpp_tree.Shown.{many_trees}
 use Rattle.elab_aggregates.proofs.defaults.relocated_init.Goals as goal
 
 pub relocated-requires-clause-within : goal.relocated-requires-clause-within

@@ -1,5 +1,5 @@
 use Rattle.std.proofs.Common.{◌∙◌, ◌∷◌, ap, refl}
-use Rattle.elab_ctx.proofs.Making.{last_adds}
+use Rattle.elab_make.proofs.elab_ctx.Making.{last_adds}
 use Rattle.elab_make.proofs.Nodes.{node_same}
 use Rattle.elab_make.proofs.Putting.{kids_behind}
 use Rattle.elab_aggregates.proofs.pieces.piece.Goals as goal

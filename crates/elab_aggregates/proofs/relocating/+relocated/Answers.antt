@@ -1,6 +1,6 @@
 use Rattle.std.proofs.Common.{◌∙◌, refl, sym}
-use Rattle.cpp_types.specs.Typ.{typ_of}
-use Rattle.cpp_tree.specs.Arena.{trees_of, tree_at}
+use Rattle.elab_make.specs.cpp_types.Typ.{typ_of}
+use Rattle.elab_make.specs.cpp_tree.Arena.{trees_of, tree_at}
 use Rattle.elab_aggregates.specs.Relocated.{this_at}
 use Rattle.elab_aggregates.proofs.Relocation.{this_read, node_moved, kid_moved, kids_moved}
 use Rattle.elab_aggregates.proofs.relocating.+relocated.Goals as goal

@@ -1,9 +1,9 @@
 use Rattle.std.proofs.Common.{◌+◌, ◌*◌, drop}
-use Rattle.cpp_types.specs.Typ.{typ_of}
-use Rattle.cpp_tree.specs.Arena.{trees_of, trees_at}
-use Rattle.elab_rules.specs.Braces.{all_relocated}
+use Rattle.elab_make.specs.cpp_types.Typ.{typ_of}
+use Rattle.elab_make.specs.cpp_tree.Arena.{trees_of, trees_at}
+use Rattle.elab_make.specs.elab_rules.Braces.{all_relocated}
 use Rattle.elab_aggregates.specs.Relocated.{this_at}
-use Rattle.elab_init.proofs.Listing.{Adding}
+use Rattle.elab_make.proofs.elab_init.Listing.{Adding}
 use Rattle.elab_aggregates.proofs.relocating.+relocated.Given as goal
 
 abbrev pub decreases-relocated : goal.decreases-relocated

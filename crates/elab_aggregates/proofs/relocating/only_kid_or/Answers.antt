@@ -1,7 +1,7 @@
 use Rattle.std.proofs.Common.{◌∙◌, sym, ap, arith}
-use Rattle.cpp_tree.specs.Arena.{trees_of, tree_at}
-use Rattle.elab_rules.specs.Values.{only_tree}
-use Rattle.elab_init.proofs.Wholes.{many_trees}
+use Rattle.elab_make.specs.cpp_tree.Arena.{trees_of, tree_at}
+use Rattle.elab_make.specs.elab_rules.Values.{only_tree}
+use Rattle.elab_make.proofs.elab_init.Wholes.{many_trees}
 use Rattle.elab_aggregates.proofs.relocating.only_kid_or.Goals as goal
 
 pub returns-in_default-2-clause-is : goal.returns-in_default-2-clause-is

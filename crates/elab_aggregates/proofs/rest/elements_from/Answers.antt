@@ -1,5 +1,5 @@
 use Rattle.std.proofs.Common.{◌∙◌, ap, ◌*◌}
-use Rattle.elab_ctx.specs.Ctx.{ctx_of}
+use Rattle.elab_make.specs.elab_ctx.Ctx.{ctx_of}
 use Rattle.elab_aggregates.proofs.Aggregated.{nothing_same}
 use Rattle.elab_aggregates.proofs.rest.elements_from.Goals as goal
 

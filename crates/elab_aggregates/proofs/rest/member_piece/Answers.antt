@@ -1,5 +1,5 @@
-use Rattle.cpp_types.specs.Typ.{typ_of}
-use Rattle.elab_ctx.specs.Ctx.{ctx_of}
+use Rattle.elab_make.specs.cpp_types.Typ.{typ_of}
+use Rattle.elab_make.specs.elab_ctx.Ctx.{ctx_of}
 use Rattle.elab_aggregates.proofs.Aggregated.{member_qualified}
 use Rattle.elab_aggregates.proofs.rest.member_piece.Goals as goal
 

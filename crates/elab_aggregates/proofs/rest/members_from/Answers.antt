@@ -1,6 +1,6 @@
 use Rattle.std.proofs.Common.{◌≡◌, Err, refl, arith, rules}
-use Rattle.cpp_types.specs.Typ.{typ_of}
-use Rattle.elab_ctx.specs.Ctx.{ctx_of}
+use Rattle.elab_make.specs.cpp_types.Typ.{typ_of}
+use Rattle.elab_make.specs.elab_ctx.Ctx.{ctx_of}
 use Rattle.elab_make.proofs.Calling.{refused_all}
 use Rattle.elab_aggregates.proofs.Aggregated.{member_made, member_fails, members_done}
 use Rattle.elab_aggregates.proofs.rest.members_from.Goals as goal

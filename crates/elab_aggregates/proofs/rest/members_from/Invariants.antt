@@ -1,9 +1,9 @@
 use Rattle.std.proofs.Common.{drop, map}
-use Rattle.cpp_types.specs.Class.{member_of}
-use Rattle.cpp_types.specs.Typ.{typ_of}
-use Rattle.cpp_tree.specs.Arena.{trees_of, tree_at}
-use Rattle.elab_ctx.specs.Ctx.{ctx_of, work_of}
-use Rattle.elab_rules.specs.Braces.{rest_members}
+use Rattle.elab_make.specs.cpp_types.Class.{member_of}
+use Rattle.elab_make.specs.cpp_types.Typ.{typ_of}
+use Rattle.elab_make.specs.cpp_tree.Arena.{trees_of, tree_at}
+use Rattle.elab_make.specs.elab_ctx.Ctx.{ctx_of, work_of}
+use Rattle.elab_make.specs.elab_rules.Braces.{rest_members}
 use Rattle.elab_aggregates.proofs.Making.{Making}
 use Rattle.elab_aggregates.proofs.rest.members_from.Given as goal
 

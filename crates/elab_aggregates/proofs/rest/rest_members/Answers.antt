@@ -1,8 +1,8 @@
 use Rattle.std.proofs.Common.{◌∙◌, ap, slice_get}
-use Rattle.cpp_types.specs.Class.{classes_of}
-use Rattle.cpp_types.specs.Typ.{typ_of}
-use Rattle.elab_ctx.specs.Ctx.{ctx_of}
-use Rattle.elab_rules.specs.Names.{members_in}
+use Rattle.elab_make.specs.cpp_types.Class.{classes_of}
+use Rattle.elab_make.specs.cpp_types.Typ.{typ_of}
+use Rattle.elab_make.specs.elab_ctx.Ctx.{ctx_of}
+use Rattle.elab_make.specs.elab_rules.Names.{members_in}
 use Rattle.elab_aggregates.proofs.Aggregated.{members_same}
 use Rattle.elab_aggregates.proofs.rest.rest_members.Goals as goal
 

@@ -1,5 +1,5 @@
-use Rattle.cpp_types.specs.Typ.{typ_of}
-use Rattle.elab_ctx.specs.Ctx.{ctx_of}
+use Rattle.elab_make.specs.cpp_types.Typ.{typ_of}
+use Rattle.elab_make.specs.elab_ctx.Ctx.{ctx_of}
 use Rattle.elab_aggregates.proofs.Aggregated.{rest_made}
 use Rattle.elab_aggregates.proofs.rest.rest_of_array.Goals as goal
 

@@ -1,5 +1,5 @@
 use Rattle.std.proofs.Common.{refl}
-use Rattle.cpp_types.specs.Typ.{typ_of}
+use Rattle.elab_make.specs.cpp_types.Typ.{typ_of}
 use Rattle.elab_aggregates.proofs.StringParts.{byte_added, bytes_done}
 use Rattle.elab_aggregates.proofs.strings.byte_pieces.Goals as goal
 

@@ -1,8 +1,8 @@
 use Rattle.std.proofs.Common.{drop}
-use Rattle.cpp_types.specs.Typ.{typ_of}
-use Rattle.cpp_tree.specs.Arena.{trees_of}
-use Rattle.elab_rules.specs.Braces.{byte_pieces}
-use Rattle.elab_init.proofs.Listing.{Adding}
+use Rattle.elab_make.specs.cpp_types.Typ.{typ_of}
+use Rattle.elab_make.specs.cpp_tree.Arena.{trees_of}
+use Rattle.elab_make.specs.elab_rules.Braces.{byte_pieces}
+use Rattle.elab_make.proofs.elab_init.Listing.{Adding}
 use Rattle.elab_aggregates.proofs.strings.byte_pieces.Given as goal
 
 abbrev pub invariant-loop-i : goal.invariant-loop-i

@@ -1,6 +1,6 @@
 use Rattle.std.proofs.Common.{refl}
-use Rattle.cpp_types.specs.Typ.{typ_of}
-use Rattle.elab_ctx.specs.Ctx.{ctx_of}
+use Rattle.elab_make.specs.cpp_types.Typ.{typ_of}
+use Rattle.elab_make.specs.elab_ctx.Ctx.{ctx_of}
 use Rattle.elab_aggregates.proofs.StringParts.{string_adds}
 use Rattle.elab_aggregates.proofs.strings.string_array.Goals as goal
 

@@ -1,11 +1,11 @@
 use Rattle.std.proofs.Common.{◌∙◌, sym, ap}
-use Rattle.cpp_types.specs.Typ.{typ_of}
-use Rattle.cpp_types.specs.declared.ranks.Cat.TheVariants.{Prvalue}
-use Rattle.cpp_types.specs.Class.{classes_of}
-use Rattle.cpp_tree.specs.declared.kinds.TKind.TheVariants.{Piece}
-use Rattle.cpp_tree.specs.Trees.{node, one}
-use Rattle.elab_ctx.specs.Ctx.{ctx_of}
-use Rattle.elab_rules.specs.Objects.{zeros}
+use Rattle.elab_make.specs.cpp_types.Typ.{typ_of}
+use Rattle.elab_make.specs.cpp_types.declared.ranks.Cat.TheVariants.{Prvalue}
+use Rattle.elab_make.specs.cpp_types.Class.{classes_of}
+use Rattle.elab_make.specs.cpp_tree.declared.kinds.TKind.TheVariants.{Piece}
+use Rattle.elab_make.specs.cpp_tree.Trees.{node, one}
+use Rattle.elab_make.specs.elab_ctx.Ctx.{ctx_of}
+use Rattle.elab_make.specs.elab_rules.Objects.{zeros}
 use Rattle.elab_aggregates.proofs.StringParts.{zero_is, list_adds}
 use Rattle.elab_aggregates.proofs.strings.zero_rest.Goals as goal
 

@@ -1,10 +1,10 @@
 use Rattle.std.proofs.Common.{◌≡◌, ◌∙◌, ◌++◌, option_map, Err, refl, ap, sym, arith, rules}
-use Rattle.cpp_lex.specs.Tokens.{lexemes_of}
-use Rattle.cpp_types.specs.Typ.{typ_of}
-use Rattle.elab_ctx.specs.Ctx.{ctx_of}
-use Rattle.elab_make.proofs.Calling.{refused_made, refused_all}
-use Rattle.elab_types.specs.Syntax as nodes
-use Rattle.elab_init.specs.Parts.{part_of}
+use Rattle.elab_expr.specs.cpp_lex.Tokens.{lexemes_of}
+use Rattle.elab_expr.specs.cpp_types.Typ.{typ_of}
+use Rattle.elab_expr.specs.elab_ctx.Ctx.{ctx_of}
+use Rattle.elab_expr.proofs.elab_make.Calling.{refused_made, refused_all}
+use Rattle.elab_expr.specs.elab_types.Syntax as nodes
+use Rattle.elab_expr.specs.elab_init.Parts.{part_of}
 use Rattle.elab_braces.proofs.Itemised.{item_braced, item_plain, item_made, item_fails, items_done, rest_fails, placed_made, placed_fails, part_makes, no_part}
 use Rattle.elab_braces.proofs.braces.+items.Goals as goal
 

@@ -1,10 +1,10 @@
 use Rattle.std.proofs.Common.{◌+◌, ◌*◌, drop}
-use Rattle.cpp_lex.specs.Tokens.{lexemes_of}
-use Rattle.cpp_types.specs.Typ.{typ_of}
-use Rattle.cpp_tree.specs.Arena.{trees_of, tree_at}
-use Rattle.elab_ctx.specs.Ctx.{ctx_of, work_of}
-use Rattle.elab_rules.specs.Braces.{items_of}
-use Rattle.elab_types.specs.Syntax.{syntax_of, trees_at}
+use Rattle.elab_expr.specs.cpp_lex.Tokens.{lexemes_of}
+use Rattle.elab_expr.specs.cpp_types.Typ.{typ_of}
+use Rattle.elab_expr.specs.cpp_tree.Arena.{trees_of, tree_at}
+use Rattle.elab_expr.specs.elab_ctx.Ctx.{ctx_of, work_of}
+use Rattle.elab_expr.specs.elab_rules.Braces.{items_of}
+use Rattle.elab_expr.specs.elab_types.Syntax.{syntax_of, trees_at}
 use Rattle.elab_aggregates.proofs.Making.{Making}
 use Rattle.elab_braces.proofs.braces.+items.Given as goal
 

@@ -1,9 +1,9 @@
 use Rattle.std.proofs.Common.{◌∙◌, sym, ap}
-use Rattle.cpp_types.specs.Typ.{typ_of}
-use Rattle.elab_ctx.specs.Ctx.{ctx_of}
-use Rattle.elab_ctx.proofs.Making.{gives_same}
-use Rattle.elab_rules.specs.Strings.{string_bytes}
-use Rattle.elab_rules.specs.Braces.{string_object}
+use Rattle.elab_expr.specs.cpp_types.Typ.{typ_of}
+use Rattle.elab_expr.specs.elab_ctx.Ctx.{ctx_of}
+use Rattle.elab_expr.proofs.elab_ctx.Making.{gives_same}
+use Rattle.elab_expr.specs.elab_rules.Strings.{string_bytes}
+use Rattle.elab_expr.specs.elab_rules.Braces.{string_object}
 use Rattle.elab_braces.proofs.expressions.string_initialiser.Goals as goal
 
 pub returns : goal.returns

@@ -1,6 +1,6 @@
-use Rattle.cpp_lex.specs.Tokens.{lexemes_of}
-use Rattle.cpp_types.specs.Typ.{typ_of}
-use Rattle.elab_types.specs.Syntax.{syntax_of, trees_at}
+use Rattle.elab_expr.specs.cpp_lex.Tokens.{lexemes_of}
+use Rattle.elab_expr.specs.cpp_types.Typ.{typ_of}
+use Rattle.elab_expr.specs.elab_types.Syntax.{syntax_of, trees_at}
 use Rattle.elab_braces.proofs.Initials.{bound_made, lower_within}
 use Rattle.elab_braces.proofs.forms.bound_by_initialiser.Goals as goal
 

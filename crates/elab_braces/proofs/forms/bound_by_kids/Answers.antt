@@ -1,5 +1,5 @@
 use Rattle.std.proofs.Common.{◌∙◌, sym}
-use Rattle.cpp_types.specs.Typ.{typ_of}
+use Rattle.elab_expr.specs.cpp_types.Typ.{typ_of}
 use Rattle.elab_braces.proofs.Initials.{count_is, same_bound}
 use Rattle.elab_braces.proofs.forms.bound_by_kids.Goals as goal
 

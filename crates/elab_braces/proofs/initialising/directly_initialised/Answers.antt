@@ -1,6 +1,6 @@
-use Rattle.cpp_types.specs.Typ.{typ_of}
-use Rattle.cpp_tree.specs.Arena.{trees_of}
-use Rattle.elab_ctx.specs.Ctx.{ctx_of}
+use Rattle.elab_expr.specs.cpp_types.Typ.{typ_of}
+use Rattle.elab_expr.specs.cpp_tree.Arena.{trees_of}
+use Rattle.elab_expr.specs.elab_ctx.Ctx.{ctx_of}
 use Rattle.elab_braces.proofs.Answering.{directly_makes}
 use Rattle.elab_braces.proofs.initialising.directly_initialised.Goals as goal
 

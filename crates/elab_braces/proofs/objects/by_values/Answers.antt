@@ -1,9 +1,9 @@
 use Rattle.std.proofs.Common.{◌≡◌, Err, ap, map, rules}
-use Rattle.cpp_lex.specs.Tokens.{lexemes_of}
-use Rattle.cpp_types.specs.Typ.{typ_of}
-use Rattle.elab_ctx.specs.Ctx.{ctx_of, closure_of}
-use Rattle.elab_make.proofs.Calling.{refused_made}
-use Rattle.elab_types.specs.Syntax.{syntax_of, tree_at, trees_at}
+use Rattle.elab_expr.specs.cpp_lex.Tokens.{lexemes_of}
+use Rattle.elab_expr.specs.cpp_types.Typ.{typ_of}
+use Rattle.elab_expr.specs.elab_ctx.Ctx.{ctx_of, closure_of}
+use Rattle.elab_expr.proofs.elab_make.Calling.{refused_made}
+use Rattle.elab_expr.specs.elab_types.Syntax.{syntax_of, tree_at, trees_at}
 use Rattle.elab_braces.proofs.Answering.{values_given, values_refused}
 use Rattle.elab_braces.proofs.objects.by_values.Goals as goal
 

@@ -1,9 +1,9 @@
 use Rattle.std.proofs.Common.{false, ap}
-use Rattle.cpp_tree.specs.Trees.{Tree}
-use Rattle.cpp_tree.specs.Arena.{trees_of, tree_at}
-use Rattle.elab_ctx.specs.Ctx.{ctx_of, work_of}
-use Rattle.elab_ctx.specs.Operands.{operand_in, operands_in}
-use Rattle.elab_ctx.specs.Steps.{Operand}
+use Rattle.elab_make.specs.cpp_tree.Trees.{Tree}
+use Rattle.elab_make.specs.cpp_tree.Arena.{trees_of, tree_at}
+use Rattle.elab_make.specs.elab_ctx.Ctx.{ctx_of, work_of}
+use Rattle.elab_make.specs.elab_ctx.Operands.{operand_in, operands_in}
+use Rattle.elab_make.specs.elab_ctx.Steps.{Operand}
 use Rattle.elab_call.proofs.Chosen.{closure_is}
 use Rattle.elab_call.proofs.Grown.{operands_kept, are_in_grown}
 use Rattle.elab_call.proofs.Made.{makes_grown}

@@ -1,12 +1,12 @@
 use Rattle.std.proofs.Common.{◌≡◌, ◌∷◌, false, map, refl, ap, ◌∙◌}
 use Rattle.cpp_types.specs.Typ.{signature_of}
-use Rattle.cpp_tree.specs.Arena.{trees_of, tree_at}
-use Rattle.elab_ctx.specs.Ctx.{ctx_of, work_of, func_of}
-use Rattle.elab_ctx.specs.Steps.{Operand}
-use Rattle.elab_ctx.specs.Operands.{operands_in}
-use Rattle.elab_rules.specs.Initialising.{places_from, func_at}
-use Rattle.elab_rules.specs.Names.{is_method}
-use Rattle.elab_rules.specs.Calls.{as_object, member_kind}
+use Rattle.elab_make.specs.cpp_tree.Arena.{trees_of, tree_at}
+use Rattle.elab_make.specs.elab_ctx.Ctx.{ctx_of, work_of, func_of}
+use Rattle.elab_make.specs.elab_ctx.Steps.{Operand}
+use Rattle.elab_make.specs.elab_ctx.Operands.{operands_in}
+use Rattle.elab_make.specs.elab_rules.Initialising.{places_from, func_at}
+use Rattle.elab_make.specs.elab_rules.Names.{is_method}
+use Rattle.elab_make.specs.elab_rules.Calls.{as_object, member_kind}
 use Rattle.elab_call.proofs.Chosen.{chosen_is, called_in_place}
 use Rattle.elab_call.proofs.Grown.{operands_kept, are_in_grown}
 use Rattle.elab_call.proofs.Made.{makes_grown}

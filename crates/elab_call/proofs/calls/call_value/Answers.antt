@@ -1,9 +1,9 @@
 use Rattle.std.proofs.Common.{◌≡◌, None}
-use Rattle.cpp_tree.specs.Trees.{typ_in}
-use Rattle.cpp_tree.specs.Typing.{form_in}
-use Rattle.cpp_tree.specs.Arena.{trees_of, tree_at}
-use Rattle.elab_ctx.specs.Ctx.{ctx_of, work_of}
-use Rattle.elab_ctx.specs.Operands.{operand_in, operands_in}
+use Rattle.elab_make.specs.cpp_tree.Trees.{typ_in}
+use Rattle.elab_make.specs.cpp_tree.Typing.{form_in}
+use Rattle.elab_make.specs.cpp_tree.Arena.{trees_of, tree_at}
+use Rattle.elab_make.specs.elab_ctx.Ctx.{ctx_of, work_of}
+use Rattle.elab_make.specs.elab_ctx.Operands.{operand_in, operands_in}
 use Rattle.elab_call.specs.Callees.{closure_class}
 use Rattle.elab_call.proofs.Chosen.{value_called}
 use Rattle.elab_call.proofs.Grown.{operands_kept, are_in_grown}

@@ -2,10 +2,10 @@ use Rattle.std.proofs.Common.{refl, sym, ap, ◌∙◌}
 use Rattle.cpp_types.specs.Typ.{typ_of, typs_of, signature, signature_of}
 use Rattle.cpp_types.specs.declared.types.FnTy.{out-FnTy}
 use Rattle.cpp_types.proofs.Views.{signature_view}
-use Rattle.cpp_tree.specs.Arena.{trees_of}
-use Rattle.cpp_tree.specs.Trees.{none}
-use Rattle.elab_ctx.specs.Ctx.{ctx_of, work_of}
-use Rattle.elab_ctx.specs.Operands.{operands_in}
+use Rattle.elab_make.specs.cpp_tree.Arena.{trees_of}
+use Rattle.elab_make.specs.cpp_tree.Trees.{none}
+use Rattle.elab_make.specs.elab_ctx.Ctx.{ctx_of, work_of}
+use Rattle.elab_make.specs.elab_ctx.Operands.{operands_in}
 use Rattle.elab_call.proofs.Made.{called_made}
 use Rattle.elab_call.proofs.results.called.Goals as goal
 

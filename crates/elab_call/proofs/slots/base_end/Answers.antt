@@ -1,6 +1,6 @@
 use Rattle.std.proofs.Common.{ap, ◌∙◌}
 use Rattle.cpp_types.specs.Class.{classes_of, class_of}
-use Rattle.cpp_layout.specs.Layout.{extent_of}
+use Rattle.elab_make.specs.cpp_layout.Layout.{extent_of}
 use Rattle.elab_call.specs.Slots.{end_of_base}
 use Rattle.elab_call.proofs.Pointers.{base_ends, same_number_ok}
 use Rattle.elab_call.proofs.slots.base_end.Goals as goal

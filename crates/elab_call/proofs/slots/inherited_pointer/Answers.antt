@@ -1,8 +1,8 @@
 use Rattle.std.proofs.Common.{◌≡◌, ℕ, zero, suc, ◌+◌, ◌-◌, List, true, false, Some, None, sym, ap, ◌∙◌, arith}
 use Rattle.cpp_types.specs.Class.{Class, classes_of, base_of}
 use Rattle.cpp_types.specs.Conversion.{chain}
-use Rattle.cpp_layout.specs.Layout.{has_class_pointer}
-use Rattle.elab_rules.specs.Calls.{pointer_along}
+use Rattle.elab_make.specs.cpp_layout.Layout.{has_class_pointer}
+use Rattle.elab_make.specs.elab_rules.Calls.{pointer_along}
 use Rattle.elab_names.proofs.Chains.{chain_none, chain_some}
 use Rattle.elab_call.proofs.Pointers.{along_found, along_next}
 use Rattle.elab_call.proofs.slots.inherited_pointer.Goals as goal

@@ -1,7 +1,7 @@
 use Rattle.std.proofs.Common.{◌≡◌, ℕ, ◌+◌}
 use Rattle.cpp_types.specs.Class.{classes_of}
 use Rattle.cpp_types.specs.Conversion.{chain}
-use Rattle.elab_rules.specs.Calls.{pointer_along}
+use Rattle.elab_make.specs.elab_rules.Calls.{pointer_along}
 use Rattle.elab_call.proofs.slots.inherited_pointer.Given as goal
 
 -- `k` more bases may be looked at

@@ -1,6 +1,6 @@
 use Rattle.std.proofs.Common.{◌≡◌, map, drop}
-use Rattle.cpp_tree.specs.Units.{slot_of}
-use Rattle.elab_rules.specs.Calls.{slot_from}
+use Rattle.elab_make.specs.cpp_tree.Units.{slot_of}
+use Rattle.elab_make.specs.elab_rules.Calls.{slot_from}
 use Rattle.elab_call.proofs.slots.slot_at.Given as goal
 
 abbrev pub invariant-loop-i : goal.invariant-loop-i

@@ -1,9 +1,9 @@
-use Rattle.cpp_types.specs.Typ.{typ_of}
-use Rattle.cpp_tree.specs.Arena.{trees_of}
-use Rattle.elab_ctx.specs.Ctx.{ctx_of, work_of}
-use Rattle.elab_ctx.specs.Operands.{operand_in}
-use Rattle.elab_rules.specs.Initialising.{initial}
-use Rattle.elab_rules.specs.Casts.{reference_cast}
+use Rattle.elab_forms.specs.cpp_types.Typ.{typ_of}
+use Rattle.elab_forms.specs.cpp_tree.Arena.{trees_of}
+use Rattle.elab_forms.specs.elab_ctx.Ctx.{ctx_of, work_of}
+use Rattle.elab_forms.specs.elab_ctx.Operands.{operand_in}
+use Rattle.elab_forms.specs.elab_rules.Initialising.{initial}
+use Rattle.elab_forms.specs.elab_rules.Casts.{reference_cast}
 use Rattle.elab_forms.proofs.Steps.{then_adds}
 use Rattle.elab_casts.proofs.casts.object_cast.Goals as goal
 

@@ -1,7 +1,7 @@
-use Rattle.cpp_types.specs.Typ.{typ_of}
-use Rattle.cpp_tree.specs.Trees.{Tree}
-use Rattle.cpp_tree.specs.Arena.{trees_of}
-use Rattle.elab_ctx.specs.Ctx.{ctx_of, work_of}
+use Rattle.elab_forms.specs.cpp_types.Typ.{typ_of}
+use Rattle.elab_forms.specs.cpp_tree.Trees.{Tree}
+use Rattle.elab_forms.specs.cpp_tree.Arena.{trees_of}
+use Rattle.elab_forms.specs.elab_ctx.Ctx.{ctx_of, work_of}
 use Rattle.elab_forms.proofs.Steps.{adds_then_makes}
 use Rattle.elab_casts.specs.Rows.{value_cast}
 use Rattle.elab_casts.proofs.casts.scalar_cast.Goals as goal

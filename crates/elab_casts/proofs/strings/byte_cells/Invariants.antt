@@ -1,6 +1,6 @@
 use Rattle.std.proofs.Common.{◌≡◌, ◌++◌, drop, map}
-use Rattle.cpp_tree.specs.Units.{cell_of}
-use Rattle.elab_rules.specs.Casts.{byte_cells}
+use Rattle.elab_forms.specs.cpp_tree.Units.{cell_of}
+use Rattle.elab_forms.specs.elab_rules.Casts.{byte_cells}
 use Rattle.elab_casts.proofs.strings.byte_cells.Given as goal
 
 abbrev pub invariant-loop-byte : goal.invariant-loop-byte

@@ -1,6 +1,6 @@
-use Rattle.cpp_tree.specs.Trees.{Tree}
-use Rattle.cpp_tree.specs.Arena.{trees_of}
-use Rattle.elab_ctx.specs.Ctx.{ctx_of, work_of}
+use Rattle.elab_forms.specs.cpp_tree.Trees.{Tree}
+use Rattle.elab_forms.specs.cpp_tree.Arena.{trees_of}
+use Rattle.elab_forms.specs.elab_ctx.Ctx.{ctx_of, work_of}
 use Rattle.elab_forms.proofs.Steps.{adds_then_makes}
 use Rattle.elab_casts.specs.Rows.{value_thrown}
 use Rattle.elab_casts.proofs.throws.scalar_thrown.Goals as goal

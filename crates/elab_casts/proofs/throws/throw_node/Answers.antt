@@ -1,7 +1,7 @@
 use Rattle.std.proofs.Common.{◌∙◌, ◌∷◌, ap, refl}
-use Rattle.elab_ctx.proofs.Making.{last_adds}
-use Rattle.elab_make.proofs.Nodes.{node_same}
-use Rattle.elab_make.proofs.Putting.{kids_behind}
+use Rattle.elab_forms.proofs.elab_ctx.Making.{last_adds}
+use Rattle.elab_forms.proofs.elab_make.Nodes.{node_same}
+use Rattle.elab_forms.proofs.elab_make.Putting.{kids_behind}
 use Rattle.elab_casts.proofs.throws.throw_node.Goals as goal
 
 pub returns : goal.returns

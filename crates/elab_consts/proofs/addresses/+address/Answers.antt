@@ -1,5 +1,5 @@
 use Rattle.std.proofs.Common.{◌∙◌}
-use Rattle.cpp_tree.specs.Arena.{trees_of, tree_at}
+use Rattle.elab_rules.specs.cpp_tree.Arena.{trees_of, tree_at}
 use Rattle.elab_consts.proofs.Kids.{address_none}
 use Rattle.elab_consts.proofs.addresses.+address.Goals as goal
 

@@ -1,6 +1,6 @@
 use Rattle.std.proofs.Common.{◌∙◌, map}
-use Rattle.cpp_tree.specs.Arena.{trees_of, tree_at}
-use Rattle.cpp_tree.specs.Units.{global_of}
+use Rattle.elab_rules.specs.cpp_tree.Arena.{trees_of, tree_at}
+use Rattle.elab_rules.specs.cpp_tree.Units.{global_of}
 use Rattle.elab_consts.proofs.Kids.{of_three_at, of_others, not_load}
 use Rattle.elab_consts.proofs.constants.+constant.Goals as goal
 

@@ -1,5 +1,5 @@
 use Rattle.std.proofs.Common.{◌∙◌, sym}
-use Rattle.cpp_tree.specs.Arena.{trees_of, tree_at}
+use Rattle.elab_rules.specs.cpp_tree.Arena.{trees_of, tree_at}
 use Rattle.elab_consts.proofs.Kids.{global_none}
 use Rattle.elab_consts.proofs.constants.global_in.Goals as goal
 

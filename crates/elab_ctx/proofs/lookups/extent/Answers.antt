@@ -1,7 +1,7 @@
 use Rattle.std.proofs.Common.{◌∙◌, sym, ap}
-use Rattle.cpp_types.specs.Typ.{shape_form, typ_of}
-use Rattle.cpp_types.specs.Class.{classes_of}
-use Rattle.cpp_layout.specs.Layout.{extent_of}
+use Rattle.cpp_tree.specs.cpp_types.Typ.{shape_form, typ_of}
+use Rattle.cpp_tree.specs.cpp_types.Class.{classes_of}
+use Rattle.cpp_tree.specs.cpp_layout.Layout.{extent_of}
 use Rattle.elab_ctx.proofs.Sizes.{in_order, holds_complete}
 use Rattle.elab_ctx.proofs.lookups.extent.Goals as goal
 

@@ -1,7 +1,7 @@
 use Rattle.std.proofs.Common.{rules, ◌<◌, List, [], length, map, true, refl, ap}
-use Rattle.cpp_tree.specs.Units.{Global, cell_of, global_of}
-use Rattle.elab_ctx.specs.Ctx.{work_of}
-use Rattle.elab_rules.specs.Globals.{new_global, no_global_storage}
+use Rattle.elab_expr.specs.cpp_tree.Units.{Global, cell_of, global_of}
+use Rattle.elab_expr.specs.elab_ctx.Ctx.{work_of}
+use Rattle.elab_expr.specs.elab_rules.Globals.{new_global, no_global_storage}
 use Rattle.elab_decls.proofs.Lists.{changed_at}
 use Rattle.elab_decls.proofs.declarations.define_global.Goals as goal
 

@@ -1,9 +1,9 @@
 use Rattle.std.proofs.Common.{◌∙◌, Ok, ap, sym}
-use Rattle.cpp_lex.specs.Tokens.{lexemes_of}
+use Rattle.elab_expr.specs.cpp_lex.Tokens.{lexemes_of}
 use Rattle.cpp_types.specs.Typ.{typ_of}
-use Rattle.elab_ctx.specs.Ctx.{ctx_of, work_of}
-use Rattle.elab_rules.specs.Statements.{State}
-use Rattle.elab_types.specs.Syntax.{syntax_of, trees_at}
+use Rattle.elab_expr.specs.elab_ctx.Ctx.{ctx_of, work_of}
+use Rattle.elab_expr.specs.elab_rules.Statements.{State}
+use Rattle.elab_expr.specs.elab_types.Syntax.{syntax_of, trees_at}
 use Rattle.elab_decls.specs.Says.{changed, counted}
 use Rattle.elab_decls.proofs.EnumSteps.{enum_is}
 use Rattle.elab_decls.proofs.enums.enum_with.Goals as goal

@@ -1,9 +1,9 @@
 use Rattle.std.proofs.Common.{◌≡◌, List, drop, pos}
-use Rattle.cpp_lex.specs.Tokens.{lexemes_of}
-use Rattle.elab_ctx.specs.Ctx.{ctx_of, work_of}
-use Rattle.elab_rules.specs.Statements.{Body}
-use Rattle.elab_rules.specs.Globals.{enumerators_declared}
-use Rattle.elab_types.specs.Syntax.{syntax_of, trees_at}
+use Rattle.elab_expr.specs.cpp_lex.Tokens.{lexemes_of}
+use Rattle.elab_expr.specs.elab_ctx.Ctx.{ctx_of, work_of}
+use Rattle.elab_expr.specs.elab_rules.Statements.{Body}
+use Rattle.elab_expr.specs.elab_rules.Globals.{enumerators_declared}
+use Rattle.elab_expr.specs.elab_types.Syntax.{syntax_of, trees_at}
 use Rattle.elab_decls.specs.Says.{counted}
 use Rattle.elab_decls.proofs.enums.enumerators_declared.Given as goal
 

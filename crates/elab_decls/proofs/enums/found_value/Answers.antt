@@ -1,10 +1,10 @@
 use Rattle.std.proofs.Common.{◌∙◌, ℤ, List, ap, sym}
 use Rattle.std.proofs.lemmas.Int.{to_z-of_z}
 use Rattle.std.specs.Int.{w128}
-use Rattle.cpp_lex.specs.Tokens.{lexemes_of}
-use Rattle.cpp_ast.specs.declared.arena.NodeId.{NodeId}
-use Rattle.elab_ctx.specs.Ctx.{ctx_of, work_of}
-use Rattle.elab_types.specs.Syntax.{syntax_of, tree_at, trees_at}
+use Rattle.elab_expr.specs.cpp_lex.Tokens.{lexemes_of}
+use Rattle.elab_expr.specs.cpp_ast.declared.arena.NodeId.{NodeId}
+use Rattle.elab_expr.specs.elab_ctx.Ctx.{ctx_of, work_of}
+use Rattle.elab_expr.specs.elab_types.Syntax.{syntax_of, tree_at, trees_at}
 use Rattle.elab_decls.specs.Enums.{valued_shown, written_value, found_value}
 use Rattle.elab_decls.proofs.Steps.{says_same}
 use Rattle.elab_decls.proofs.EnumSteps.{found}

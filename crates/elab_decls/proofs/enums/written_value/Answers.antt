@@ -1,14 +1,14 @@
 use Rattle.std.proofs.Common.{ℤ, SFits, ◌≡◌, ◌∙◌, rules, List, map, Err, Ok, ap, sym}
 use Rattle.std.proofs.lemmas.Int.{to_z-of_z}
 use Rattle.std.specs.Int.{w128}
-use Rattle.cpp_lex.specs.Tokens.{lexemes_of}
-use Rattle.cpp_tree.specs.Arena.{trees_of}
-use Rattle.elab_ctx.specs.Ctx.{Work, Closure, ctx_of, work_of, closure_of}
-use Rattle.elab_ctx.specs.Operands.{operand_in}
-use Rattle.elab_ctx.specs.Steps.{and_then, Typed}
-use Rattle.elab_ctx.specs.declared.env.Closure.{Closure as ClosureRec}
-use Rattle.elab_rules.specs.Expressions.{expression_with, expression_of, chosen_operand}
-use Rattle.elab_types.specs.Syntax.{syntax_of, tree_at}
+use Rattle.elab_expr.specs.cpp_lex.Tokens.{lexemes_of}
+use Rattle.elab_expr.specs.cpp_tree.Arena.{trees_of}
+use Rattle.elab_expr.specs.elab_ctx.Ctx.{Work, Closure, ctx_of, work_of, closure_of}
+use Rattle.elab_expr.specs.elab_ctx.Operands.{operand_in}
+use Rattle.elab_expr.specs.elab_ctx.Steps.{and_then, Typed}
+use Rattle.elab_expr.specs.elab_ctx.declared.env.Closure.{Closure as ClosureRec}
+use Rattle.elab_expr.specs.elab_rules.Expressions.{expression_with, expression_of, chosen_operand}
+use Rattle.elab_expr.specs.elab_types.Syntax.{syntax_of, tree_at}
 use Rattle.elab_decls.specs.Enums.{valued_shown, written_value}
 use Rattle.elab_decls.proofs.Steps.{says_refused}
 use Rattle.elab_decls.proofs.EnumSteps.{found, value_fails, value_is}

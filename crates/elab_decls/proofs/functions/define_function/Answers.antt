@@ -1,10 +1,10 @@
 use Rattle.std.proofs.Common.{◌<◌, ◌∙◌, List, length, map, true, ap, rules}
-use Rattle.elab_types.specs.declared.records.Parameter.{Parameter}
-use Rattle.elab_types.specs.Shown.{parameter_of}
-use Rattle.elab_ctx.specs.Ctx.{Func, ctx_of, func_of}
-use Rattle.cpp_tree.specs.Units.{Param}
-use Rattle.elab_rules.specs.Functions.{defined_function, param_of}
-use Rattle.elab_rules.specs.Initialising.{no_function}
+use Rattle.elab_expr.specs.elab_types.declared.records.Parameter.{Parameter}
+use Rattle.elab_expr.specs.elab_types.Shown.{parameter_of}
+use Rattle.elab_expr.specs.elab_ctx.Ctx.{Func, ctx_of, func_of}
+use Rattle.elab_expr.specs.cpp_tree.Units.{Param}
+use Rattle.elab_expr.specs.elab_rules.Functions.{defined_function, param_of}
+use Rattle.elab_expr.specs.elab_rules.Initialising.{no_function}
 use Rattle.class_members.specs.Shown.{header_of}
 use Rattle.elab_decls.proofs.Lists.{changed_at}
 use Rattle.elab_decls.proofs.functions.define_function.Goals as goal

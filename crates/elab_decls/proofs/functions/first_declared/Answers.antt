@@ -1,6 +1,6 @@
 use Rattle.std.proofs.Common.{◌≡◌, ◌∙◌, ◌∷◌, ◌++◌, [], rules, Err, ap}
-use Rattle.elab_ctx.specs.Ctx.{Func, ctx_of}
-use Rattle.elab_rules.specs.Functions.{name_declared}
+use Rattle.elab_expr.specs.elab_ctx.Ctx.{Func, ctx_of}
+use Rattle.elab_expr.specs.elab_rules.Functions.{name_declared}
 use Rattle.class_members.specs.Shown.{header_of}
 use Rattle.elab_decls.specs.Says.{placed_at, newly_declared}
 use Rattle.elab_decls.proofs.Steps.{faults_then, says_refused}

@@ -1,6 +1,6 @@
 use Rattle.std.proofs.Common.{◌≡◌, map, drop}
-use Rattle.elab_ctx.specs.Ctx.{func_of}
-use Rattle.elab_rules.specs.Functions.{is_same_function, first_from}
+use Rattle.elab_expr.specs.elab_ctx.Ctx.{func_of}
+use Rattle.elab_expr.specs.elab_rules.Functions.{is_same_function, first_from}
 use Rattle.class_members.specs.Shown.{header_of}
 use Rattle.elab_decls.proofs.functions.first_same.Given as goal
 

@@ -1,7 +1,7 @@
 use Rattle.std.proofs.Common.{◌≡◌, ◌∙◌, List, None, map, sym, ap}
-use Rattle.elab_ctx.specs.Ctx.{ctx_of, func_of}
-use Rattle.elab_ctx.specs.declared.env.FuncDecl.{FuncDecl}
-use Rattle.elab_rules.specs.Functions.{first_from, is_same_function, function_declared}
+use Rattle.elab_expr.specs.elab_ctx.Ctx.{ctx_of, func_of}
+use Rattle.elab_expr.specs.elab_ctx.declared.env.FuncDecl.{FuncDecl}
+use Rattle.elab_expr.specs.elab_rules.Functions.{first_from, is_same_function, function_declared}
 use Rattle.class_members.specs.Shown.{header_of}
 use Rattle.elab_decls.specs.Says.{placed_at, newly_declared}
 use Rattle.elab_decls.proofs.Steps.{says_same}

@@ -1,7 +1,7 @@
 use Rattle.std.proofs.Common.{◌≡◌, ◌++◌, drop, map}
-use Rattle.cpp_tree.specs.Units.{param_of}
-use Rattle.elab_rules.specs.Functions.{param_of as declared_param}
-use Rattle.elab_types.specs.Shown.{parameter_of}
+use Rattle.elab_expr.specs.cpp_tree.Units.{param_of}
+use Rattle.elab_expr.specs.elab_rules.Functions.{param_of as declared_param}
+use Rattle.elab_expr.specs.elab_types.Shown.{parameter_of}
 use Rattle.elab_decls.proofs.functions.params_from.Given as goal
 
 abbrev pub invariant-loop-param : goal.invariant-loop-param

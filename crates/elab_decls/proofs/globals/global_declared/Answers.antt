@@ -1,9 +1,9 @@
 use Rattle.std.proofs.Common.{◌≡◌, rules, Err}
-use Rattle.cpp_lex.specs.Tokens.{lexemes_of}
+use Rattle.elab_expr.specs.cpp_lex.Tokens.{lexemes_of}
 use Rattle.cpp_types.specs.Typ.{typ_of}
-use Rattle.elab_ctx.specs.Ctx.{Work, ctx_of, work_of}
-use Rattle.elab_rules.specs.Globals.{global_declared}
-use Rattle.elab_types.specs.Syntax.{syntax_of, trees_at}
+use Rattle.elab_expr.specs.elab_ctx.Ctx.{Work, ctx_of, work_of}
+use Rattle.elab_expr.specs.elab_rules.Globals.{global_declared}
+use Rattle.elab_expr.specs.elab_types.Syntax.{syntax_of, trees_at}
 use Rattle.class_members.specs.Shown.{storage_of}
 use Rattle.elab_decls.specs.Says.{state_of, placed_in, global_made}
 use Rattle.elab_decls.proofs.Steps.{answers_refused, answers_same, answers_then}

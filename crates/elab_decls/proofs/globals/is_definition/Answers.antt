@@ -1,7 +1,7 @@
 use Rattle.std.proofs.Common.{List, ap, sym}
-use Rattle.cpp_ast.specs.declared.arena.NodeId.{NodeId}
-use Rattle.elab_rules.specs.Globals.{is_definition}
-use Rattle.elab_types.specs.Syntax.{trees_at}
+use Rattle.elab_expr.specs.cpp_ast.declared.arena.NodeId.{NodeId}
+use Rattle.elab_expr.specs.elab_rules.Globals.{is_definition}
+use Rattle.elab_expr.specs.elab_types.Syntax.{trees_at}
 use Rattle.class_members.specs.Shown.{storage_of}
 use Rattle.elab_decls.proofs.globals.is_definition.Goals as goal
 

@@ -1,6 +1,6 @@
 use Rattle.std.proofs.Common.{◌<◌, ◌≤◌, ◌∙◌, length, map, ap, arith, rules}
 use Rattle.cpp_types.specs.Typ.{typ_of}
-use Rattle.elab_ctx.specs.Ctx.{enumerator_of}
+use Rattle.elab_expr.specs.elab_ctx.Ctx.{enumerator_of}
 use Rattle.elab_decls.specs.Says.{with_typ}
 use Rattle.elab_decls.proofs.Lists.{typed_at, typed_past}
 use Rattle.elab_decls.proofs.names.retype.Goals as goal

@@ -1,8 +1,8 @@
 use Rattle.std.proofs.Common.{◌≤◌, ◌∙◌, ◌+◌, List, length, map, add-one, ap, sym, rules, arith}
 use Rattle.std.proofs.lemmas.List.{length-map}
 use Rattle.cpp_types.specs.Typ.{typ_of}
-use Rattle.elab_ctx.specs.Ctx.{Enumerator, enumerator_of}
-use Rattle.elab_rules.specs.Globals.{typed_from}
+use Rattle.elab_expr.specs.elab_ctx.Ctx.{Enumerator, enumerator_of}
+use Rattle.elab_expr.specs.elab_rules.Globals.{typed_from}
 use Rattle.elab_decls.proofs.Lists.{one_typed, all_typed, as_many}
 use Rattle.elab_decls.proofs.names.retype_from.Goals as goal
 

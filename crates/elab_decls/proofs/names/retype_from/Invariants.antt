@@ -1,7 +1,7 @@
 use Rattle.std.proofs.Common.{◌≡◌, length, map}
 use Rattle.cpp_types.specs.Typ.{typ_of}
-use Rattle.elab_ctx.specs.Ctx.{enumerator_of}
-use Rattle.elab_rules.specs.Globals.{typed_from}
+use Rattle.elab_expr.specs.elab_ctx.Ctx.{enumerator_of}
+use Rattle.elab_expr.specs.elab_rules.Globals.{typed_from}
 use Rattle.elab_decls.proofs.names.retype_from.Given as goal
 
 abbrev pub invariant-loop-i : goal.invariant-loop-i

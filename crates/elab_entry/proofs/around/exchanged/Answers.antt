@@ -1,5 +1,5 @@
 use Rattle.std.proofs.Common.{ap, ◌∙◌}
-use Rattle.cpp_tree.specs.Arena.{trees_of}
+use Rattle.elab_stmt.specs.cpp_tree.Arena.{trees_of}
 use Rattle.elab_entry.proofs.around.exchanged.Goals as goal
 
 pub returns-clause-nodes : goal.returns-clause-nodes

@@ -1,7 +1,7 @@
 use Rattle.std.proofs.Common.{map, ap}
 use Rattle.cpp_types.specs.Typ.{typ_of}
-use Rattle.elab_ctx.specs.Ctx.{returns_of}
-use Rattle.elab_scopes.specs.States.{state_of}
+use Rattle.elab_stmt.specs.elab_ctx.Ctx.{returns_of}
+use Rattle.elab_stmt.specs.elab_scopes.States.{state_of}
 use Rattle.elab_entry.specs.Round.{round_of}
 use Rattle.elab_entry.proofs.Leaving.{left_is}
 use Rattle.elab_entry.proofs.around.leave_function.Goals as goal

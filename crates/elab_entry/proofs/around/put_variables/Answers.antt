@@ -1,6 +1,6 @@
 use Rattle.std.proofs.Common.{map, option_map, ap, sym, ◌∙◌}
 use Rattle.std.proofs.lemmas.List.{take-map}
-use Rattle.elab_ctx.specs.Ctx.{variable_of}
+use Rattle.elab_stmt.specs.elab_ctx.Ctx.{variable_of}
 use Rattle.elab_entry.specs.Round.{variables_by}
 use Rattle.elab_entry.proofs.around.put_variables.Goals as goal
 

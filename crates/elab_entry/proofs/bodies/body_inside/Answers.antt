@@ -1,7 +1,7 @@
 use Rattle.std.proofs.Common.{map, ap}
-use Rattle.cpp_lex.specs.Tokens.{lexemes_of}
-use Rattle.elab_types.specs.Syntax.{syntax_of, tree_at}
-use Rattle.elab_types.specs.Shown.{parameter_of}
+use Rattle.elab_stmt.specs.cpp_lex.Tokens.{lexemes_of}
+use Rattle.elab_stmt.specs.elab_types.Syntax.{syntax_of, tree_at}
+use Rattle.elab_stmt.specs.elab_types.Shown.{parameter_of}
 use Rattle.class_members.specs.Shown.{header_of}
 use Rattle.elab_entry.proofs.WithBodies.{inside_done}
 use Rattle.elab_entry.proofs.bodies.body_inside.Goals as goal

@@ -1,15 +1,15 @@
 use Rattle.std.proofs.Common.{◌≡◌, List, true, option_map, Err, ap, sym, ◌∙◌, rules}
 use Rattle.cpp_types.specs.Typ.{Typ, typ_of}
 use Rattle.cpp_types.specs.Class.{held}
-use Rattle.cpp_lex.specs.Tokens.{lexemes_of}
-use Rattle.cpp_tree.specs.Trees.{Tree}
-use Rattle.cpp_tree.specs.Arena.{tree_at}
-use Rattle.elab_ctx.specs.Ctx.{ctx_of}
-use Rattle.elab_rules.specs.Initialising.{signature_result}
-use Rattle.elab_rules.specs.Operators.{is_complete}
-use Rattle.elab_types.specs.Syntax.{syntax_of, tree_at as syntax_at}
+use Rattle.elab_stmt.specs.cpp_lex.Tokens.{lexemes_of}
+use Rattle.elab_stmt.specs.cpp_tree.Trees.{Tree}
+use Rattle.elab_stmt.specs.cpp_tree.Arena.{tree_at}
+use Rattle.elab_stmt.specs.elab_ctx.Ctx.{ctx_of}
+use Rattle.elab_stmt.specs.elab_rules.Initialising.{signature_result}
+use Rattle.elab_stmt.specs.elab_rules.Operators.{is_complete}
+use Rattle.elab_stmt.specs.elab_types.Syntax.{syntax_of, tree_at as syntax_at}
 use Rattle.class_members.specs.Shown.{header_of}
-use Rattle.elab_scopes.specs.States.{state_of}
+use Rattle.elab_stmt.specs.elab_scopes.States.{state_of}
 use Rattle.elab_entry.specs.Round.{round_of}
 use Rattle.elab_entry.specs.Bodies.{entered}
 use Rattle.elab_entry.proofs.WithBodies.{changes_fail, function_refused, function_done}

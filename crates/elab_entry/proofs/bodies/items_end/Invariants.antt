@@ -1,7 +1,7 @@
 use Rattle.std.proofs.Common.{◌≡◌, map, drop}
 use Rattle.cpp_types.specs.Typ.{typ_of}
 use Rattle.cpp_types.specs.Class.{classes_of}
-use Rattle.cpp_layout.specs.Layout.{extent_of, end_from}
+use Rattle.elab_stmt.specs.cpp_layout.Layout.{extent_of, end_from}
 use Rattle.elab_entry.proofs.bodies.items_end.Given as goal
 
 abbrev pub invariant-loop-item : goal.invariant-loop-item

@@ -1,6 +1,6 @@
 use Rattle.std.proofs.Common.{◌≡◌, ◌+◌, length, [], fold, arith}
-use Rattle.cpp_tree.specs.Arena.{trees_of, with_node}
-use Rattle.elab_ctx.proofs.Looks.{length_shown}
+use Rattle.elab_stmt.specs.cpp_tree.Arena.{trees_of, with_node}
+use Rattle.elab_stmt.proofs.elab_ctx.Looks.{length_shown}
 use Rattle.elab_entry.proofs.bodies.keep_body.Goals as goal
 
 pub copy_tree-requires : goal.copy_tree-requires

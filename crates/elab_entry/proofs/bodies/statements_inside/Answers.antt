@@ -1,6 +1,6 @@
 use Rattle.std.proofs.Common.{◌≡◌, [], ap, rules}
-use Rattle.cpp_lex.specs.Tokens.{lexemes_of}
-use Rattle.elab_types.specs.Syntax.{syntax_of, tree_at, trees_at}
+use Rattle.elab_stmt.specs.cpp_lex.Tokens.{lexemes_of}
+use Rattle.elab_stmt.specs.elab_types.Syntax.{syntax_of, tree_at, trees_at}
 use Rattle.elab_entry.proofs.WithBodies.{listed_is}
 use Rattle.elab_entry.proofs.bodies.statements_inside.Goals as goal
 

@@ -1,5 +1,5 @@
 use Rattle.std.proofs.Common.{refl}
-use Rattle.cpp_tree.specs.Arena.{trees_of, tree_at}
+use Rattle.elab_stmt.specs.cpp_tree.Arena.{trees_of, tree_at}
 use Rattle.elab_entry.proofs.Copies.{node_copied, kid_copied, kids_copied}
 use Rattle.elab_entry.proofs.copying.+copies.Goals as goal
 

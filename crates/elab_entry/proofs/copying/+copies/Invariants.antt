@@ -1,6 +1,6 @@
 use Rattle.std.proofs.Common.{◌+◌, ◌*◌, drop}
-use Rattle.cpp_tree.specs.Arena.{trees_of, trees_at}
-use Rattle.elab_init.proofs.Listing.{Adding}
+use Rattle.elab_stmt.specs.cpp_tree.Arena.{trees_of, trees_at}
+use Rattle.elab_stmt.proofs.elab_init.Listing.{Adding}
 use Rattle.elab_entry.proofs.copying.+copies.Given as goal
 
 abbrev pub decreases-copy_tree : goal.decreases-copy_tree

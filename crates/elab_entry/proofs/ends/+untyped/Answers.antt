@@ -1,5 +1,5 @@
 use Rattle.std.proofs.Common.{refl, sym, ◌∙◌}
-use Rattle.cpp_tree.specs.Arena.{trees_of, tree_at}
+use Rattle.elab_stmt.specs.cpp_tree.Arena.{trees_of, tree_at}
 use Rattle.elab_entry.proofs.Copies.{literal_copied, node_untyped, kid_untyped, kids_untyped}
 use Rattle.elab_entry.proofs.ends.+untyped.Goals as goal
 

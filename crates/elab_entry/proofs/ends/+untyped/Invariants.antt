@@ -1,7 +1,7 @@
 use Rattle.std.proofs.Common.{◌+◌, ◌*◌, drop}
-use Rattle.cpp_tree.specs.Arena.{trees_of, trees_at}
-use Rattle.elab_rules.specs.Functions.{all_untyped}
-use Rattle.elab_init.proofs.Listing.{Adding}
+use Rattle.elab_stmt.specs.cpp_tree.Arena.{trees_of, trees_at}
+use Rattle.elab_stmt.specs.elab_rules.Functions.{all_untyped}
+use Rattle.elab_stmt.proofs.elab_init.Listing.{Adding}
 use Rattle.elab_entry.proofs.ends.+untyped.Given as goal
 
 abbrev pub decreases-untyped : goal.decreases-untyped

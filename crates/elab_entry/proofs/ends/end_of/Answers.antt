@@ -1,6 +1,6 @@
 use Rattle.std.proofs.Common.{sym, ◌∙◌}
 use Rattle.cpp_types.specs.Typ.{typ_of}
-use Rattle.elab_ctx.specs.Ctx.{ctx_of}
+use Rattle.elab_stmt.specs.elab_ctx.Ctx.{ctx_of}
 use Rattle.elab_entry.proofs.Endings.{end_none, end_object, end_scalar}
 use Rattle.elab_entry.proofs.ends.end_of.Goals as goal
 

@@ -1,5 +1,5 @@
 use Rattle.cpp_types.specs.Typ.{typ_of}
-use Rattle.elab_ctx.specs.Ctx.{ctx_of}
+use Rattle.elab_stmt.specs.elab_ctx.Ctx.{ctx_of}
 use Rattle.elab_entry.proofs.Endings.{zeroed_is}
 use Rattle.elab_entry.proofs.ends.result_zeroed.Goals as goal
 

@@ -1,8 +1,8 @@
 use Rattle.std.proofs.Common.{map, drop}
-use Rattle.cpp_lex.specs.Tokens.{lexemes_of}
-use Rattle.elab_rules.specs.Functions.{with_parameters}
-use Rattle.elab_types.specs.Shown.{parameter_of}
-use Rattle.elab_scopes.specs.States.{state_of}
+use Rattle.elab_stmt.specs.cpp_lex.Tokens.{lexemes_of}
+use Rattle.elab_stmt.specs.elab_rules.Functions.{with_parameters}
+use Rattle.elab_stmt.specs.elab_types.Shown.{parameter_of}
+use Rattle.elab_stmt.specs.elab_scopes.States.{state_of}
 use Rattle.elab_entry.proofs.OneByOne.{Steps}
 use Rattle.elab_entry.proofs.parameters.with_parameters.Given as goal
 

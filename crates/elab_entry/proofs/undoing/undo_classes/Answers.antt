@@ -3,7 +3,7 @@ use Rattle.std.proofs.lemmas.List.{take-map}
 use Rattle.cpp_types.specs.Class.{Class, classes_of, class_of}
 use Rattle.cpp_types.specs.declared.classes.ClassRec.{ClassRec}
 use Rattle.cpp_types.specs.Order.{all_consistent}
-use Rattle.elab_ctx.specs.Ctx.{ctx_of}
+use Rattle.elab_stmt.specs.elab_ctx.Ctx.{ctx_of}
 use Rattle.elab_entry.proofs.Leaving.{order_kept}
 use Rattle.elab_entry.proofs.undoing.undo_classes.Goals as goal
 

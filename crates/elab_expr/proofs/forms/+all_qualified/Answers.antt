@@ -1,5 +1,5 @@
 use Rattle.std.proofs.Common.{◌≡◌, ◌-◌, ◌∙◌, true, length, take, drop, sym, arith}
-use Rattle.cpp_ast.specs.Orders.{are_below}
+use Rattle.elab_rows.specs.cpp_ast.Orders.{are_below}
 use Rattle.elab_expr.proofs.Several.{below_rest, rest_is, rest_shorter}
 use Rattle.elab_expr.proofs.forms.+all_qualified.Goals as goal
 

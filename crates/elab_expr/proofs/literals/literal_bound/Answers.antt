@@ -1,8 +1,8 @@
 use Rattle.std.proofs.Common.{◌≡◌, ◌∙◌, Err, refl, sym, rules}
-use Rattle.cpp_lex.specs.Tokens.{lexemes_of}
-use Rattle.cpp_types.specs.Typ.{typ_of}
-use Rattle.elab_ctx.specs.Ctx.{ctx_of, work_of}
-use Rattle.elab_types.specs.Syntax.{syntax_of, tree_at}
+use Rattle.elab_rows.specs.cpp_lex.Tokens.{lexemes_of}
+use Rattle.elab_rows.specs.cpp_types.Typ.{typ_of}
+use Rattle.elab_rows.specs.elab_ctx.Ctx.{ctx_of, work_of}
+use Rattle.elab_rows.specs.elab_types.Syntax.{syntax_of, tree_at}
 use Rattle.elab_expr.proofs.Declaring.{refused_says}
 use Rattle.elab_expr.proofs.LiteralBounds.{literal_says, literal_fault}
 use Rattle.elab_expr.proofs.Several.{no_kids}

@@ -1,5 +1,5 @@
 use Rattle.std.proofs.Common.{◌≡◌, map, take}
-use Rattle.cpp_tree.specs.Units.{cell_of}
+use Rattle.elab_rows.specs.cpp_tree.Units.{cell_of}
 use Rattle.elab_expr.proofs.scratch.copy_cells.Given as goal
 
 abbrev pub invariant-loop-cell : goal.invariant-loop-cell

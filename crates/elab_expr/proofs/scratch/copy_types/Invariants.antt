@@ -1,5 +1,5 @@
 use Rattle.std.proofs.Common.{◌≡◌, map, take}
-use Rattle.cpp_types.specs.Typ.{typ_of}
+use Rattle.elab_rows.specs.cpp_types.Typ.{typ_of}
 use Rattle.elab_expr.proofs.scratch.copy_types.Given as goal
 
 abbrev pub invariant-loop-ty : goal.invariant-loop-ty

@@ -1,11 +1,11 @@
 use Rattle.std.proofs.Common.{◌∙◌, sym}
-use Rattle.cpp_types.specs.Typ.{Typ, typ_of}
-use Rattle.cpp_types.specs.Class.{classes_of}
-use Rattle.cpp_types.specs.declared.ranks.Cat.TheVariants.{Lvalue}
-use Rattle.cpp_tree.specs.declared.kinds.TKind.TheVariants.{CopyAssign}
-use Rattle.cpp_tree.specs.Trees.{Tree, node, three}
-use Rattle.cpp_tree.specs.Arena.{trees_of}
-use Rattle.elab_rules.specs.Objects.{copies}
+use Rattle.elab_make.specs.cpp_types.Typ.{Typ, typ_of}
+use Rattle.elab_make.specs.cpp_types.Class.{classes_of}
+use Rattle.elab_make.specs.cpp_types.declared.ranks.Cat.TheVariants.{Lvalue}
+use Rattle.elab_make.specs.cpp_tree.declared.kinds.TKind.TheVariants.{CopyAssign}
+use Rattle.elab_make.specs.cpp_tree.Trees.{Tree, node, three}
+use Rattle.elab_make.specs.cpp_tree.Arena.{trees_of}
+use Rattle.elab_make.specs.elab_rules.Objects.{copies}
 use Rattle.elab_forms.proofs.Steps.{third_ok}
 use Rattle.elab_forms.proofs.assignments.copied_onto.Goals as goal
 

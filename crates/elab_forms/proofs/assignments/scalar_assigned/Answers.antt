@@ -1,10 +1,10 @@
 use Rattle.std.proofs.Common.{◌≡◌, ◌∙◌, true, is_some, sym, ap, rules}
-use Rattle.cpp_types.specs.Typ.{typ_of}
-use Rattle.cpp_tree.specs.Trees.{typ_in}
-use Rattle.cpp_tree.specs.Arena.{trees_of, tree_at}
-use Rattle.cpp_tree.specs.Typing.{form_in, kind_in, unqualified}
-use Rattle.elab_ctx.specs.Ctx.{ctx_of, work_of}
-use Rattle.elab_ctx.specs.Operands.{operand_in}
+use Rattle.elab_make.specs.cpp_types.Typ.{typ_of}
+use Rattle.elab_make.specs.cpp_tree.Trees.{typ_in}
+use Rattle.elab_make.specs.cpp_tree.Arena.{trees_of, tree_at}
+use Rattle.elab_make.specs.cpp_tree.Typing.{form_in, kind_in, unqualified}
+use Rattle.elab_make.specs.elab_ctx.Ctx.{ctx_of, work_of}
+use Rattle.elab_make.specs.elab_ctx.Operands.{operand_in}
 use Rattle.elab_forms.proofs.Objects.{scalar_makes}
 use Rattle.elab_forms.proofs.assignments.scalar_assigned.Goals as goal
 

@@ -1,11 +1,11 @@
 use Rattle.std.proofs.Common.{ap, Result}
-use Rattle.cpp_tree.specs.declared.faults.ElabFault.{ElabFault}
-use Rattle.cpp_tree.specs.Trees.{Tree}
-use Rattle.cpp_tree.specs.Arena.{trees_of}
-use Rattle.elab_ctx.specs.Ctx.{ctx_of, work_of}
-use Rattle.elab_ctx.specs.Steps.{and_then}
-use Rattle.elab_ctx.specs.Operands.{operand_in}
-use Rattle.elab_rules.specs.Operators.{branches}
+use Rattle.elab_make.specs.cpp_tree.declared.faults.ElabFault.{ElabFault}
+use Rattle.elab_make.specs.cpp_tree.Trees.{Tree}
+use Rattle.elab_make.specs.cpp_tree.Arena.{trees_of}
+use Rattle.elab_make.specs.elab_ctx.Ctx.{ctx_of, work_of}
+use Rattle.elab_make.specs.elab_ctx.Steps.{and_then}
+use Rattle.elab_make.specs.elab_ctx.Operands.{operand_in}
+use Rattle.elab_make.specs.elab_rules.Operators.{branches}
 use Rattle.elab_ops.proofs.Values.{truth_is}
 use Rattle.elab_forms.proofs.Steps.{makes_same}
 use Rattle.elab_forms.proofs.conditionals.conditional.Goals as goal

@@ -1,10 +1,10 @@
 use Rattle.std.proofs.Common.{sym}
-use Rattle.cpp_tree.specs.Trees.{Tree}
-use Rattle.cpp_tree.specs.Arena.{trees_of, tree_at}
-use Rattle.elab_ctx.specs.Ctx.{ctx_of, work_of}
-use Rattle.elab_ctx.specs.Operands.{operand_in}
-use Rattle.elab_rules.specs.Values.{bool_type}
-use Rattle.elab_rules.specs.Operators.{branches}
+use Rattle.elab_make.specs.cpp_tree.Trees.{Tree}
+use Rattle.elab_make.specs.cpp_tree.Arena.{trees_of, tree_at}
+use Rattle.elab_make.specs.elab_ctx.Ctx.{ctx_of, work_of}
+use Rattle.elab_make.specs.elab_ctx.Operands.{operand_in}
+use Rattle.elab_make.specs.elab_rules.Values.{bool_type}
+use Rattle.elab_make.specs.elab_rules.Operators.{branches}
 use Rattle.elab_ops.specs.Forms.{value_initial}
 use Rattle.elab_forms.proofs.Steps.{given_then_makes, at_operand, same_branches}
 use Rattle.elab_forms.proofs.conditionals.conditional_by.Goals as goal

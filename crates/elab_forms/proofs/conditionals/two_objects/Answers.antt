@@ -1,8 +1,8 @@
 use Rattle.std.proofs.Common.{◌∙◌, sym, ap}
-use Rattle.cpp_types.specs.Typ.{typ_of}
-use Rattle.cpp_tree.specs.Arena.{trees_of}
-use Rattle.cpp_tree.specs.Typing.{unqualified}
-use Rattle.elab_ctx.specs.Ctx.{ctx_of, work_of}
+use Rattle.elab_make.specs.cpp_types.Typ.{typ_of}
+use Rattle.elab_make.specs.cpp_tree.Arena.{trees_of}
+use Rattle.elab_make.specs.cpp_tree.Typing.{unqualified}
+use Rattle.elab_make.specs.elab_ctx.Ctx.{ctx_of, work_of}
 use Rattle.elab_forms.proofs.Objects.{objects_made}
 use Rattle.elab_forms.proofs.conditionals.two_objects.Goals as goal
 

@@ -1,9 +1,9 @@
-use Rattle.cpp_types.specs.Typ.{typ_of}
-use Rattle.cpp_types.specs.declared.ranks.Cat.TheVariants.{Prvalue}
-use Rattle.cpp_tree.specs.Trees.{Tree}
-use Rattle.cpp_tree.specs.Arena.{trees_of}
-use Rattle.elab_ctx.specs.Operands.{operand_in}
-use Rattle.elab_rules.specs.Operators.{value, conditional_node}
+use Rattle.elab_make.specs.cpp_types.Typ.{typ_of}
+use Rattle.elab_make.specs.cpp_types.declared.ranks.Cat.TheVariants.{Prvalue}
+use Rattle.elab_make.specs.cpp_tree.Trees.{Tree}
+use Rattle.elab_make.specs.cpp_tree.Arena.{trees_of}
+use Rattle.elab_make.specs.elab_ctx.Operands.{operand_in}
+use Rattle.elab_make.specs.elab_rules.Operators.{value, conditional_node}
 use Rattle.elab_forms.proofs.Steps.{three_ok}
 use Rattle.elab_forms.proofs.conditionals.two_of_type.Goals as goal
 

@@ -1,8 +1,8 @@
 use Rattle.std.proofs.Common.{map, get_or, refl}
-use Rattle.cpp_tree.specs.declared.arena.TNodeId.{TNodeId}
-use Rattle.cpp_tree.specs.Arena.{trees_of, tree_at}
-use Rattle.cpp_tree.specs.Units.{cell_of}
-use Rattle.elab_ctx.specs.Ctx.{ctx_of, work_of}
+use Rattle.elab_rules.specs.cpp_tree.declared.arena.TNodeId.{TNodeId}
+use Rattle.elab_rules.specs.cpp_tree.Arena.{trees_of, tree_at}
+use Rattle.elab_rules.specs.cpp_tree.Units.{cell_of}
+use Rattle.elab_rules.specs.elab_ctx.Ctx.{ctx_of, work_of}
 use Rattle.elab_globals.specs.Says.{cells_shown}
 use Rattle.elab_globals.proofs.CellLists.{cells_from, cells_say, collecting_more}
 use Rattle.elab_globals.proofs.cells.+cells.Goals as goal

@@ -1,7 +1,7 @@
 use Rattle.std.proofs.Common.{◌+◌, ◌*◌, drop, map}
-use Rattle.cpp_tree.specs.Arena.{trees_of}
-use Rattle.cpp_tree.specs.Units.{cell_of}
-use Rattle.elab_ctx.specs.Ctx.{ctx_of, work_of}
+use Rattle.elab_rules.specs.cpp_tree.Arena.{trees_of}
+use Rattle.elab_rules.specs.cpp_tree.Units.{cell_of}
+use Rattle.elab_rules.specs.elab_ctx.Ctx.{ctx_of, work_of}
 use Rattle.elab_globals.proofs.CellLists.{Collecting}
 use Rattle.elab_globals.proofs.cells.+cells.Given as goal
 

@@ -1,5 +1,5 @@
 use Rattle.std.proofs.Common.{◌≡◌, ◌++◌, ◌-◌, map}
-use Rattle.cpp_tree.specs.Units.{cell_of}
+use Rattle.elab_rules.specs.cpp_tree.Units.{cell_of}
 use Rattle.elab_rules.specs.Globals.{repeated_cells}
 use Rattle.elab_globals.proofs.cells.element_cells.Given as goal
 

@@ -1,5 +1,5 @@
 use Rattle.std.proofs.Common.{◌≡◌, ◌++◌, drop, map}
-use Rattle.cpp_tree.specs.Units.{cell_of}
+use Rattle.elab_rules.specs.cpp_tree.Units.{cell_of}
 use Rattle.elab_rules.specs.Globals.{moved_cells}
 use Rattle.elab_globals.proofs.cells.keep_moved.Given as goal
 

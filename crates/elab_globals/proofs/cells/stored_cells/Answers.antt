@@ -1,9 +1,9 @@
 use Rattle.std.proofs.Common.{sym, subst}
-use Rattle.cpp_tree.specs.declared.faults.ElabFault.{ElabFault}
-use Rattle.cpp_tree.specs.declared.kinds.TKind.TheVariants.{Store}
-use Rattle.cpp_tree.specs.Arena.{trees_of, trees_at}
-use Rattle.elab_ctx.specs.Ctx.{ctx_of, work_of}
-use Rattle.elab_ctx.specs.Says.{Faults}
+use Rattle.elab_rules.specs.cpp_tree.declared.faults.ElabFault.{ElabFault}
+use Rattle.elab_rules.specs.cpp_tree.declared.kinds.TKind.TheVariants.{Store}
+use Rattle.elab_rules.specs.cpp_tree.Arena.{trees_of, trees_at}
+use Rattle.elab_rules.specs.elab_ctx.Ctx.{ctx_of, work_of}
+use Rattle.elab_rules.specs.elab_ctx.Says.{Faults}
 use Rattle.elab_globals.specs.Cells.{stored_cells}
 use Rattle.elab_globals.proofs.CellLists.{not_one}
 use Rattle.elab_globals.proofs.cells.stored_cells.Goals as goal

@@ -1,4 +1,4 @@
-use Rattle.elab_ctx.specs.Ctx.{ctx_of}
+use Rattle.elab_entry.specs.elab_ctx.Ctx.{ctx_of}
 use Rattle.elab_implicit.proofs.PartLists.{default_given}
 use Rattle.elab_implicit.proofs.building.base_default.Goals as goal
 

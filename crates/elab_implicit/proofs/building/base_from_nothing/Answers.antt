@@ -1,8 +1,8 @@
 use Rattle.std.proofs.Common.{◌∙◌, ap}
 use Rattle.cpp_types.specs.Typ.{class}
-use Rattle.cpp_tree.specs.Notation.{plain}
-use Rattle.elab_ctx.specs.Ctx.{ctx_of}
-use Rattle.elab_rules.specs.Members.{as_base_of}
+use Rattle.elab_entry.specs.cpp_tree.Notation.{plain}
+use Rattle.elab_entry.specs.elab_ctx.Ctx.{ctx_of}
+use Rattle.elab_entry.specs.elab_rules.Members.{as_base_of}
 use Rattle.elab_implicit.proofs.GivenParts.{abstract_back}
 use Rattle.elab_implicit.proofs.PartLists.{nothing_same}
 use Rattle.elab_implicit.proofs.building.base_from_nothing.Goals as goal

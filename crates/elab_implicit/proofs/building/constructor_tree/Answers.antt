@@ -1,6 +1,6 @@
 use Rattle.std.proofs.Common.{◌≡◌, true, length, subst}
-use Rattle.cpp_tree.specs.Arena.{trees_of}
-use Rattle.elab_ctx.specs.Says.{are_within}
+use Rattle.elab_entry.specs.cpp_tree.Arena.{trees_of}
+use Rattle.elab_entry.specs.elab_ctx.Says.{are_within}
 use Rattle.elab_implicit.proofs.ObjectParts.{constructor_made}
 use Rattle.elab_implicit.proofs.building.constructor_tree.Goals as goal
 

@@ -1,8 +1,8 @@
 use Rattle.std.proofs.Common.{◌≡◌, Err, refl, ap, map, rules}
 use Rattle.cpp_types.specs.Typ.{typ_of}
-use Rattle.elab_ctx.specs.Ctx.{work_of, closure_of}
-use Rattle.elab_scopes.specs.States.{state_of}
-use Rattle.elab_scopes.proofs.Choices.{does_fail}
+use Rattle.elab_entry.specs.elab_ctx.Ctx.{work_of, closure_of}
+use Rattle.elab_entry.specs.elab_scopes.States.{state_of}
+use Rattle.elab_entry.proofs.elab_scopes.Choices.{does_fail}
 use Rattle.elab_implicit.proofs.CopyLists.{cleared_is}
 use Rattle.elab_implicit.proofs.PartLists.{default_is_done, default_refused}
 use Rattle.elab_implicit.proofs.building.default_done.Goals as goal

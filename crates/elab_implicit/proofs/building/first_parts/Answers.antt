@@ -1,5 +1,5 @@
 use Rattle.std.proofs.Common.{◌++◌, ◌∙◌, ap}
-use Rattle.elab_ctx.specs.Ctx.{Ctx, ctx_of}
+use Rattle.elab_entry.specs.elab_ctx.Ctx.{Ctx, ctx_of}
 use Rattle.elab_implicit.proofs.PartLists.{given_more, more_same}
 use Rattle.elab_implicit.proofs.building.first_parts.Goals as goal
 

@@ -1,7 +1,7 @@
 use Rattle.std.proofs.Common.{◌≡◌, ◌<◌, ◌≤◌, ◌∙◌, Err, arith, length, map, slice_get, refl, rules}
 use Rattle.cpp_types.specs.Class.{classes_of}
-use Rattle.elab_rules.specs.Names.{members_in}
-use Rattle.elab_scopes.specs.States.{made}
+use Rattle.elab_entry.specs.elab_rules.Names.{members_in}
+use Rattle.elab_entry.specs.elab_scopes.States.{made}
 use Rattle.elab_implicit.specs.Written.{given_in}
 use Rattle.elab_implicit.proofs.PartLists.{member_more, member_fails, members_done, does_all_fail}
 use Rattle.elab_implicit.proofs.building.members_built.Goals as goal

@@ -1,9 +1,9 @@
 use Rattle.std.proofs.Common.{◌≡◌, drop, map, slice_get}
 use Rattle.cpp_types.specs.Class.{classes_of}
-use Rattle.elab_rules.specs.Names.{members_in}
-use Rattle.elab_rules.specs.Members.{members_built}
-use Rattle.elab_scopes.specs.States.{state_of, made}
-use Rattle.elab_scopes.proofs.Behind.{SoFar}
+use Rattle.elab_entry.specs.elab_rules.Names.{members_in}
+use Rattle.elab_entry.specs.elab_rules.Members.{members_built}
+use Rattle.elab_entry.specs.elab_scopes.States.{state_of, made}
+use Rattle.elab_entry.proofs.elab_scopes.Behind.{SoFar}
 use Rattle.elab_implicit.specs.Written.{given_in}
 use Rattle.elab_implicit.proofs.building.members_built.Given as goal
 

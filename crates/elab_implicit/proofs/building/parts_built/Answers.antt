@@ -1,7 +1,7 @@
 use Rattle.std.proofs.Common.{◌≡◌, Err, ap, rules}
-use Rattle.elab_ctx.specs.Ctx.{Ctx}
-use Rattle.elab_rules.specs.Statements.{State}
-use Rattle.elab_scopes.specs.States.{state_of}
+use Rattle.elab_entry.specs.elab_ctx.Ctx.{Ctx}
+use Rattle.elab_entry.specs.elab_rules.Statements.{State}
+use Rattle.elab_entry.specs.elab_scopes.States.{state_of}
 use Rattle.elab_implicit.proofs.GivenParts.{there_grown}
 use Rattle.elab_implicit.proofs.PartLists.{parts_done, parts_fail, parts_refused, lists_fail}
 use Rattle.elab_implicit.proofs.building.parts_built.Goals as goal

@@ -1,6 +1,6 @@
 use Rattle.std.proofs.Common.{◌≡◌, Err, rules}
-use Rattle.elab_ctx.specs.Ctx.{ctx_of, work_of}
-use Rattle.elab_make.proofs.Calling.{refused_made}
+use Rattle.elab_entry.specs.elab_ctx.Ctx.{ctx_of, work_of}
+use Rattle.elab_entry.proofs.elab_make.Calling.{refused_made}
 use Rattle.elab_implicit.proofs.CopyLists.{base_made, base_failed}
 use Rattle.elab_implicit.proofs.copying.base_copied.Goals as goal
 

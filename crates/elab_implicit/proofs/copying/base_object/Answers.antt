@@ -1,7 +1,7 @@
 use Rattle.cpp_types.specs.Typ.{class}
-use Rattle.cpp_tree.specs.Notation.{plain}
-use Rattle.elab_ctx.specs.Ctx.{ctx_of, work_of}
-use Rattle.elab_rules.specs.Members.{as_base_of}
+use Rattle.elab_entry.specs.cpp_tree.Notation.{plain}
+use Rattle.elab_entry.specs.elab_ctx.Ctx.{ctx_of, work_of}
+use Rattle.elab_entry.specs.elab_rules.Members.{as_base_of}
 use Rattle.elab_implicit.proofs.CopyLists.{class_same}
 use Rattle.elab_implicit.proofs.GivenParts.{abstract_back}
 use Rattle.elab_implicit.proofs.copying.base_object.Goals as goal

@@ -1,8 +1,8 @@
 use Rattle.std.proofs.Common.{◌≡◌, Err, ap, map, rules}
 use Rattle.cpp_types.specs.Typ.{typ_of}
-use Rattle.elab_rules.specs.Implicit.{source_object}
-use Rattle.elab_ctx.specs.Ctx.{Ctx, closure_of}
-use Rattle.elab_scopes.specs.States.{state_of}
+use Rattle.elab_entry.specs.elab_rules.Implicit.{source_object}
+use Rattle.elab_entry.specs.elab_ctx.Ctx.{Ctx, closure_of}
+use Rattle.elab_entry.specs.elab_scopes.States.{state_of}
 use Rattle.elab_implicit.proofs.CopyLists.{base_listed, base_refused, cleared_is}
 use Rattle.elab_implicit.proofs.PartLists.{lists_fail}
 use Rattle.elab_implicit.proofs.copying.base_ready.Goals as goal

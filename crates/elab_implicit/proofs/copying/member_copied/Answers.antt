@@ -1,7 +1,7 @@
 use Rattle.std.proofs.Common.{◌≡◌, Err, rules}
 use Rattle.cpp_types.specs.Typ.{typ_of}
-use Rattle.elab_ctx.specs.Ctx.{ctx_of, work_of}
-use Rattle.elab_make.proofs.Calling.{refused_made}
+use Rattle.elab_entry.specs.elab_ctx.Ctx.{ctx_of, work_of}
+use Rattle.elab_entry.proofs.elab_make.Calling.{refused_made}
 use Rattle.elab_implicit.proofs.CopyLists.{member_made, member_refused}
 use Rattle.elab_implicit.proofs.copying.member_copied.Goals as goal
 

@@ -1,8 +1,8 @@
 use Rattle.std.proofs.Common.{◌≡◌, ◌<◌, ◌≤◌, ◌∙◌, Err, arith, length, slice_get, refl, rules}
 use Rattle.cpp_types.specs.Class.{classes_of}
 use Rattle.cpp_types.specs.Typ.{typ_of}
-use Rattle.elab_rules.specs.Names.{members_in}
-use Rattle.elab_rules.specs.Implicit.{source_object, source_const}
+use Rattle.elab_entry.specs.elab_rules.Names.{members_in}
+use Rattle.elab_entry.specs.elab_rules.Implicit.{source_object, source_const}
 use Rattle.elab_implicit.proofs.CopyLists.{member_more, member_fails, members_done}
 use Rattle.elab_implicit.proofs.PartLists.{does_all_fail}
 use Rattle.elab_implicit.proofs.copying.members_copied.Goals as goal

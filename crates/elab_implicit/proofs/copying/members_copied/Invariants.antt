@@ -1,10 +1,10 @@
 use Rattle.std.proofs.Common.{◌≡◌, drop, slice_get}
 use Rattle.cpp_types.specs.Class.{classes_of}
 use Rattle.cpp_types.specs.Typ.{typ_of}
-use Rattle.elab_rules.specs.Names.{members_in}
-use Rattle.elab_rules.specs.Implicit.{members_copied, source_object, source_const}
-use Rattle.elab_scopes.specs.States.{state_of}
-use Rattle.elab_scopes.proofs.Behind.{SoFar}
+use Rattle.elab_entry.specs.elab_rules.Names.{members_in}
+use Rattle.elab_entry.specs.elab_rules.Implicit.{members_copied, source_object, source_const}
+use Rattle.elab_entry.specs.elab_scopes.States.{state_of}
+use Rattle.elab_entry.proofs.elab_scopes.Behind.{SoFar}
 use Rattle.elab_implicit.proofs.copying.members_copied.Given as goal
 
 abbrev pub invariant-loop-member : goal.invariant-loop-member

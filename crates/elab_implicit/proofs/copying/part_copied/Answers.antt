@@ -1,6 +1,6 @@
 use Rattle.std.proofs.Common.{◌∙◌, sym}
 use Rattle.cpp_types.specs.Typ.{typ_of}
-use Rattle.elab_ctx.specs.Ctx.{ctx_of, work_of}
+use Rattle.elab_entry.specs.elab_ctx.Ctx.{ctx_of, work_of}
 use Rattle.elab_implicit.proofs.CopyLists.{part_array, part_class, part_scalar}
 use Rattle.elab_implicit.proofs.copying.part_copied.Goals as goal
 

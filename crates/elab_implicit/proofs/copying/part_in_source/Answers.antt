@@ -1,5 +1,5 @@
 use Rattle.cpp_types.specs.Typ.{typ_of}
-use Rattle.elab_ctx.specs.Ctx.{ctx_of}
+use Rattle.elab_entry.specs.elab_ctx.Ctx.{ctx_of}
 use Rattle.elab_implicit.proofs.CopyLists.{source_part}
 use Rattle.elab_implicit.proofs.copying.part_in_source.Goals as goal
 

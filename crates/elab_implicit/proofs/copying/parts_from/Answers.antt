@@ -1,6 +1,6 @@
 use Rattle.std.proofs.Common.{◌≡◌, Err, rules}
 use Rattle.cpp_types.specs.Typ.{typ_of}
-use Rattle.elab_rules.specs.Implicit.{source_object, source_const}
+use Rattle.elab_entry.specs.elab_rules.Implicit.{source_object, source_const}
 use Rattle.elab_implicit.proofs.CopyLists.{parts_done, parts_fail, parts_refused}
 use Rattle.elab_implicit.proofs.PartLists.{lists_fail}
 use Rattle.elab_implicit.proofs.copying.parts_from.Goals as goal

@@ -1,5 +1,5 @@
 use Rattle.cpp_types.specs.Typ.{typ_of}
-use Rattle.cpp_tree.specs.Arena.{trees_of, tree_at}
+use Rattle.elab_entry.specs.cpp_tree.Arena.{trees_of, tree_at}
 use Rattle.elab_implicit.proofs.CopyLists.{scalar_made}
 use Rattle.elab_implicit.proofs.copying.scalar_copied.Goals as goal
 

@@ -1,7 +1,7 @@
 use Rattle.std.proofs.Common.{◌≡◌, true, length, subst}
-use Rattle.elab_ctx.specs.Ctx.{ctx_of}
-use Rattle.cpp_tree.specs.Arena.{trees_of}
-use Rattle.elab_ctx.specs.Says.{are_within}
+use Rattle.elab_entry.specs.elab_ctx.Ctx.{ctx_of}
+use Rattle.elab_entry.specs.cpp_tree.Arena.{trees_of}
+use Rattle.elab_entry.specs.elab_ctx.Says.{are_within}
 use Rattle.elab_implicit.proofs.Deferring.{destructor_made}
 use Rattle.elab_implicit.proofs.ending.destructor_tree.Goals as goal
 

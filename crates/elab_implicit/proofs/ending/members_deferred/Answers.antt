@@ -1,7 +1,7 @@
 use Rattle.std.proofs.Common.{◌<◌, ◌≤◌, ◌++◌, ◌∙◌, ap, arith, length, slice_get}
 use Rattle.cpp_types.specs.Class.{classes_of}
-use Rattle.elab_ctx.specs.Ctx.{ctx_of}
-use Rattle.elab_rules.specs.Names.{members_in}
+use Rattle.elab_entry.specs.elab_ctx.Ctx.{ctx_of}
+use Rattle.elab_entry.specs.elab_rules.Names.{members_in}
 use Rattle.elab_implicit.proofs.Deferring.{member_added, members_added}
 use Rattle.elab_implicit.proofs.ending.members_deferred.Goals as goal
 

@@ -1,10 +1,10 @@
 use Rattle.std.proofs.Common.{drop, slice_get}
 use Rattle.cpp_types.specs.Class.{classes_of}
-use Rattle.cpp_tree.specs.Arena.{trees_of}
-use Rattle.elab_ctx.specs.Ctx.{ctx_of}
-use Rattle.elab_init.proofs.Listing.{Adding}
-use Rattle.elab_rules.specs.Names.{members_in}
-use Rattle.elab_rules.specs.Members.{members_deferred}
+use Rattle.elab_entry.specs.cpp_tree.Arena.{trees_of}
+use Rattle.elab_entry.specs.elab_ctx.Ctx.{ctx_of}
+use Rattle.elab_entry.proofs.elab_init.Listing.{Adding}
+use Rattle.elab_entry.specs.elab_rules.Names.{members_in}
+use Rattle.elab_entry.specs.elab_rules.Members.{members_deferred}
 use Rattle.elab_implicit.proofs.ending.members_deferred.Given as goal
 
 abbrev pub invariant-loop-member : goal.invariant-loop-member

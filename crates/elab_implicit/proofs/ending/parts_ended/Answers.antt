@@ -1,5 +1,5 @@
 use Rattle.std.proofs.Common.{◌++◌, ◌∙◌, ap}
-use Rattle.elab_ctx.specs.Ctx.{ctx_of}
+use Rattle.elab_entry.specs.elab_ctx.Ctx.{ctx_of}
 use Rattle.elab_implicit.proofs.Deferring.{parts_all}
 use Rattle.elab_implicit.proofs.ending.parts_ended.Goals as goal
 

@@ -1,6 +1,6 @@
 use Rattle.std.proofs.Common.{◌∙◌, sym}
 use Rattle.cpp_types.specs.Typ.{typ_of}
-use Rattle.elab_ctx.specs.Ctx.{ctx_of}
+use Rattle.elab_entry.specs.elab_ctx.Ctx.{ctx_of}
 use Rattle.elab_implicit.proofs.Deferring.{member_listed, not_empty}
 use Rattle.elab_implicit.proofs.ending.typed_ended.Goals as goal
 

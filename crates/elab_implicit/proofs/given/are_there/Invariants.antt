@@ -1,5 +1,5 @@
 use Rattle.std.proofs.Common.{◌≡◌, drop, length}
-use Rattle.cpp_tree.specs.Arena.{trees_of}
+use Rattle.elab_entry.specs.cpp_tree.Arena.{trees_of}
 use Rattle.elab_implicit.specs.Written.{are_there}
 use Rattle.elab_implicit.proofs.given.are_there.Given as goal
 

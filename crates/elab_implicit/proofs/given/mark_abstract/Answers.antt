@@ -1,5 +1,5 @@
 use Rattle.std.proofs.Common.{◌<◌, ◌≤◌, length, rules, ap, sym}
-use Rattle.elab_ctx.specs.Ctx.{Traits}
+use Rattle.elab_entry.specs.elab_ctx.Ctx.{Traits}
 use Rattle.elab_implicit.proofs.MemberSteps.{shown_traits, no_traits_there, marked_traits}
 use Rattle.elab_implicit.proofs.given.mark_abstract.Goals as goal
 

@@ -1,4 +1,4 @@
-use Rattle.elab_ctx.specs.Ctx.{func_of}
+use Rattle.elab_entry.specs.elab_ctx.Ctx.{func_of}
 use Rattle.elab_implicit.proofs.Implying.{body_at_same}
 use Rattle.elab_implicit.proofs.implicit.body_at.Goals as goal
 

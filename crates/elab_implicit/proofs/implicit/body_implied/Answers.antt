@@ -1,8 +1,8 @@
 use Rattle.std.proofs.Common.{◌≡◌, ◌∙◌, Err, List, option_map, map, ap, rules}
 use Rattle.cpp_types.specs.Typ.{typ_of}
-use Rattle.cpp_tree.specs.Trees.{Tree}
-use Rattle.cpp_tree.specs.Arena.{trees_of, tree_at}
-use Rattle.elab_scopes.specs.States.{state_of}
+use Rattle.elab_entry.specs.cpp_tree.Trees.{Tree}
+use Rattle.elab_entry.specs.cpp_tree.Arena.{trees_of, tree_at}
+use Rattle.elab_entry.specs.elab_scopes.States.{state_of}
 use Rattle.elab_entry.specs.Round.{round_of}
 use Rattle.elab_implicit.proofs.Implying.{body_done, body_refused, changes_fail, table_after, size_after}
 use Rattle.elab_implicit.proofs.implicit.body_implied.Goals as goal

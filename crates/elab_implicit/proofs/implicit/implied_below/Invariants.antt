@@ -1,5 +1,5 @@
 use Rattle.std.proofs.Common.{◌≡◌, ◌≤◌, length}
-use Rattle.elab_scopes.specs.States.{state_of}
+use Rattle.elab_entry.specs.elab_scopes.States.{state_of}
 use Rattle.elab_implicit.specs.Implied.{implied_below, IsTable}
 use Rattle.elab_entry.proofs.OneByOne.{Steps}
 use Rattle.elab_implicit.proofs.implicit.implied_below.Given as goal

@@ -1,5 +1,5 @@
 use Rattle.std.proofs.Common.{◌∙◌, map, ap}
-use Rattle.elab_scopes.specs.States.{body_of}
+use Rattle.elab_entry.specs.elab_scopes.States.{body_of}
 use Rattle.elab_implicit.specs.Marks.{table_of}
 use Rattle.elab_implicit.proofs.Implying.{table_first, table_size}
 use Rattle.elab_implicit.proofs.implicit.with_implied.Goals as goal

@@ -1,5 +1,5 @@
 use Rattle.std.proofs.Common.{◌≡◌, ◌+◌, ◌*◌, drop}
-use Rattle.cpp_tree.specs.Arena.{trees_of, trees_at}
+use Rattle.elab_entry.specs.cpp_tree.Arena.{trees_of, trees_at}
 use Rattle.elab_implicit.specs.Marks.{all_marked}
 use Rattle.elab_implicit.proofs.marks.+marks.Given as goal
 

@@ -1,5 +1,5 @@
 use Rattle.std.proofs.Common.{◌≡◌, drop, map}
-use Rattle.elab_scopes.specs.States.{body_of}
+use Rattle.elab_entry.specs.elab_scopes.States.{body_of}
 use Rattle.elab_implicit.specs.Marks.{body_marks}
 use Rattle.elab_implicit.proofs.marks.mark_bodies.Given as goal
 

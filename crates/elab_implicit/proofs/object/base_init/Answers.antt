@@ -1,5 +1,5 @@
 use Rattle.std.proofs.Common.{refl}
-use Rattle.elab_ctx.specs.Ctx.{ctx_of}
+use Rattle.elab_entry.specs.elab_ctx.Ctx.{ctx_of}
 use Rattle.elab_implicit.proofs.ObjectParts.{init_made}
 use Rattle.elab_implicit.proofs.object.base_init.Goals as goal
 

@@ -1,9 +1,9 @@
 use Rattle.std.proofs.Common.{ℕ, refl, ap}
 use Rattle.cpp_types.specs.Typ.{typ_of}
-use Rattle.elab_ctx.specs.Ctx.{ctx_of}
-use Rattle.elab_rules.specs.Values.{part_at}
-use Rattle.elab_rules.specs.Names.{this_pointer}
-use Rattle.elab_rules.specs.Members.{own_this}
+use Rattle.elab_entry.specs.elab_ctx.Ctx.{ctx_of}
+use Rattle.elab_entry.specs.elab_rules.Values.{part_at}
+use Rattle.elab_entry.specs.elab_rules.Names.{this_pointer}
+use Rattle.elab_entry.specs.elab_rules.Members.{own_this}
 use Rattle.elab_implicit.proofs.ObjectParts.{init_made}
 use Rattle.elab_implicit.proofs.object.member_init.Goals as goal
 

@@ -1,5 +1,5 @@
 use Rattle.std.proofs.Common.{◌∙◌, ◌∷◌, List, ap}
-use Rattle.cpp_tree.specs.declared.arena.TNodeId.{TNodeId}
+use Rattle.elab_entry.specs.cpp_tree.declared.arena.TNodeId.{TNodeId}
 use Rattle.elab_implicit.proofs.ObjectParts.{part_made}
 use Rattle.elab_implicit.proofs.object.part_init.Goals as goal
 

@@ -1,6 +1,6 @@
 use Rattle.cpp_types.specs.Typ.{typ_of}
-use Rattle.elab_rules.specs.Names.{this_pointer}
-use Rattle.elab_rules.specs.Members.{own_this}
+use Rattle.elab_entry.specs.elab_rules.Names.{this_pointer}
+use Rattle.elab_entry.specs.elab_rules.Members.{own_this}
 use Rattle.elab_implicit.specs.Building.{table_tree}
 use Rattle.elab_implicit.proofs.ObjectParts.{stored_made}
 use Rattle.elab_implicit.proofs.object.stored_at.Goals as goal

@@ -1,6 +1,6 @@
 use Rattle.std.proofs.Common.{◌≡◌, map, drop}
 use Rattle.cpp_types.specs.Class.{member_of}
-use Rattle.elab_rules.specs.Members.{member_index}
+use Rattle.elab_entry.specs.elab_rules.Members.{member_index}
 use Rattle.elab_implicit.proofs.parts.member_index.Given as goal
 
 abbrev pub invariant-loop-i : goal.invariant-loop-i

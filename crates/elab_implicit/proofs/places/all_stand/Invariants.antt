@@ -1,6 +1,6 @@
 use Rattle.std.proofs.Common.{◌≡◌, drop, length}
-use Rattle.cpp_tree.specs.Arena.{trees_of}
-use Rattle.elab_ctx.specs.Says.{are_within}
+use Rattle.elab_entry.specs.cpp_tree.Arena.{trees_of}
+use Rattle.elab_entry.specs.elab_ctx.Says.{are_within}
 use Rattle.elab_implicit.proofs.places.all_stand.Given as goal
 
 abbrev pub invariant-loop-id : goal.invariant-loop-id

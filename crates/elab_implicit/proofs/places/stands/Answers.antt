@@ -1,5 +1,5 @@
 use Rattle.std.proofs.Common.{arith}
-use Rattle.cpp_tree.proofs.Shown.{many_trees}
+use Rattle.elab_entry.proofs.cpp_tree.Shown.{many_trees}
 use Rattle.elab_implicit.proofs.places.stands.Goals as goal
 
 pub returns : goal.returns

@@ -1,7 +1,7 @@
 use Rattle.std.proofs.Common.{◌≡◌, ◌==◌, ◌&&◌, Some, map, drop}
 use Rattle.std.specs.List.{list_any}
-use Rattle.cpp_tree.specs.Units.{SlotFunc, slot_of}
-use Rattle.elab_rules.specs.Initialising.{same_number}
+use Rattle.elab_entry.specs.cpp_tree.Units.{SlotFunc, slot_of}
+use Rattle.elab_entry.specs.elab_rules.Initialising.{same_number}
 use Rattle.elab_implicit.proofs.slots.are_slots_of.Given as goal
 
 abbrev pub invariant-loop-slot : goal.invariant-loop-slot

@@ -1,6 +1,6 @@
 use Rattle.std.proofs.Common.{◌≡◌, Some, map, drop}
-use Rattle.cpp_tree.specs.Units.{slot_of}
-use Rattle.elab_rules.specs.Implicit.{is_in_slot}
+use Rattle.elab_entry.specs.cpp_tree.Units.{slot_of}
+use Rattle.elab_entry.specs.elab_rules.Implicit.{is_in_slot}
 use Rattle.elab_implicit.proofs.slots.is_in_slot.Given as goal
 
 abbrev pub invariant-loop-list : goal.invariant-loop-list

@@ -1,5 +1,5 @@
 use Rattle.std.proofs.Common.{◌≡◌, ◌≤◌, ◌+◌, map, drop}
-use Rattle.elab_ctx.specs.Ctx.{func_of}
+use Rattle.elab_entry.specs.elab_ctx.Ctx.{func_of}
 use Rattle.elab_call.specs.Slots.{members_among}
 use Rattle.elab_implicit.proofs.slots.members_among.Given as goal
 

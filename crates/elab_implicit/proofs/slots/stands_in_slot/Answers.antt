@@ -1,7 +1,7 @@
 use Rattle.std.proofs.Common.{◌∙◌, ap, map, sym}
-use Rattle.elab_ctx.specs.Ctx.{ctx_of, func_of}
-use Rattle.cpp_tree.specs.Units.{slot_of}
-use Rattle.elab_rules.specs.Calls.{index_in_class}
+use Rattle.elab_entry.specs.elab_ctx.Ctx.{ctx_of, func_of}
+use Rattle.elab_entry.specs.cpp_tree.Units.{slot_of}
+use Rattle.elab_entry.specs.elab_rules.Calls.{index_in_class}
 use Rattle.elab_implicit.proofs.Implying.{slot_none}
 use Rattle.elab_implicit.proofs.slots.stands_in_slot.Goals as goal
 

@@ -1,8 +1,8 @@
 use Rattle.std.proofs.Common.{◌∙◌, ap}
 use Rattle.cpp_types.specs.Typ.{typ_of}
-use Rattle.elab_ctx.proofs.Looks.{grows_trans}
-use Rattle.elab_ctx.proofs.Making.{last_adds}
-use Rattle.elab_rules.specs.Values.{stored, stepped}
+use Rattle.elab_conv.proofs.elab_ctx.Looks.{grows_trans}
+use Rattle.elab_conv.proofs.elab_ctx.Making.{last_adds}
+use Rattle.elab_conv.specs.elab_rules.Values.{stored, stepped}
 use Rattle.elab_init.proofs.binding.stored_value.Goals as goal
 
 pub returns : goal.returns

@@ -1,7 +1,7 @@
 use Rattle.std.proofs.Common.{◌∙◌, ◌++◌, sym, ap, map}
 use Rattle.cpp_types.specs.Class.{classes_of, class_of, member_of}
-use Rattle.cpp_layout.specs.Layout.{end_from, head_items, class_extent}
-use Rattle.elab_rules.specs.Objects.{base_part}
+use Rattle.elab_conv.specs.cpp_layout.Layout.{end_from, head_items, class_extent}
+use Rattle.elab_conv.specs.elab_rules.Objects.{base_part}
 use Rattle.elab_init.specs.Parts.{placed}
 use Rattle.elab_init.proofs.PartsPlaced.{parts_placed}
 use Rattle.elab_init.proofs.class_parts.parts_of.Goals as goal

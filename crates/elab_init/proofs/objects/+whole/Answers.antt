@@ -1,6 +1,6 @@
 use Rattle.std.proofs.Common.{◌∙◌, ◌-◌, ap, arith, map}
 use Rattle.cpp_types.specs.Class.{classes_of}
-use Rattle.elab_ctx.proofs.Making.{last_adds}
+use Rattle.elab_conv.proofs.elab_ctx.Making.{last_adds}
 use Rattle.elab_init.specs.Leaves.{leaf_of, pieces_by}
 use Rattle.elab_init.specs.Parts.{part_of}
 use Rattle.elab_init.proofs.Wholes.{class_tree, piece_added, pieces_done}

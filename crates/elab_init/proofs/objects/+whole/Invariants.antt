@@ -1,6 +1,6 @@
 use Rattle.std.proofs.Common.{drop, map}
 use Rattle.cpp_types.specs.Class.{classes_of}
-use Rattle.cpp_tree.specs.Arena.{trees_of}
+use Rattle.elab_conv.specs.cpp_tree.Arena.{trees_of}
 use Rattle.elab_init.specs.Leaves.{leaf_of, pieces_by}
 use Rattle.elab_init.specs.Parts.{part_of}
 use Rattle.elab_init.proofs.Listing.{Adding}

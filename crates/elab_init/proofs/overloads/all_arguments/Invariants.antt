@@ -1,8 +1,8 @@
 use Rattle.std.proofs.Common.{◌≡◌, ◌++◌, map, drop}
-use Rattle.cpp_overload.specs.Overload.{argument_of}
-use Rattle.cpp_tree.specs.Arena.{trees_of}
-use Rattle.elab_ctx.specs.Operands.{operands_in}
-use Rattle.elab_rules.specs.Initialising.{arguments}
+use Rattle.elab_conv.specs.cpp_overload.Overload.{argument_of}
+use Rattle.elab_conv.specs.cpp_tree.Arena.{trees_of}
+use Rattle.elab_conv.specs.elab_ctx.Operands.{operands_in}
+use Rattle.elab_conv.specs.elab_rules.Initialising.{arguments}
 use Rattle.elab_init.proofs.overloads.all_arguments.Given as goal
 
 abbrev pub invariant-loop-o : goal.invariant-loop-o

@@ -1,7 +1,7 @@
 use Rattle.std.proofs.Common.{◌≡◌, ◌++◌, map, drop}
-use Rattle.cpp_overload.specs.Overload.{candidate_of}
-use Rattle.elab_ctx.specs.Ctx.{ctx_of}
-use Rattle.elab_rules.specs.Initialising.{candidate, candidates_at}
+use Rattle.elab_conv.specs.cpp_overload.Overload.{candidate_of}
+use Rattle.elab_conv.specs.elab_ctx.Ctx.{ctx_of}
+use Rattle.elab_conv.specs.elab_rules.Initialising.{candidate, candidates_at}
 use Rattle.elab_init.proofs.overloads.candidates.Given as goal
 
 abbrev pub invariant-loop-place : goal.invariant-loop-place

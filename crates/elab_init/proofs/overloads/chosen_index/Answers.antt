@@ -1,7 +1,7 @@
 use Rattle.std.proofs.Common.{ap, Ok, Err}
-use Rattle.cpp_overload.specs.declared.calls.NoBest.TheVariants.{NoViable, Ambiguous}
-use Rattle.cpp_overload.proofs.Choosing.{chosen_is_meant}
-use Rattle.elab_rules.specs.Initialising.{meant}
+use Rattle.elab_conv.specs.cpp_overload.declared.calls.NoBest.TheVariants.{NoViable, Ambiguous}
+use Rattle.elab_conv.proofs.cpp_overload.Choosing.{chosen_is_meant}
+use Rattle.elab_conv.specs.elab_rules.Initialising.{meant}
 use Rattle.elab_init.proofs.overloads.chosen_index.Goals as goal
 
 pub returns-in-Ok : goal.returns-in-Ok

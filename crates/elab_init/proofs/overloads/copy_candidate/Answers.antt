@@ -1,6 +1,6 @@
 use Rattle.std.proofs.Common.{◌∙◌, ◌++◌, ◌∷◌, [], false, None, ap}
 use Rattle.cpp_types.specs.Typ.{signature, typs_of, void, more, none}
-use Rattle.cpp_tree.specs.Notation.{plain}
+use Rattle.elab_conv.specs.cpp_tree.Notation.{plain}
 use Rattle.elab_init.proofs.Wholes.{rolled}
 use Rattle.elab_init.proofs.overloads.copy_candidate.Goals as goal
 

@@ -1,6 +1,6 @@
 use Rattle.std.proofs.Common.{◌≡◌, ◌++◌, map, drop}
-use Rattle.elab_ctx.specs.Ctx.{func_of}
-use Rattle.elab_rules.specs.Initialising.{places_from, is_constructor}
+use Rattle.elab_conv.specs.elab_ctx.Ctx.{func_of}
+use Rattle.elab_conv.specs.elab_rules.Initialising.{places_from, is_constructor}
 use Rattle.elab_init.proofs.overloads.places_of_constructors.Given as goal
 
 abbrev pub invariant-loop-i : goal.invariant-loop-i

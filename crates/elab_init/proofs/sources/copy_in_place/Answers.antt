@@ -1,6 +1,6 @@
 use Rattle.std.proofs.Common.{◌∙◌}
-use Rattle.elab_ctx.proofs.Looks.{grows_trans, at_grown}
-use Rattle.elab_ctx.proofs.Making.{last_adds}
+use Rattle.elab_conv.proofs.elab_ctx.Looks.{grows_trans, at_grown}
+use Rattle.elab_conv.proofs.elab_ctx.Making.{last_adds}
 use Rattle.elab_init.proofs.Wholes.{two_made}
 use Rattle.elab_init.proofs.sources.copy_in_place.Goals as goal
 

@@ -1,6 +1,6 @@
 use Rattle.std.proofs.Common.{◌∙◌, sym, ap, arith}
-use Rattle.cpp_tree.specs.Arena.{trees_of, tree_at}
-use Rattle.elab_rules.specs.Values.{only_tree}
+use Rattle.elab_conv.specs.cpp_tree.Arena.{trees_of, tree_at}
+use Rattle.elab_conv.specs.elab_rules.Values.{only_tree}
 use Rattle.elab_init.proofs.Wholes.{many_trees}
 use Rattle.elab_init.proofs.temporaries.only_kid_or.Goals as goal
 

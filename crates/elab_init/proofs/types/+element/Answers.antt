@@ -1,6 +1,6 @@
 use Rattle.std.proofs.Common.{◌≡◌, ◌∙◌, ap, sym}
 use Rattle.cpp_types.specs.Typ.{typ_of, shape_form}
-use Rattle.elab_rules.specs.Objects.{element_of, element_form}
+use Rattle.elab_conv.specs.elab_rules.Objects.{element_of, element_form}
 use Rattle.elab_init.proofs.types.+element.Goals as goal
 
 pub bare_element-returns-in_ok-found-in-Array : goal.bare_element-returns-in_ok-found-in-Array

@@ -1,7 +1,7 @@
 use Rattle.std.proofs.Common.{map}
-use Rattle.cpp_types.specs.Typ.{signature_of}
-use Rattle.elab_ctx.specs.Ctx.{ctx_of, capture_of, func_of, traits_of}
-use Rattle.elab_types.specs.Shown.{parameter_of}
+use Rattle.elab_entry.specs.cpp_types.Typ.{signature_of}
+use Rattle.elab_entry.specs.elab_ctx.Ctx.{ctx_of, capture_of, func_of, traits_of}
+use Rattle.elab_entry.specs.elab_types.Shown.{parameter_of}
 use Rattle.elab_lambdas.specs.Shown.{call_of}
 use Rattle.elab_lambdas.proofs.Closing.{closure_is}
 use Rattle.elab_lambdas.proofs.closures.add_closure.Goals as goal

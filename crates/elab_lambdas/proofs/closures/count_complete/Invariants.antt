@@ -1,6 +1,6 @@
 use Rattle.std.proofs.Common.{◌≡◌, ◌≤◌, ◌+◌, map, drop, count_by}
-use Rattle.cpp_types.specs.Class.{class_of}
-use Rattle.elab_rules.specs.Classes.{is_completed}
+use Rattle.elab_entry.specs.cpp_types.Class.{class_of}
+use Rattle.elab_entry.specs.elab_rules.Classes.{is_completed}
 use Rattle.elab_lambdas.proofs.closures.count_complete.Given as goal
 
 abbrev pub invariant-loop-found : goal.invariant-loop-found

@@ -1,7 +1,7 @@
 use Rattle.std.proofs.Common.{◌≡◌, map, take}
-use Rattle.cpp_types.specs.Class.{member_of}
-use Rattle.elab_ctx.specs.Ctx.{capture_of}
-use Rattle.elab_rules.specs.Lambdas.{capture_members}
+use Rattle.elab_entry.specs.cpp_types.Class.{member_of}
+use Rattle.elab_entry.specs.elab_ctx.Ctx.{capture_of}
+use Rattle.elab_entry.specs.elab_rules.Lambdas.{capture_members}
 use Rattle.elab_lambdas.proofs.closures.members_from.Given as goal
 
 abbrev pub invariant-loop-found : goal.invariant-loop-found

@@ -1,9 +1,9 @@
-use Rattle.cpp_lex.specs.Tokens.{lexemes_of}
-use Rattle.elab_rules.specs.Statements.{State, statements_of}
-use Rattle.elab_rules.specs.Functions.{with_parameters}
-use Rattle.elab_rules.specs.Lambdas.{no_lambda}
-use Rattle.elab_types.specs.Syntax.{syntax_of}
-use Rattle.elab_scopes.specs.States.{state_of}
+use Rattle.elab_entry.specs.cpp_lex.Tokens.{lexemes_of}
+use Rattle.elab_entry.specs.elab_rules.Statements.{State, statements_of}
+use Rattle.elab_entry.specs.elab_rules.Functions.{with_parameters}
+use Rattle.elab_entry.specs.elab_rules.Lambdas.{no_lambda}
+use Rattle.elab_entry.specs.elab_types.Syntax.{syntax_of}
+use Rattle.elab_entry.specs.elab_scopes.States.{state_of}
 use Rattle.elab_lambdas.specs.Whole.{written_of}
 use Rattle.elab_lambdas.proofs.Kept.{lists_after}
 use Rattle.elab_lambdas.proofs.making.body_statements.Goals as goal

@@ -1,6 +1,6 @@
 use Rattle.std.proofs.Common.{refl}
-use Rattle.cpp_types.specs.Typ.{typ_of}
-use Rattle.cpp_tree.specs.Arena.{trees_of}
+use Rattle.elab_entry.specs.cpp_types.Typ.{typ_of}
+use Rattle.elab_entry.specs.cpp_tree.Arena.{trees_of}
 use Rattle.elab_lambdas.proofs.Kept.{closed_is}
 use Rattle.elab_lambdas.proofs.making.closed.Goals as goal
 

@@ -1,7 +1,7 @@
 use Rattle.std.proofs.Common.{[], map, ap}
-use Rattle.cpp_types.specs.Typ.{typ_of, signature_of}
-use Rattle.elab_ctx.specs.Ctx.{Ctx, ctx_of, work_of, returns_of, lambda_of}
-use Rattle.elab_scopes.specs.States.{state_of, body_of}
+use Rattle.elab_entry.specs.cpp_types.Typ.{typ_of, signature_of}
+use Rattle.elab_entry.specs.elab_ctx.Ctx.{Ctx, ctx_of, work_of, returns_of, lambda_of}
+use Rattle.elab_entry.specs.elab_scopes.States.{state_of, body_of}
 use Rattle.elab_entry.specs.Round.{round_of}
 use Rattle.elab_lambdas.specs.Whole.{written_of}
 use Rattle.elab_lambdas.proofs.Made.{entered_is, round_is}

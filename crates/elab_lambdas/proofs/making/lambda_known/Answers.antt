@@ -1,6 +1,6 @@
-use Rattle.cpp_lex.specs.Tokens.{lexemes_of}
-use Rattle.cpp_types.specs.Typ.{typ_of, signature_of}
-use Rattle.elab_types.specs.Syntax.{syntax_of}
+use Rattle.elab_entry.specs.cpp_lex.Tokens.{lexemes_of}
+use Rattle.elab_entry.specs.cpp_types.Typ.{typ_of, signature_of}
+use Rattle.elab_entry.specs.elab_types.Syntax.{syntax_of}
 use Rattle.elab_lambdas.specs.Whole.{written_of}
 use Rattle.elab_lambdas.proofs.Made.{known_is}
 use Rattle.elab_lambdas.proofs.making.lambda_known.Goals as goal

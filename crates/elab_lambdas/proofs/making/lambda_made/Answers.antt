@@ -1,8 +1,8 @@
 use Rattle.std.proofs.Common.{◌≡◌, Err, rules, ap, refl}
-use Rattle.cpp_lex.specs.Tokens.{lexemes_of}
-use Rattle.elab_ctx.specs.Ctx.{Ctx}
-use Rattle.elab_types.specs.Syntax.{syntax_of}
-use Rattle.elab_scopes.specs.States.{state_of}
+use Rattle.elab_entry.specs.cpp_lex.Tokens.{lexemes_of}
+use Rattle.elab_entry.specs.elab_ctx.Ctx.{Ctx}
+use Rattle.elab_entry.specs.elab_types.Syntax.{syntax_of}
+use Rattle.elab_entry.specs.elab_scopes.States.{state_of}
 use Rattle.elab_lambdas.specs.Whole.{written_of, lambda_made}
 use Rattle.elab_lambdas.proofs.Made.{made_is, made_refused}
 use Rattle.elab_lambdas.proofs.Refusals.{changes_fail}

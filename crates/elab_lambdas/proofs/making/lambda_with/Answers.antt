@@ -1,12 +1,12 @@
 use Rattle.std.proofs.Common.{◌≡◌, Err, rules, List, map, ap, sym, ◌∙◌}
-use Rattle.cpp_lex.specs.Tokens.{lexemes_of}
-use Rattle.cpp_types.specs.Typ.{typ_of, signature_of}
-use Rattle.cpp_tree.specs.Trees.{Tree}
-use Rattle.cpp_tree.specs.Arena.{trees_of, tree_at}
-use Rattle.elab_ctx.specs.Ctx.{returns_of}
-use Rattle.elab_types.specs.Syntax.{syntax_of}
+use Rattle.elab_entry.specs.cpp_lex.Tokens.{lexemes_of}
+use Rattle.elab_entry.specs.cpp_types.Typ.{typ_of, signature_of}
+use Rattle.elab_entry.specs.cpp_tree.Trees.{Tree}
+use Rattle.elab_entry.specs.cpp_tree.Arena.{trees_of, tree_at}
+use Rattle.elab_entry.specs.elab_ctx.Ctx.{returns_of}
+use Rattle.elab_entry.specs.elab_types.Syntax.{syntax_of}
 use Rattle.elab_entry.specs.Round.{round_of}
-use Rattle.elab_scopes.specs.States.{state_of}
+use Rattle.elab_entry.specs.elab_scopes.States.{state_of}
 use Rattle.elab_lambdas.specs.Whole.{written_of, lambda_with}
 use Rattle.elab_lambdas.proofs.Kept.{lambda_done, lambda_refused}
 use Rattle.elab_lambdas.proofs.Refusals.{changes_fail}

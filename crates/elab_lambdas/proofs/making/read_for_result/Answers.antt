@@ -1,10 +1,10 @@
 use Rattle.std.proofs.Common.{◌≡◌, Err, rules, None, refl, ◌∙◌}
-use Rattle.cpp_lex.specs.Tokens.{lexemes_of}
-use Rattle.cpp_types.specs.Typ.{typ_of, signature_of}
-use Rattle.elab_ctx.specs.Ctx.{deduced, returns_of}
-use Rattle.elab_types.specs.Syntax.{syntax_of}
+use Rattle.elab_entry.specs.cpp_lex.Tokens.{lexemes_of}
+use Rattle.elab_entry.specs.cpp_types.Typ.{typ_of, signature_of}
+use Rattle.elab_entry.specs.elab_ctx.Ctx.{deduced, returns_of}
+use Rattle.elab_entry.specs.elab_types.Syntax.{syntax_of}
 use Rattle.elab_entry.specs.Round.{round_of}
-use Rattle.elab_scopes.specs.States.{state_of}
+use Rattle.elab_entry.specs.elab_scopes.States.{state_of}
 use Rattle.elab_lambdas.specs.Whole.{written_of, result_read}
 use Rattle.elab_lambdas.proofs.Kept.{read_done, read_refused}
 use Rattle.elab_lambdas.proofs.Refusals.{deduces_fail}

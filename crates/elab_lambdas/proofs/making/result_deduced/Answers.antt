@@ -1,8 +1,8 @@
 use Rattle.std.proofs.Common.{◌≡◌, Err, rules}
-use Rattle.cpp_lex.specs.Tokens.{lexemes_of}
-use Rattle.cpp_types.specs.Typ.{typ_of, signature_of}
-use Rattle.elab_types.specs.Syntax.{syntax_of}
-use Rattle.elab_scopes.specs.States.{state_of}
+use Rattle.elab_entry.specs.cpp_lex.Tokens.{lexemes_of}
+use Rattle.elab_entry.specs.cpp_types.Typ.{typ_of, signature_of}
+use Rattle.elab_entry.specs.elab_types.Syntax.{syntax_of}
+use Rattle.elab_entry.specs.elab_scopes.States.{state_of}
 use Rattle.elab_lambdas.specs.Whole.{written_of, result_deduced}
 use Rattle.elab_lambdas.proofs.Made.{deduced_done, deduced_unsigned, deduced_refused}
 use Rattle.elab_lambdas.proofs.Refusals.{deduces_fail}

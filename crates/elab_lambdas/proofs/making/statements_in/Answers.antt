@@ -1,5 +1,5 @@
-use Rattle.cpp_lex.specs.Tokens.{lexemes_of}
-use Rattle.elab_types.specs.Syntax.{syntax_of, tree_at}
+use Rattle.elab_entry.specs.cpp_lex.Tokens.{lexemes_of}
+use Rattle.elab_entry.specs.elab_types.Syntax.{syntax_of, tree_at}
 use Rattle.elab_lambdas.proofs.Kept.{listed_in}
 use Rattle.elab_lambdas.proofs.making.statements_in.Goals as goal
 

@@ -1,7 +1,7 @@
 use Rattle.std.proofs.Common.{◌≡◌, drop, map}
-use Rattle.elab_ctx.specs.Ctx.{ctx_of, capture_of}
-use Rattle.elab_rules.specs.Objects.{traits_at}
-use Rattle.elab_rules.specs.Lambdas.{all_captured, copied_and_left}
+use Rattle.elab_entry.specs.elab_ctx.Ctx.{ctx_of, capture_of}
+use Rattle.elab_entry.specs.elab_rules.Objects.{traits_at}
+use Rattle.elab_entry.specs.elab_rules.Lambdas.{all_captured, copied_and_left}
 use Rattle.elab_lambdas.proofs.traits.all_copied.Given as goal
 
 abbrev pub invariant-loop-found : goal.invariant-loop-found

@@ -1,7 +1,7 @@
 use Rattle.std.proofs.Common.{◌≡◌, drop, map}
 use Rattle.std.specs.List.{list_any}
-use Rattle.cpp_types.specs.Conversion.{volatile_of}
-use Rattle.elab_ctx.specs.Ctx.{Capture, capture_of}
+use Rattle.elab_entry.specs.cpp_types.Conversion.{volatile_of}
+use Rattle.elab_entry.specs.elab_ctx.Ctx.{Capture, capture_of}
 use Rattle.elab_lambdas.proofs.traits.any_volatile.Given as goal
 
 abbrev pub invariant-loop-found : goal.invariant-loop-found

@@ -1,4 +1,4 @@
-use Rattle.cpp_types.specs.Class.{classes_of}
+use Rattle.elab_entry.specs.cpp_types.Class.{classes_of}
 use Rattle.elab_lambdas.proofs.Cuts.{order_kept}
 use Rattle.elab_lambdas.proofs.undoing.put_classes.Goals as goal
 

@@ -1,5 +1,5 @@
-use Rattle.elab_ctx.specs.Ctx.{ctx_of, work_of}
-use Rattle.elab_scopes.specs.States.{state_of}
+use Rattle.elab_entry.specs.elab_ctx.Ctx.{ctx_of, work_of}
+use Rattle.elab_entry.specs.elab_scopes.States.{state_of}
 use Rattle.elab_lambdas.proofs.Cuts.{undone_is}
 use Rattle.elab_lambdas.proofs.undoing.undo.Goals as goal
 

@@ -1,7 +1,7 @@
 use Rattle.std.proofs.Common.{List, map, ap, sym, ◌∙◌}
 use Rattle.std.proofs.lemmas.List.{take-map}
-use Rattle.elab_rules.specs.Statements.{Body}
-use Rattle.elab_scopes.specs.States.{state_of, body_of}
+use Rattle.elab_entry.specs.elab_rules.Statements.{Body}
+use Rattle.elab_entry.specs.elab_scopes.States.{state_of, body_of}
 use Rattle.elab_lambdas.proofs.undoing.undo_bodies.Goals as goal
 
 pub returns-clause-is : goal.returns-clause-is

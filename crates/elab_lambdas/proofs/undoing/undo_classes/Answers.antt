@@ -1,7 +1,7 @@
 use Rattle.std.proofs.Common.{◌≡◌, List, map, take, ap, sym, rules, ◌∙◌}
 use Rattle.std.proofs.lemmas.List.{take-map}
-use Rattle.cpp_types.specs.Class.{Class, class_of}
-use Rattle.elab_ctx.specs.Ctx.{ctx_of}
+use Rattle.elab_entry.specs.cpp_types.Class.{Class, class_of}
+use Rattle.elab_entry.specs.elab_ctx.Ctx.{ctx_of}
 use Rattle.elab_lambdas.proofs.undoing.undo_classes.Goals as goal
 
 pub returns : goal.returns

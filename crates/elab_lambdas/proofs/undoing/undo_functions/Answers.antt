@@ -1,6 +1,6 @@
 use Rattle.std.proofs.Common.{List, map, ap, sym, ◌∙◌}
 use Rattle.std.proofs.lemmas.List.{take-map}
-use Rattle.elab_ctx.specs.Ctx.{Func, ctx_of, func_of}
+use Rattle.elab_entry.specs.elab_ctx.Ctx.{Func, ctx_of, func_of}
 use Rattle.elab_lambdas.proofs.undoing.undo_functions.Goals as goal
 
 pub returns : goal.returns

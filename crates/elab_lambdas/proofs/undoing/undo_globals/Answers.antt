@@ -1,7 +1,7 @@
 use Rattle.std.proofs.Common.{List, map, ap, sym, ◌∙◌}
 use Rattle.std.proofs.lemmas.List.{take-map}
-use Rattle.cpp_tree.specs.Units.{Global, global_of}
-use Rattle.elab_ctx.specs.Ctx.{work_of}
+use Rattle.elab_entry.specs.cpp_tree.Units.{Global, global_of}
+use Rattle.elab_entry.specs.elab_ctx.Ctx.{work_of}
 use Rattle.elab_lambdas.proofs.undoing.undo_globals.Goals as goal
 
 pub returns-clause-is : goal.returns-clause-is

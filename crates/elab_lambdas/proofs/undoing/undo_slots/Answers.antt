@@ -2,9 +2,9 @@ use Rattle.std.proofs.Common.{List, map, ap, sym, ◌∙◌}
 use Rattle.std.proofs.lemmas.List.{take-map}
 use Rattle.std.specs.Prelude.{Vec}
 use Rattle.std.specs.declared.alloc.Global.{Global}
-use Rattle.cpp_tree.specs.Units.{SlotFunc, slot_of}
-use Rattle.cpp_tree.specs.declared.program.SlotRec.{SlotRec}
-use Rattle.elab_ctx.specs.Ctx.{ctx_of}
+use Rattle.elab_entry.specs.cpp_tree.Units.{SlotFunc, slot_of}
+use Rattle.elab_entry.specs.cpp_tree.declared.program.SlotRec.{SlotRec}
+use Rattle.elab_entry.specs.elab_ctx.Ctx.{ctx_of}
 use Rattle.elab_lambdas.proofs.undoing.undo_slots.Goals as goal
 
 pub returns : goal.returns

@@ -1,6 +1,6 @@
 use Rattle.std.proofs.Common.{List, map, ap, sym, ◌∙◌}
 use Rattle.std.proofs.lemmas.List.{take-map}
-use Rattle.elab_ctx.specs.Ctx.{Traits, ctx_of, traits_of}
+use Rattle.elab_entry.specs.elab_ctx.Ctx.{Traits, ctx_of, traits_of}
 use Rattle.elab_lambdas.proofs.undoing.undo_traits.Goals as goal
 
 pub returns : goal.returns

@@ -1,8 +1,8 @@
 use Rattle.std.proofs.Common.{◌+◌, ◌*◌, drop}
-use Rattle.cpp_lex.specs.Tokens.{lexemes_of}
-use Rattle.elab_types.specs.Syntax.{syntax_of, trees_at}
-use Rattle.elab_scopes.specs.States.{state_of}
-use Rattle.elab_scopes.proofs.Makings.{Making}
+use Rattle.elab_entry.specs.cpp_lex.Tokens.{lexemes_of}
+use Rattle.elab_entry.specs.elab_types.Syntax.{syntax_of, trees_at}
+use Rattle.elab_entry.specs.elab_scopes.States.{state_of}
+use Rattle.elab_entry.proofs.elab_scopes.Makings.{Making}
 use Rattle.elab_lambdas.specs.Whole.{lambdas_among}
 use Rattle.elab_lambdas.proofs.written.+lambdas.Given as goal
 

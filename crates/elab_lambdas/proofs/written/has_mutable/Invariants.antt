@@ -1,6 +1,6 @@
 use Rattle.std.proofs.Common.{◌≡◌, drop}
-use Rattle.elab_rules.specs.Lambdas.{has_mutable}
-use Rattle.elab_types.specs.Syntax.{syntax_of, trees_at}
+use Rattle.elab_entry.specs.elab_rules.Lambdas.{has_mutable}
+use Rattle.elab_entry.specs.elab_types.Syntax.{syntax_of, trees_at}
 use Rattle.elab_lambdas.proofs.written.has_mutable.Given as goal
 
 abbrev pub invariant-loop-id : goal.invariant-loop-id

@@ -1,6 +1,6 @@
-use Rattle.cpp_lex.specs.Tokens.{lexemes_of}
-use Rattle.elab_rules.specs.Lambdas.{kids_of}
-use Rattle.elab_types.specs.Syntax.{syntax_of, tree_at, trees_at}
+use Rattle.elab_entry.specs.cpp_lex.Tokens.{lexemes_of}
+use Rattle.elab_entry.specs.elab_rules.Lambdas.{kids_of}
+use Rattle.elab_entry.specs.elab_types.Syntax.{syntax_of, tree_at, trees_at}
 use Rattle.elab_lambdas.specs.Whole.{written_of}
 use Rattle.elab_lambdas.proofs.Parts.{from_is}
 use Rattle.elab_lambdas.proofs.written.lambda_from.Goals as goal

@@ -1,12 +1,12 @@
 use Rattle.std.proofs.Common.{map}
-use Rattle.cpp_lex.specs.Tokens.{lexemes_of}
-use Rattle.cpp_types.specs.Typ.{typ_of}
+use Rattle.elab_entry.specs.cpp_lex.Tokens.{lexemes_of}
+use Rattle.elab_entry.specs.cpp_types.Typ.{typ_of}
 use Rattle.std.specs.Prelude.{option_map}
-use Rattle.elab_ctx.specs.Ctx.{capture_of}
-use Rattle.elab_rules.specs.Lambdas.{kids_of}
-use Rattle.elab_types.specs.Shown.{parameter_of, qualifiers_of}
-use Rattle.elab_types.specs.Syntax.{syntax_of, tree_at, trees_at}
-use Rattle.elab_scopes.specs.States.{state_of}
+use Rattle.elab_entry.specs.elab_ctx.Ctx.{capture_of}
+use Rattle.elab_entry.specs.elab_rules.Lambdas.{kids_of}
+use Rattle.elab_entry.specs.elab_types.Shown.{parameter_of, qualifiers_of}
+use Rattle.elab_entry.specs.elab_types.Syntax.{syntax_of, tree_at, trees_at}
+use Rattle.elab_entry.specs.elab_scopes.States.{state_of}
 use Rattle.lambda_captures.specs.Shown.{otherwise_of}
 use Rattle.elab_lambdas.proofs.Parts.{written_is}
 use Rattle.elab_lambdas.proofs.written.lambda_written.Goals as goal

@@ -1,6 +1,6 @@
-use Rattle.cpp_lex.specs.Tokens.{lexemes_of}
-use Rattle.elab_ctx.specs.Ctx.{ctx_of, work_of}
-use Rattle.elab_types.specs.Syntax.{syntax_of, trees_at}
+use Rattle.elab_entry.specs.cpp_lex.Tokens.{lexemes_of}
+use Rattle.elab_entry.specs.elab_ctx.Ctx.{ctx_of, work_of}
+use Rattle.elab_entry.specs.elab_types.Syntax.{syntax_of, trees_at}
 use Rattle.elab_lambdas.proofs.Results.{result_says}
 use Rattle.elab_lambdas.proofs.written.result_among.Goals as goal
 

@@ -1,5 +1,5 @@
 use Rattle.std.proofs.Common.{◌≡◌, drop}
-use Rattle.elab_types.specs.Syntax.{syntax_of, trees_at}
+use Rattle.elab_entry.specs.elab_types.Syntax.{syntax_of, trees_at}
 use Rattle.elab_lambdas.specs.Steps.{trailing}
 use Rattle.elab_lambdas.proofs.written.trailing_type.Given as goal
 

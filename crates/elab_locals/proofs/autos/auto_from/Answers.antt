@@ -1,5 +1,5 @@
 use Rattle.std.proofs.Common.{◌≡◌, ◌∙◌, Err, refl, sym, rules}
-use Rattle.cpp_types.specs.Typ.{typ_of}
+use Rattle.elab_scopes.specs.cpp_types.Typ.{typ_of}
 use Rattle.elab_locals.proofs.Placed.{variables_fail}
 use Rattle.std.proofs.Common.{option_map}
 use Rattle.elab_locals.proofs.Placed.{auto_found, auto_fails}

@@ -1,5 +1,5 @@
 use Rattle.std.proofs.Common.{◌≡◌, ◌∙◌, refl}
-use Rattle.cpp_types.specs.Typ.{typ_of}
+use Rattle.elab_scopes.specs.cpp_types.Typ.{typ_of}
 use Rattle.elab_locals.proofs.Placed.{auto_made}
 use Rattle.elab_locals.proofs.autos.auto_of_type.Goals as goal
 

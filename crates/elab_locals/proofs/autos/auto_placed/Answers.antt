@@ -1,6 +1,6 @@
 use Rattle.std.proofs.Common.{◌≡◌, ◌∙◌, ap, rules}
-use Rattle.cpp_types.specs.Typ.{typ_of}
-use Rattle.cpp_tree.specs.Arena.{trees_of}
+use Rattle.elab_scopes.specs.cpp_types.Typ.{typ_of}
+use Rattle.elab_scopes.specs.cpp_tree.Arena.{trees_of}
 use Rattle.elab_locals.proofs.Placed.{auto_done}
 use Rattle.elab_locals.proofs.autos.auto_placed.Goals as goal
 

@@ -1,12 +1,12 @@
 use Rattle.std.proofs.Common.{◌≡◌, ◌∙◌, refl, sym, ap}
-use Rattle.cpp_lex.specs.Tokens.{lexemes_of}
-use Rattle.cpp_types.specs.Typ.{typ_of}
-use Rattle.elab_types.specs.Syntax.{syntax_of, tree_at, trees_at}
+use Rattle.elab_scopes.specs.cpp_lex.Tokens.{lexemes_of}
+use Rattle.elab_scopes.specs.cpp_types.Typ.{typ_of}
+use Rattle.elab_scopes.specs.elab_types.Syntax.{syntax_of, tree_at, trees_at}
 use Rattle.elab_scopes.specs.States.{state_of}
 use Rattle.std.proofs.Common.{option_map}
-use Rattle.cpp_tree.specs.declared.faults.ElabFault.TheVariants.{Ill}
-use Rattle.cpp_tree.specs.declared.faults.IllRule.TheVariants.{BadInit}
-use Rattle.elab_ctx.proofs.Looks.{grows_refl}
+use Rattle.elab_scopes.specs.cpp_tree.declared.faults.ElabFault.TheVariants.{Ill}
+use Rattle.elab_scopes.specs.cpp_tree.declared.faults.IllRule.TheVariants.{BadInit}
+use Rattle.elab_scopes.proofs.elab_ctx.Looks.{grows_refl}
 use Rattle.elab_locals.proofs.OneValue.{value_is, none_of_it}
 use Rattle.elab_locals.proofs.Declared.{faulted}
 use Rattle.elab_locals.proofs.Placed.{read_found, none_found, declared_state}

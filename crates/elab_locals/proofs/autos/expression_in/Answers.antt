@@ -1,5 +1,5 @@
 use Rattle.std.proofs.Common.{◌≡◌, ◌∙◌, ap}
-use Rattle.elab_types.specs.Syntax.{syntax_of, tree_at, trees_at}
+use Rattle.elab_scopes.specs.elab_types.Syntax.{syntax_of, tree_at, trees_at}
 use Rattle.elab_locals.proofs.OneValue.{equal_in, value_in}
 use Rattle.elab_locals.proofs.autos.expression_in.Goals as goal
 

@@ -1,6 +1,6 @@
 use Rattle.std.proofs.Common.{List, Some, ap}
 use Rattle.std.proofs.lemmas.List.{map-set}
-use Rattle.elab_ctx.specs.Ctx.{Variable, ctx_of, variable_of}
+use Rattle.elab_scopes.specs.elab_ctx.Ctx.{Variable, ctx_of, variable_of}
 use Rattle.elab_locals.proofs.autos.set_variable.Goals as goal
 
 pub returns : goal.returns

@@ -1,10 +1,10 @@
 use Rattle.std.proofs.Common.{◌≡◌, ◌∙◌, ap}
-use Rattle.cpp_lex.specs.Tokens.{lexemes_of}
-use Rattle.cpp_types.specs.Typ.{typ_of}
-use Rattle.elab_types.specs.Syntax.{syntax_of, trees_at}
+use Rattle.elab_scopes.specs.cpp_lex.Tokens.{lexemes_of}
+use Rattle.elab_scopes.specs.cpp_types.Typ.{typ_of}
+use Rattle.elab_scopes.specs.elab_types.Syntax.{syntax_of, trees_at}
 use Rattle.std.proofs.Common.{drop, ◌+◌}
-use Rattle.elab_rules.specs.Statements.{Declaring, block_declarators}
-use Rattle.elab_expr.proofs.Several.{trees_step}
+use Rattle.elab_scopes.specs.elab_rules.Statements.{Declaring, block_declarators}
+use Rattle.elab_scopes.proofs.elab_expr.Several.{trees_step}
 use Rattle.elab_locals.specs.Deducing.{declaring_of}
 use Rattle.elab_locals.proofs.Declared.{declared_step}
 use Rattle.elab_locals.proofs.declarations.declarators.Goals as goal

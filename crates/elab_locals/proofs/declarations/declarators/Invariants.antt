@@ -1,8 +1,8 @@
 use Rattle.std.proofs.Common.{◌≡◌, drop, None}
-use Rattle.cpp_lex.specs.Tokens.{lexemes_of}
-use Rattle.cpp_types.specs.Typ.{typ_of}
-use Rattle.elab_rules.specs.Statements.{block_declarators}
-use Rattle.elab_types.specs.Syntax.{syntax_of, trees_at}
+use Rattle.elab_scopes.specs.cpp_lex.Tokens.{lexemes_of}
+use Rattle.elab_scopes.specs.cpp_types.Typ.{typ_of}
+use Rattle.elab_scopes.specs.elab_rules.Statements.{block_declarators}
+use Rattle.elab_scopes.specs.elab_types.Syntax.{syntax_of, trees_at}
 use Rattle.elab_locals.specs.Deducing.{declaring_of}
 use Rattle.elab_locals.proofs.Declared.{DeclaredSoFar}
 use Rattle.elab_locals.proofs.declarations.declarators.Given as goal

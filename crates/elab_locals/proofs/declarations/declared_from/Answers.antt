@@ -1,7 +1,7 @@
 use Rattle.std.proofs.Common.{◌≡◌, ◌∙◌, Err, refl, sym, rules}
-use Rattle.cpp_lex.specs.Tokens.{lexemes_of}
-use Rattle.elab_types.specs.Syntax.{syntax_of, trees_at}
-use Rattle.elab_types.specs.Shown.{declared_of}
+use Rattle.elab_scopes.specs.cpp_lex.Tokens.{lexemes_of}
+use Rattle.elab_scopes.specs.elab_types.Syntax.{syntax_of, trees_at}
+use Rattle.elab_scopes.specs.elab_types.Shown.{declared_of}
 use Rattle.elab_locals.proofs.Declared.{declared_made, declared_fails, declares_fail}
 use Rattle.elab_locals.proofs.declarations.declared_from.Goals as goal
 

@@ -1,8 +1,8 @@
 use Rattle.std.proofs.Common.{◌≡◌, ◌∙◌}
-use Rattle.cpp_lex.specs.Tokens.{lexemes_of}
-use Rattle.cpp_types.specs.Typ.{typ_of}
-use Rattle.elab_types.specs.Syntax.{syntax_of, tree_at, trees_at}
-use Rattle.elab_types.specs.Shown.{declared_of}
+use Rattle.elab_scopes.specs.cpp_lex.Tokens.{lexemes_of}
+use Rattle.elab_scopes.specs.cpp_types.Typ.{typ_of}
+use Rattle.elab_scopes.specs.elab_types.Syntax.{syntax_of, tree_at, trees_at}
+use Rattle.elab_scopes.specs.elab_types.Shown.{declared_of}
 use Rattle.elab_locals.proofs.Declared.{declarator_then}
 use Rattle.elab_locals.proofs.declarations.init_declarator.Goals as goal
 

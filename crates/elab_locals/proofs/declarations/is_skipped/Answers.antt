@@ -1,5 +1,5 @@
-use Rattle.cpp_types.specs.Typ.{typ_of}
-use Rattle.elab_ctx.specs.Ctx.{ctx_of}
+use Rattle.elab_scopes.specs.cpp_types.Typ.{typ_of}
+use Rattle.elab_scopes.specs.elab_ctx.Ctx.{ctx_of}
 use Rattle.elab_locals.proofs.Declared.{skipped_more, skipped_none}
 use Rattle.elab_locals.proofs.declarations.is_skipped.Goals as goal
 

@@ -1,6 +1,6 @@
 use Rattle.std.proofs.Common.{◌∙◌, ◌∷◌, ap}
-use Rattle.cpp_types.specs.Typ.{typ_of}
-use Rattle.elab_ctx.specs.Ctx.{ctx_of}
+use Rattle.elab_scopes.specs.cpp_types.Typ.{typ_of}
+use Rattle.elab_scopes.specs.elab_ctx.Ctx.{ctx_of}
 use Rattle.elab_locals.proofs.Made.{init_ok}
 use Rattle.elab_locals.proofs.inits.init_node.Goals as goal
 

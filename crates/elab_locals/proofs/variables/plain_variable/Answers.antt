@@ -1,7 +1,7 @@
 use Rattle.std.proofs.Common.{◌≡◌, ◌∙◌, refl}
-use Rattle.cpp_lex.specs.Tokens.{lexemes_of}
-use Rattle.cpp_types.specs.Typ.{typ_of}
-use Rattle.elab_types.specs.Syntax.{syntax_of, trees_at}
+use Rattle.elab_scopes.specs.cpp_lex.Tokens.{lexemes_of}
+use Rattle.elab_scopes.specs.cpp_types.Typ.{typ_of}
+use Rattle.elab_scopes.specs.elab_types.Syntax.{syntax_of, trees_at}
 use Rattle.elab_locals.proofs.Placed.{plain_found}
 use Rattle.elab_locals.proofs.variables.plain_variable.Goals as goal
 

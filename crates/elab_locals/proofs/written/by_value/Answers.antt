@@ -1,7 +1,7 @@
 use Rattle.std.proofs.Common.{◌≡◌, ◌∙◌}
-use Rattle.cpp_lex.specs.Tokens.{lexemes_of}
-use Rattle.cpp_types.specs.Typ.{typ_of}
-use Rattle.elab_types.specs.Syntax.{syntax_of, tree_at}
+use Rattle.elab_scopes.specs.cpp_lex.Tokens.{lexemes_of}
+use Rattle.elab_scopes.specs.cpp_types.Typ.{typ_of}
+use Rattle.elab_scopes.specs.elab_types.Syntax.{syntax_of, tree_at}
 use Rattle.elab_locals.proofs.Made.{value_made}
 use Rattle.elab_locals.proofs.written.by_value.Goals as goal
 

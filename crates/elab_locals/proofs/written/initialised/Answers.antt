@@ -1,6 +1,6 @@
 use Rattle.std.proofs.Common.{◌≡◌, ◌∙◌}
-use Rattle.cpp_lex.specs.Tokens.{lexemes_of}
-use Rattle.cpp_types.specs.Typ.{typ_of}
+use Rattle.elab_scopes.specs.cpp_lex.Tokens.{lexemes_of}
+use Rattle.elab_scopes.specs.cpp_types.Typ.{typ_of}
 use Rattle.elab_braces.proofs.Initials.{lower_within}
 use Rattle.elab_locals.proofs.Made.{form_does}
 use Rattle.elab_locals.proofs.written.initialised.Goals as goal

@@ -1,9 +1,9 @@
 use Rattle.std.proofs.Common.{◌≡◌, ◌∙◌, refl, rules}
-use Rattle.cpp_types.specs.Typ.{typ_of}
+use Rattle.elab_scopes.specs.cpp_types.Typ.{typ_of}
 use Rattle.elab_scopes.specs.States.{state_of}
-use Rattle.cpp_types.specs.declared.classes.At.{At}
-use Rattle.cpp_tree.specs.Trees.{Tree}
-use Rattle.elab_ctx.specs.Ctx.{ctx_of}
+use Rattle.elab_scopes.specs.cpp_types.declared.classes.At.{At}
+use Rattle.elab_scopes.specs.cpp_tree.Trees.{Tree}
+use Rattle.elab_scopes.specs.elab_ctx.Ctx.{ctx_of}
 use Rattle.elab_locals.specs.Inits.{init_in}
 use Rattle.elab_locals.proofs.Made.{init_made}
 use Rattle.elab_locals.proofs.written.values_made.Goals as goal

@@ -1,5 +1,5 @@
-use Rattle.cpp_types.specs.Typ.{typ_of}
-use Rattle.elab_rules.specs.Initialising.{seen_as}
+use Rattle.elab_init.specs.cpp_types.Typ.{typ_of}
+use Rattle.elab_init.specs.elab_rules.Initialising.{seen_as}
 use Rattle.elab_make.proofs.Putting.{puts_then}
 use Rattle.elab_make.proofs.binding.bound_object.Goals as goal
 

@@ -1,5 +1,5 @@
 use Rattle.std.proofs.Common.{◌∙◌, ◌∷◌, ap, refl}
-use Rattle.elab_ctx.proofs.Making.{last_adds}
+use Rattle.elab_init.proofs.elab_ctx.Making.{last_adds}
 use Rattle.elab_make.proofs.Nodes.{node_same}
 use Rattle.elab_make.proofs.Putting.{kids_behind}
 use Rattle.elab_make.proofs.call_words.argument_node.Goals as goal

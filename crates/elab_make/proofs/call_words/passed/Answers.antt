@@ -1,8 +1,8 @@
 use Rattle.std.proofs.Common.{◌∙◌, sym}
-use Rattle.cpp_types.specs.Typ.{typ_of}
-use Rattle.cpp_tree.specs.Arena.{trees_of}
-use Rattle.elab_ctx.specs.Ctx.{ctx_of, work_of}
-use Rattle.elab_ctx.specs.Operands.{operand_in}
+use Rattle.elab_init.specs.cpp_types.Typ.{typ_of}
+use Rattle.elab_init.specs.cpp_tree.Arena.{trees_of}
+use Rattle.elab_init.specs.elab_ctx.Ctx.{ctx_of, work_of}
+use Rattle.elab_init.specs.elab_ctx.Operands.{operand_in}
 use Rattle.elab_make.proofs.Calling.{passed_makes}
 use Rattle.elab_make.proofs.call_words.passed.Goals as goal
 

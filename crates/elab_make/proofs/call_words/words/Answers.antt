@@ -1,11 +1,11 @@
 use Rattle.std.proofs.Common.{◌≡◌, ◌∙◌, sym, Some, Err, slice_get, rules}
 use Rattle.std.proofs.lemmas.Option.{slice_get_within}
-use Rattle.cpp_types.specs.Typ.{typs_of}
-use Rattle.cpp_tree.specs.Arena.{trees_of}
-use Rattle.elab_ctx.specs.Ctx.{ctx_of, work_of}
-use Rattle.elab_ctx.specs.Operands.{operands_in}
-use Rattle.elab_ctx.specs.Says.{Faults}
-use Rattle.elab_rules.specs.Initialising.{words}
+use Rattle.elab_init.specs.cpp_types.Typ.{typs_of}
+use Rattle.elab_init.specs.cpp_tree.Arena.{trees_of}
+use Rattle.elab_init.specs.elab_ctx.Ctx.{ctx_of, work_of}
+use Rattle.elab_init.specs.elab_ctx.Operands.{operands_in}
+use Rattle.elab_init.specs.elab_ctx.Says.{Faults}
+use Rattle.elab_init.specs.elab_rules.Initialising.{words}
 use Rattle.elab_make.proofs.Calling.{no_element, element_at, refused_all}
 use Rattle.elab_make.proofs.Wording.{wording_more, wording_short, wording_done, wording_fails, word_within}
 use Rattle.elab_make.proofs.call_words.words.Goals as goal

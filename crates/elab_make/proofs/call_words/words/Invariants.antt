@@ -1,5 +1,5 @@
-use Rattle.cpp_tree.specs.Arena.{trees_of}
-use Rattle.elab_ctx.specs.Ctx.{ctx_of, work_of}
+use Rattle.elab_init.specs.cpp_tree.Arena.{trees_of}
+use Rattle.elab_init.specs.elab_ctx.Ctx.{ctx_of, work_of}
 use Rattle.elab_make.proofs.Wording.{Wording}
 use Rattle.elab_make.proofs.call_words.words.Given as goal
 

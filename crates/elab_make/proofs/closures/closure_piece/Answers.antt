@@ -1,6 +1,6 @@
 use Rattle.std.proofs.Common.{◌∙◌, ◌∷◌, ap}
-use Rattle.elab_ctx.proofs.Looks.{grows_trans}
-use Rattle.elab_ctx.proofs.Making.{last_adds}
+use Rattle.elab_init.proofs.elab_ctx.Looks.{grows_trans}
+use Rattle.elab_init.proofs.elab_ctx.Making.{last_adds}
 use Rattle.elab_make.proofs.Nodes.{node_same}
 use Rattle.elab_make.proofs.Putting.{kids_behind}
 use Rattle.elab_make.proofs.closures.closure_piece.Goals as goal

@@ -1,4 +1,4 @@
-use Rattle.elab_ctx.specs.Ctx.{ctx_of}
+use Rattle.elab_init.specs.elab_ctx.Ctx.{ctx_of}
 use Rattle.elab_make.proofs.Putting.{closure_added, closure_done}
 use Rattle.elab_make.proofs.closures.closure_pieces.Goals as goal
 

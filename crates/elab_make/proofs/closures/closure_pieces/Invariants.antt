@@ -1,7 +1,7 @@
 use Rattle.std.proofs.Common.{drop, map}
-use Rattle.cpp_tree.specs.Arena.{trees_of}
-use Rattle.elab_ctx.specs.Ctx.{ctx_of}
-use Rattle.elab_rules.specs.Initialising.{closure_pieces}
+use Rattle.elab_init.specs.cpp_tree.Arena.{trees_of}
+use Rattle.elab_init.specs.elab_ctx.Ctx.{ctx_of}
+use Rattle.elab_init.specs.elab_rules.Initialising.{closure_pieces}
 use Rattle.elab_init.specs.Parts.{part_of}
 use Rattle.elab_init.proofs.Listing.{Adding}
 use Rattle.elab_make.proofs.closures.closure_pieces.Given as goal

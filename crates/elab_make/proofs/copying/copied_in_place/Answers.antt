@@ -1,10 +1,10 @@
-use Rattle.cpp_types.specs.Typ.{typ_of}
-use Rattle.cpp_types.specs.Class.{classes_of}
-use Rattle.cpp_types.specs.declared.ranks.Cat.TheVariants.{Prvalue}
-use Rattle.cpp_tree.specs.declared.kinds.TKind.TheVariants.{CopyFrom}
-use Rattle.cpp_tree.specs.Trees.{Tree, node, two}
-use Rattle.elab_rules.specs.Objects.{copies}
-use Rattle.elab_rules.specs.Initialising.{as_source}
+use Rattle.elab_init.specs.cpp_types.Typ.{typ_of}
+use Rattle.elab_init.specs.cpp_types.Class.{classes_of}
+use Rattle.elab_init.specs.cpp_types.declared.ranks.Cat.TheVariants.{Prvalue}
+use Rattle.elab_init.specs.cpp_tree.declared.kinds.TKind.TheVariants.{CopyFrom}
+use Rattle.elab_init.specs.cpp_tree.Trees.{Tree, node, two}
+use Rattle.elab_init.specs.elab_rules.Objects.{copies}
+use Rattle.elab_init.specs.elab_rules.Initialising.{as_source}
 use Rattle.elab_make.proofs.Putting.{puts_then}
 use Rattle.elab_make.proofs.copying.copied_in_place.Goals as goal
 

@@ -1,6 +1,6 @@
-use Rattle.cpp_tree.specs.Arena.{trees_of}
-use Rattle.elab_ctx.specs.Ctx.{ctx_of, work_of}
-use Rattle.elab_ctx.specs.Operands.{operand_in}
+use Rattle.elab_init.specs.cpp_tree.Arena.{trees_of}
+use Rattle.elab_init.specs.elab_ctx.Ctx.{ctx_of, work_of}
+use Rattle.elab_init.specs.elab_ctx.Operands.{operand_in}
 use Rattle.elab_make.proofs.Calling.{refused_word, word_makes}
 use Rattle.elab_make.proofs.copying.reference_word.Goals as goal
 

@@ -1,8 +1,8 @@
 use Rattle.std.proofs.Common.{◌≡◌, ◌∙◌, ◌+◌, ◌-◌, ◌++◌, ap, subst, arith, map, drop}
-use Rattle.cpp_tree.specs.Arena.{trees_of}
-use Rattle.elab_ctx.specs.Ctx.{ctx_of}
-use Rattle.elab_ctx.specs.Says.{AddsAll}
-use Rattle.elab_rules.specs.Objects.{backwards, destroys_at}
+use Rattle.elab_init.specs.cpp_tree.Arena.{trees_of}
+use Rattle.elab_init.specs.elab_ctx.Ctx.{ctx_of}
+use Rattle.elab_init.specs.elab_ctx.Says.{AddsAll}
+use Rattle.elab_init.specs.elab_rules.Objects.{backwards, destroys_at}
 use Rattle.elab_init.specs.Parts.{part_of}
 use Rattle.elab_make.proofs.Putting.{back_more}
 use Rattle.elab_make.proofs.destructions.destroys_back.Goals as goal

@@ -1,7 +1,7 @@
 use Rattle.std.proofs.Common.{◌∙◌, ◌∷◌, ap}
-use Rattle.elab_ctx.specs.Ctx.{ctx_of}
-use Rattle.elab_ctx.proofs.Looks.{grows_trans}
-use Rattle.elab_ctx.proofs.Making.{last_adds}
+use Rattle.elab_init.specs.elab_ctx.Ctx.{ctx_of}
+use Rattle.elab_init.proofs.elab_ctx.Looks.{grows_trans}
+use Rattle.elab_init.proofs.elab_ctx.Making.{last_adds}
 use Rattle.elab_make.proofs.Nodes.{elements_same}
 use Rattle.elab_make.proofs.Putting.{kids_before}
 use Rattle.elab_make.proofs.each.elements_by.Goals as goal

@@ -1,6 +1,6 @@
 use Rattle.std.proofs.Common.{◌∙◌, ap}
-use Rattle.cpp_tree.specs.Arena.{trees_of, trees_at}
-use Rattle.elab_ctx.proofs.Looks.{at_grown}
+use Rattle.elab_init.specs.cpp_tree.Arena.{trees_of, trees_at}
+use Rattle.elab_init.proofs.elab_ctx.Looks.{at_grown}
 use Rattle.elab_make.proofs.Putting.{last_puts, temporary_same}
 use Rattle.elab_make.proofs.objects.built_object.Goals as goal
 

@@ -1,7 +1,7 @@
 use Rattle.std.proofs.Common.{◌≡◌, ◌∙◌, ◌-◌, ◌++◌, ap, arith, map}
-use Rattle.cpp_types.specs.Typ.{typ_of, shape_form}
-use Rattle.cpp_types.specs.Class.{classes_of}
-use Rattle.cpp_layout.specs.Layout.{extent_of}
+use Rattle.elab_init.specs.cpp_types.Typ.{typ_of, shape_form}
+use Rattle.elab_init.specs.cpp_types.Class.{classes_of}
+use Rattle.elab_init.specs.cpp_layout.Layout.{extent_of}
 use Rattle.elab_init.specs.Parts.{part_of}
 use Rattle.elab_make.specs.Fields.{fields_of_each}
 use Rattle.elab_make.proofs.Fielding.{if_adds, class_is, array_is, object_added, objects_done, part_added, parts_done}

@@ -1,7 +1,7 @@
 use Rattle.std.proofs.Common.{drop, map}
-use Rattle.cpp_types.specs.Typ.{typ_of}
-use Rattle.cpp_types.specs.Class.{classes_of}
-use Rattle.cpp_tree.specs.Arena.{trees_of}
+use Rattle.elab_init.specs.cpp_types.Typ.{typ_of}
+use Rattle.elab_init.specs.cpp_types.Class.{classes_of}
+use Rattle.elab_init.specs.cpp_tree.Arena.{trees_of}
 use Rattle.elab_init.specs.Parts.{part_of}
 use Rattle.elab_init.proofs.Listing.{Adding}
 use Rattle.elab_make.specs.Fields.{fields_of, fields_of_each}

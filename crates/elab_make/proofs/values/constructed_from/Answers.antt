@@ -1,8 +1,8 @@
 use Rattle.std.proofs.Common.{◌≡◌, ◌∙◌, sym, ap, map, Err, rules, slice_get}
-use Rattle.cpp_types.specs.Typ.{typ_of}
-use Rattle.cpp_tree.specs.Arena.{trees_of}
-use Rattle.elab_ctx.specs.Ctx.{ctx_of, work_of}
-use Rattle.cpp_overload.specs.Overload.{candidate_of}
+use Rattle.elab_init.specs.cpp_types.Typ.{typ_of}
+use Rattle.elab_init.specs.cpp_tree.Arena.{trees_of}
+use Rattle.elab_init.specs.elab_ctx.Ctx.{ctx_of, work_of}
+use Rattle.elab_init.specs.cpp_overload.Overload.{candidate_of}
 use Rattle.elab_make.proofs.Calling.{refused_made}
 use Rattle.elab_make.proofs.Constructing.{not_makeable, not_meant, made_by_maker}
 use Rattle.elab_make.proofs.values.constructed_from.Goals as goal

@@ -1,7 +1,7 @@
 use Rattle.std.proofs.Common.{◌≡◌, true, List, length, subst, sym}
-use Rattle.cpp_ast.specs.Orders.{are_below}
-use Rattle.cpp_ast.specs.declared.arena.NodeId.{NodeId}
-use Rattle.elab_types.proofs.KidLists.{wider}
+use Rattle.elab_implicit.specs.cpp_ast.Orders.{are_below}
+use Rattle.elab_implicit.specs.cpp_ast.declared.arena.NodeId.{NodeId}
+use Rattle.elab_implicit.proofs.elab_types.KidLists.{wider}
 use Rattle.elab_members.proofs.syntax.kids_in.Goals as goal
 
 pub returns : goal.returns

@@ -1,6 +1,6 @@
 use Rattle.std.proofs.Common.{◌≡◌, map, drop}
-use Rattle.elab_ctx.specs.Ctx.{capture_of}
-use Rattle.elab_rules.specs.Names.{captured_from}
+use Rattle.elab_conv.specs.elab_ctx.Ctx.{capture_of}
+use Rattle.elab_conv.specs.elab_rules.Names.{captured_from}
 use Rattle.elab_names.proofs.captures.captured_at.Given as goal
 
 abbrev pub invariant-loop-i : goal.invariant-loop-i

@@ -1,7 +1,7 @@
 use Rattle.std.proofs.Common.{◌≡◌, ◌++◌, map, drop}
-use Rattle.elab_ctx.specs.Ctx.{func_of}
-use Rattle.elab_rules.specs.Initialising.{places_from}
-use Rattle.elab_rules.specs.Names.{is_method}
+use Rattle.elab_conv.specs.elab_ctx.Ctx.{func_of}
+use Rattle.elab_conv.specs.elab_rules.Initialising.{places_from}
+use Rattle.elab_conv.specs.elab_rules.Names.{is_method}
 use Rattle.elab_names.proofs.functions.method_places.Given as goal
 
 abbrev pub invariant-loop-i : goal.invariant-loop-i

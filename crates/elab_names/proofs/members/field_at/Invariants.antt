@@ -1,6 +1,6 @@
 use Rattle.std.proofs.Common.{◌≡◌, map, drop}
-use Rattle.cpp_types.specs.Class.{member_of}
-use Rattle.elab_rules.specs.Names.{field_from}
+use Rattle.elab_conv.specs.cpp_types.Class.{member_of}
+use Rattle.elab_conv.specs.elab_rules.Names.{field_from}
 use Rattle.elab_names.proofs.members.field_at.Given as goal
 
 abbrev pub invariant-loop-i : goal.invariant-loop-i

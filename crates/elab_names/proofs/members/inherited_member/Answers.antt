@@ -1,8 +1,8 @@
 use Rattle.std.proofs.Common.{◌≡◌, ℕ, zero, suc, ◌+◌, ◌-◌, List, Option, Some, None, option_map, sym, ap, ◌∙◌, arith}
-use Rattle.cpp_types.specs.Class.{Class, classes_of, base_of}
-use Rattle.cpp_types.specs.Conversion.{chain}
-use Rattle.elab_ctx.specs.Ctx.{Ctx, ctx_of}
-use Rattle.elab_rules.specs.Names.{Found, found_along, own_member, or_else}
+use Rattle.elab_conv.specs.cpp_types.Class.{Class, classes_of, base_of}
+use Rattle.elab_conv.specs.cpp_types.Conversion.{chain}
+use Rattle.elab_conv.specs.elab_ctx.Ctx.{Ctx, ctx_of}
+use Rattle.elab_conv.specs.elab_rules.Names.{Found, found_along, own_member, or_else}
 use Rattle.elab_names.specs.Members.{found_of}
 use Rattle.elab_names.proofs.Chains.{chain_none, chain_some}
 use Rattle.elab_names.proofs.members.inherited_member.Goals as goal

@@ -1,8 +1,8 @@
 use Rattle.std.proofs.Common.{◌≡◌, ℕ, ◌+◌}
-use Rattle.cpp_types.specs.Class.{classes_of}
-use Rattle.cpp_types.specs.Conversion.{chain}
-use Rattle.elab_ctx.specs.Ctx.{ctx_of}
-use Rattle.elab_rules.specs.Names.{found_along}
+use Rattle.elab_conv.specs.cpp_types.Class.{classes_of}
+use Rattle.elab_conv.specs.cpp_types.Conversion.{chain}
+use Rattle.elab_conv.specs.elab_ctx.Ctx.{ctx_of}
+use Rattle.elab_conv.specs.elab_rules.Names.{found_along}
 use Rattle.elab_names.proofs.members.inherited_member.Given as goal
 
 -- `k` more bases may be looked at

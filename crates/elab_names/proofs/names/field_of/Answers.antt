@@ -1,8 +1,8 @@
-use Rattle.cpp_types.specs.Typ.{typ_of}
-use Rattle.cpp_tree.specs.Arena.{trees_of, tree_at}
-use Rattle.elab_ctx.specs.Ctx.{ctx_of}
-use Rattle.elab_ctx.proofs.Looks.{grows_refl}
-use Rattle.elab_ctx.proofs.Making.{last_adds}
+use Rattle.elab_conv.specs.cpp_types.Typ.{typ_of}
+use Rattle.elab_conv.specs.cpp_tree.Arena.{trees_of, tree_at}
+use Rattle.elab_conv.specs.elab_ctx.Ctx.{ctx_of}
+use Rattle.elab_conv.proofs.elab_ctx.Looks.{grows_refl}
+use Rattle.elab_conv.proofs.elab_ctx.Making.{last_adds}
 use Rattle.elab_names.proofs.Fields.{field_tree}
 use Rattle.elab_names.proofs.names.field_of.Goals as goal
 

@@ -1,6 +1,6 @@
 use Rattle.std.proofs.Common.{arith}
-use Rattle.cpp_types.specs.Class.{classes_of}
-use Rattle.elab_ctx.proofs.Sizes.{in_order}
+use Rattle.elab_conv.specs.cpp_types.Class.{classes_of}
+use Rattle.elab_conv.proofs.elab_ctx.Sizes.{in_order}
 use Rattle.elab_names.proofs.Places.{has_member, offset_is}
 use Rattle.elab_names.proofs.offsets.offset_at.Goals as goal
 

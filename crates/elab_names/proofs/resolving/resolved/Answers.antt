@@ -1,7 +1,7 @@
 use Rattle.std.proofs.Common.{◌∙◌, sym}
-use Rattle.cpp_types.specs.Typ.{typ_of}
-use Rattle.cpp_tree.specs.Arena.{trees_of, tree_at}
-use Rattle.elab_ctx.specs.Ctx.{ctx_of}
+use Rattle.elab_conv.specs.cpp_types.Typ.{typ_of}
+use Rattle.elab_conv.specs.cpp_tree.Arena.{trees_of, tree_at}
+use Rattle.elab_conv.specs.elab_ctx.Ctx.{ctx_of}
 use Rattle.elab_names.proofs.Callees.{refused}
 use Rattle.elab_names.proofs.resolving.resolved.Goals as goal
 

@@ -1,9 +1,9 @@
-use Rattle.tx_ints.specs.declared.kinds.BinOp.TheVariants.{Sub}
-use Rattle.cpp_types.specs.Typ.{int}
-use Rattle.cpp_tree.specs.Trees.{Tree}
-use Rattle.cpp_tree.specs.Notation.{plain}
-use Rattle.elab_rules.specs.Values.{operated}
-use Rattle.elab_rules.specs.Operators.{as_kind}
+use Rattle.elab_conv.specs.tx_ints.declared.kinds.BinOp.TheVariants.{Sub}
+use Rattle.elab_conv.specs.cpp_types.Typ.{int}
+use Rattle.elab_conv.specs.cpp_tree.Trees.{Tree}
+use Rattle.elab_conv.specs.cpp_tree.Notation.{plain}
+use Rattle.elab_conv.specs.elab_rules.Values.{operated}
+use Rattle.elab_conv.specs.elab_rules.Operators.{as_kind}
 use Rattle.elab_ops.proofs.Steps.{pair_ok}
 use Rattle.elab_ops.proofs.arithmetic.negated.Goals as goal
 

@@ -1,7 +1,7 @@
-use Rattle.cpp_types.specs.Typ.{typ_of}
-use Rattle.cpp_tree.specs.Trees.{Tree}
-use Rattle.elab_rules.specs.Values.{operated}
-use Rattle.elab_rules.specs.Operators.{value}
+use Rattle.elab_conv.specs.cpp_types.Typ.{typ_of}
+use Rattle.elab_conv.specs.cpp_tree.Trees.{Tree}
+use Rattle.elab_conv.specs.elab_rules.Values.{operated}
+use Rattle.elab_conv.specs.elab_rules.Operators.{value}
 use Rattle.elab_ops.proofs.Steps.{pair_ok}
 use Rattle.elab_ops.proofs.arithmetic.on_values.Goals as goal
 

@@ -1,9 +1,9 @@
 use Rattle.std.proofs.Common.{ap}
-use Rattle.tx_ints.specs.declared.kinds.BinOp.TheVariants.{Xor}
-use Rattle.cpp_types.specs.Typ.{int}
-use Rattle.cpp_tree.specs.Trees.{Tree}
-use Rattle.cpp_tree.specs.Notation.{plain}
-use Rattle.elab_rules.specs.Values.{number, operated}
+use Rattle.elab_conv.specs.tx_ints.declared.kinds.BinOp.TheVariants.{Xor}
+use Rattle.elab_conv.specs.cpp_types.Typ.{int}
+use Rattle.elab_conv.specs.cpp_tree.Trees.{Tree}
+use Rattle.elab_conv.specs.cpp_tree.Notation.{plain}
+use Rattle.elab_conv.specs.elab_rules.Values.{number, operated}
 use Rattle.elab_ops.proofs.Steps.{both_ok, adds_as}
 use Rattle.elab_ops.proofs.arithmetic.turned.Goals as goal
 

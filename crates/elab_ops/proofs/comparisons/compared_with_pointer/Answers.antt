@@ -1,8 +1,8 @@
-use Rattle.cpp_tree.specs.Arena.{trees_of}
-use Rattle.cpp_types.specs.Typ.{typ_of}
-use Rattle.cpp_tree.specs.Typing.{form_in}
-use Rattle.elab_ctx.specs.Operands.{operand_in}
-use Rattle.elab_ctx.proofs.Making.{gives_same}
+use Rattle.elab_conv.specs.cpp_tree.Arena.{trees_of}
+use Rattle.elab_conv.specs.cpp_types.Typ.{typ_of}
+use Rattle.elab_conv.specs.cpp_tree.Typing.{form_in}
+use Rattle.elab_conv.specs.elab_ctx.Operands.{operand_in}
+use Rattle.elab_conv.proofs.elab_ctx.Making.{gives_same}
 use Rattle.elab_ops.proofs.Comparing.{with_null_is}
 use Rattle.elab_ops.proofs.comparisons.compared_with_pointer.Goals as goal
 

@@ -1,8 +1,8 @@
 use Rattle.std.proofs.Common.{◌∙◌, sym, ap}
-use Rattle.cpp_types.specs.Typ.{Typ, null}
-use Rattle.cpp_types.specs.Equal.{form_eq}
-use Rattle.cpp_types.specs.Conversion.{decayed}
-use Rattle.cpp_tree.specs.Arena.{trees_of, tree_at}
+use Rattle.elab_conv.specs.cpp_types.Typ.{Typ, null}
+use Rattle.elab_conv.specs.cpp_types.Equal.{form_eq}
+use Rattle.elab_conv.specs.cpp_types.Conversion.{decayed}
+use Rattle.elab_conv.specs.cpp_tree.Arena.{trees_of, tree_at}
 use Rattle.elab_ops.proofs.Values.{null_is}
 use Rattle.elab_ops.proofs.operands.is_null.Goals as goal
 

@@ -1,8 +1,8 @@
 use Rattle.std.proofs.Common.{◌∙◌, sym, ap}
-use Rattle.cpp_types.specs.Typ.{Typ}
-use Rattle.cpp_tree.specs.Arena.{trees_of, tree_at}
-use Rattle.cpp_tree.specs.Typing.{form_in}
-use Rattle.elab_rules.specs.Operators.{arithmetic}
+use Rattle.elab_conv.specs.cpp_types.Typ.{Typ}
+use Rattle.elab_conv.specs.cpp_tree.Arena.{trees_of, tree_at}
+use Rattle.elab_conv.specs.cpp_tree.Typing.{form_in}
+use Rattle.elab_conv.specs.elab_rules.Operators.{arithmetic}
 use Rattle.elab_ops.proofs.Values.{kind_is}
 use Rattle.elab_ops.proofs.operands.number_kind.Goals as goal
 

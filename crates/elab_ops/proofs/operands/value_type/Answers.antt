@@ -1,7 +1,7 @@
 use Rattle.std.proofs.Common.{◌∙◌, sym, ap}
-use Rattle.cpp_types.specs.Conversion.{decayed}
-use Rattle.cpp_tree.specs.Arena.{trees_of, tree_at}
-use Rattle.cpp_tree.specs.Typing.{form_in}
+use Rattle.elab_conv.specs.cpp_types.Conversion.{decayed}
+use Rattle.elab_conv.specs.cpp_tree.Arena.{trees_of, tree_at}
+use Rattle.elab_conv.specs.cpp_tree.Typing.{form_in}
 use Rattle.elab_ops.proofs.Values.{form_is}
 use Rattle.elab_ops.proofs.operands.value_type.Goals as goal
 

@@ -1,9 +1,9 @@
-use Rattle.tx_ints.specs.declared.kinds.IntKind.TheVariants.{ULong}
-use Rattle.tx_ints.specs.declared.kinds.BinOp.TheVariants.{Add}
-use Rattle.cpp_tree.specs.Trees.{Tree, typ_in}
-use Rattle.cpp_tree.specs.Typing.{unqualified}
-use Rattle.elab_rules.specs.Values.{operated}
-use Rattle.elab_rules.specs.Operators.{value}
+use Rattle.elab_conv.specs.tx_ints.declared.kinds.IntKind.TheVariants.{ULong}
+use Rattle.elab_conv.specs.tx_ints.declared.kinds.BinOp.TheVariants.{Add}
+use Rattle.elab_conv.specs.cpp_tree.Trees.{Tree, typ_in}
+use Rattle.elab_conv.specs.cpp_tree.Typing.{unqualified}
+use Rattle.elab_conv.specs.elab_rules.Values.{operated}
+use Rattle.elab_conv.specs.elab_rules.Operators.{value}
 use Rattle.elab_ops.proofs.Steps.{pair_ok}
 use Rattle.elab_ops.proofs.pointers.moved_back_by.Goals as goal
 

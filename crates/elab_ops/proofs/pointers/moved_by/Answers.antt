@@ -1,9 +1,9 @@
-use Rattle.tx_ints.specs.declared.kinds.IntKind.TheVariants.{ULong}
-use Rattle.tx_ints.specs.declared.kinds.BinOp.TheVariants.{Mul}
-use Rattle.cpp_tree.specs.Trees.{Tree, typ_in}
-use Rattle.cpp_tree.specs.Typing.{unqualified}
-use Rattle.elab_rules.specs.Values.{number, operated, size_type}
-use Rattle.elab_rules.specs.Operators.{as_kind}
+use Rattle.elab_conv.specs.tx_ints.declared.kinds.IntKind.TheVariants.{ULong}
+use Rattle.elab_conv.specs.tx_ints.declared.kinds.BinOp.TheVariants.{Mul}
+use Rattle.elab_conv.specs.cpp_tree.Trees.{Tree, typ_in}
+use Rattle.elab_conv.specs.cpp_tree.Typing.{unqualified}
+use Rattle.elab_conv.specs.elab_rules.Values.{number, operated, size_type}
+use Rattle.elab_conv.specs.elab_rules.Operators.{as_kind}
 use Rattle.elab_ops.proofs.Steps.{pair_ok}
 use Rattle.elab_ops.proofs.pointers.moved_by.Goals as goal
 

@@ -1,13 +1,13 @@
 use Rattle.std.proofs.Common.{◌∙◌, sym, ap}
-use Rattle.tx_ints.specs.declared.kinds.BinOp.TheVariants.{Add}
-use Rattle.cpp_types.specs.Typ.{Form, typ_of}
-use Rattle.cpp_tree.specs.Arena.{trees_of}
-use Rattle.cpp_tree.specs.Typing.{form_in}
-use Rattle.elab_ctx.specs.Ctx.{ctx_of}
-use Rattle.elab_ctx.specs.Steps.{and_then}
-use Rattle.elab_ctx.specs.Operands.{operand_in}
-use Rattle.elab_ctx.proofs.Making.{gives_same}
-use Rattle.elab_rules.specs.Operators.{sum_of, pointed, value_form}
+use Rattle.elab_conv.specs.tx_ints.declared.kinds.BinOp.TheVariants.{Add}
+use Rattle.elab_conv.specs.cpp_types.Typ.{Form, typ_of}
+use Rattle.elab_conv.specs.cpp_tree.Arena.{trees_of}
+use Rattle.elab_conv.specs.cpp_tree.Typing.{form_in}
+use Rattle.elab_conv.specs.elab_ctx.Ctx.{ctx_of}
+use Rattle.elab_conv.specs.elab_ctx.Steps.{and_then}
+use Rattle.elab_conv.specs.elab_ctx.Operands.{operand_in}
+use Rattle.elab_conv.proofs.elab_ctx.Making.{gives_same}
+use Rattle.elab_conv.specs.elab_rules.Operators.{sum_of, pointed, value_form}
 use Rattle.elab_ops.specs.Forms.{object_at}
 use Rattle.elab_ops.proofs.pointers.subscript.Goals as goal
 

@@ -1,9 +1,9 @@
-use Rattle.tx_ints.specs.declared.kinds.IntKind.TheVariants as kinds
-use Rattle.tx_ints.specs.declared.kinds.BinOp.TheVariants.{Eq}
-use Rattle.cpp_types.specs.Typ.{int}
-use Rattle.cpp_tree.specs.Trees.{Tree}
-use Rattle.cpp_tree.specs.Notation.{plain}
-use Rattle.elab_rules.specs.Values.{operated}
+use Rattle.elab_conv.specs.tx_ints.declared.kinds.IntKind.TheVariants as kinds
+use Rattle.elab_conv.specs.tx_ints.declared.kinds.BinOp.TheVariants.{Eq}
+use Rattle.elab_conv.specs.cpp_types.Typ.{int}
+use Rattle.elab_conv.specs.cpp_tree.Trees.{Tree}
+use Rattle.elab_conv.specs.cpp_tree.Notation.{plain}
+use Rattle.elab_conv.specs.elab_rules.Values.{operated}
 use Rattle.elab_ops.proofs.Steps.{both_ok}
 use Rattle.elab_ops.proofs.truth.is_zero.Goals as goal
 

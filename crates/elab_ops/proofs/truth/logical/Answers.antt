@@ -1,7 +1,7 @@
-use Rattle.cpp_tree.specs.Arena.{trees_of}
-use Rattle.elab_ctx.specs.Ctx.{ctx_of}
-use Rattle.elab_ctx.specs.Operands.{operand_in}
-use Rattle.elab_ctx.proofs.Making.{gives_same}
+use Rattle.elab_conv.specs.cpp_tree.Arena.{trees_of}
+use Rattle.elab_conv.specs.elab_ctx.Ctx.{ctx_of}
+use Rattle.elab_conv.specs.elab_ctx.Operands.{operand_in}
+use Rattle.elab_conv.proofs.elab_ctx.Making.{gives_same}
 use Rattle.elab_ops.proofs.Steps.{gives_grows, gives_within}
 use Rattle.elab_ops.proofs.Values.{logical_is}
 use Rattle.elab_ops.proofs.truth.logical.Goals as goal

@@ -1,6 +1,6 @@
 use Rattle.std.proofs.Common.{false}
-use Rattle.cpp_tree.specs.Trees.{Tree}
-use Rattle.elab_rules.specs.Operators.{updated}
+use Rattle.elab_conv.specs.cpp_tree.Trees.{Tree}
+use Rattle.elab_conv.specs.elab_rules.Operators.{updated}
 use Rattle.elab_ops.proofs.Steps.{second_ok}
 use Rattle.elab_ops.proofs.updates.updated_by.Goals as goal
 

@@ -1,10 +1,10 @@
 use Rattle.std.proofs.Common.{◌≡◌, Err, map, rules}
 use Rattle.std.proofs.lemmas.Option.{slice_get_within}
-use Rattle.elab_ctx.specs.Ctx.{ctx_of, work_of, capture_of}
-use Rattle.elab_ctx.specs.Says.{Faults}
-use Rattle.elab_init.specs.Parts.{part_of}
-use Rattle.elab_make.proofs.Calling.{element_at, refused_all}
-use Rattle.elab_rules.specs.Expressions.{captured_pieces}
+use Rattle.elab_casts.specs.elab_ctx.Ctx.{ctx_of, work_of, capture_of}
+use Rattle.elab_casts.specs.elab_ctx.Says.{Faults}
+use Rattle.elab_casts.specs.elab_init.Parts.{part_of}
+use Rattle.elab_casts.proofs.elab_make.Calling.{element_at, refused_all}
+use Rattle.elab_casts.specs.elab_rules.Expressions.{captured_pieces}
 use Rattle.elab_rows.proofs.Piecing.{piecing_more, piecing_short, piecing_done, piecing_fails, no_more}
 use Rattle.elab_rows.proofs.closures.captured_pieces.Goals as goal
 

@@ -1,5 +1,5 @@
-use Rattle.cpp_tree.specs.Arena.{trees_of}
-use Rattle.elab_ctx.specs.Ctx.{ctx_of, work_of}
+use Rattle.elab_casts.specs.cpp_tree.Arena.{trees_of}
+use Rattle.elab_casts.specs.elab_ctx.Ctx.{ctx_of, work_of}
 use Rattle.elab_rows.proofs.Piecing.{Piecing}
 use Rattle.elab_rows.proofs.closures.captured_pieces.Given as goal
 

@@ -1,13 +1,13 @@
 use Rattle.std.proofs.Common.{◌≡◌, ◌≢◌, ℕ, List, Result, refl, sym, subst}
-use Rattle.cpp_lex.specs.Tokens.{Lexeme, lexemes_of}
-use Rattle.cpp_types.specs.declared.classes.At.{At}
-use Rattle.cpp_ast.specs.declared.kinds.NodeKind.{NodeKind}
-use Rattle.cpp_ast.specs.declared.kinds.NodeKind.TheVariants as k
-use Rattle.cpp_tree.specs.Arena.{trees_of}
-use Rattle.cpp_tree.specs.declared.faults.ElabFault.{ElabFault}
-use Rattle.elab_ctx.specs.Ctx.{Ctx, Work, ctx_of, work_of}
-use Rattle.elab_ctx.specs.Steps.{Typed}
-use Rattle.elab_rules.specs.Expressions.{leaf_or_row, leaf_of}
+use Rattle.elab_casts.specs.cpp_lex.Tokens.{Lexeme, lexemes_of}
+use Rattle.elab_casts.specs.cpp_types.declared.classes.At.{At}
+use Rattle.elab_casts.specs.cpp_ast.declared.kinds.NodeKind.{NodeKind}
+use Rattle.elab_casts.specs.cpp_ast.declared.kinds.NodeKind.TheVariants as k
+use Rattle.elab_casts.specs.cpp_tree.Arena.{trees_of}
+use Rattle.elab_casts.specs.cpp_tree.declared.faults.ElabFault.{ElabFault}
+use Rattle.elab_casts.specs.elab_ctx.Ctx.{Ctx, Work, ctx_of, work_of}
+use Rattle.elab_casts.specs.elab_ctx.Steps.{Typed}
+use Rattle.elab_casts.specs.elab_rules.Expressions.{leaf_or_row, leaf_of}
 use Rattle.elab_rows.specs.Typed.{Types}
 use Rattle.elab_rows.proofs.leaves.leaf_row.Goals as goal
 

@@ -1,4 +1,4 @@
-use Rattle.cpp_lex.specs.Tokens.{lexemes_of}
+use Rattle.elab_casts.specs.cpp_lex.Tokens.{lexemes_of}
 use Rattle.elab_rows.proofs.rows.row.Goals as goal
 
 pub returns-in-Subscript : goal.returns-in-Subscript

@@ -1,6 +1,6 @@
 use Rattle.std.proofs.Common.{◌≡◌, drop}
-use Rattle.cpp_tree.specs.Arena.{trees_of, trees_at}
-use Rattle.elab_rules.specs.Statements.{hold_temporary}
+use Rattle.elab_expr.specs.cpp_tree.Arena.{trees_of, trees_at}
+use Rattle.elab_expr.specs.elab_rules.Statements.{hold_temporary}
 use Rattle.elab_scopes.proofs.full.+holds_temporary.Given as goal
 
 abbrev pub decreases-holds_temporary : goal.decreases-holds_temporary

@@ -1,7 +1,7 @@
 use Rattle.std.proofs.Common.{◌≡◌, drop}
-use Rattle.cpp_lex.specs.Tokens.{lexemes_of}
-use Rattle.elab_rules.specs.Statements.{all_lambdas}
-use Rattle.elab_types.specs.Syntax.{syntax_of, trees_at}
+use Rattle.elab_expr.specs.cpp_lex.Tokens.{lexemes_of}
+use Rattle.elab_expr.specs.elab_rules.Statements.{all_lambdas}
+use Rattle.elab_expr.specs.elab_types.Syntax.{syntax_of, trees_at}
 use Rattle.elab_scopes.specs.States.{state_of}
 use Rattle.elab_scopes.proofs.Makings.{Making}
 use Rattle.elab_scopes.proofs.full.all_lambdas.Given as goal

@@ -1,8 +1,8 @@
 use Rattle.std.proofs.Common.{◌≡◌, ◌∙◌, rules}
-use Rattle.cpp_lex.specs.Tokens.{lexemes_of}
-use Rattle.cpp_ast.specs.declared.kinds.NodeKind.TheVariants.{ParameterDeclaration}
-use Rattle.cpp_ast.specs.Trees.{node, none, more}
-use Rattle.elab_types.specs.Syntax.{syntax_of, tree_at}
+use Rattle.elab_expr.specs.cpp_lex.Tokens.{lexemes_of}
+use Rattle.elab_expr.specs.cpp_ast.declared.kinds.NodeKind.TheVariants.{ParameterDeclaration}
+use Rattle.elab_expr.specs.cpp_ast.Trees.{node, none, more}
+use Rattle.elab_expr.specs.elab_types.Syntax.{syntax_of, tree_at}
 use Rattle.elab_scopes.specs.States.{state_of}
 use Rattle.elab_scopes.proofs.Catching.{parameter_catches}
 use Rattle.elab_scopes.proofs.handlers.handler_type.Goals as goal

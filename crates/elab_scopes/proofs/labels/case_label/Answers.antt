@@ -1,6 +1,6 @@
 use Rattle.std.proofs.Common.{◌≡◌, Err, rules}
-use Rattle.cpp_lex.specs.Tokens.{lexemes_of}
-use Rattle.elab_types.specs.Syntax.{syntax_of, tree_at}
+use Rattle.elab_expr.specs.cpp_lex.Tokens.{lexemes_of}
+use Rattle.elab_expr.specs.elab_types.Syntax.{syntax_of, tree_at}
 use Rattle.elab_scopes.proofs.Choices.{does_fail}
 use Rattle.elab_scopes.proofs.Labelling.{case_then, case_fails}
 use Rattle.elab_scopes.proofs.labels.case_label.Goals as goal

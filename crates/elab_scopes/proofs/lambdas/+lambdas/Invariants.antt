@@ -1,6 +1,6 @@
 use Rattle.std.proofs.Common.{◌≡◌, ◌+◌, ◌*◌, drop}
-use Rattle.elab_rules.specs.Lambdas.{first_of}
-use Rattle.elab_types.specs.Syntax.{syntax_of, trees_at}
+use Rattle.elab_expr.specs.elab_rules.Lambdas.{first_of}
+use Rattle.elab_expr.specs.elab_types.Syntax.{syntax_of, trees_at}
 use Rattle.elab_scopes.proofs.lambdas.+lambdas.Given as goal
 
 abbrev pub decreases-first_lambda : goal.decreases-first_lambda

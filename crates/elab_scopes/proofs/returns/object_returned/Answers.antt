@@ -1,8 +1,8 @@
 use Rattle.std.proofs.Common.{false}
-use Rattle.cpp_tree.specs.declared.kinds.TKind.TheVariants as forms
-use Rattle.cpp_tree.specs.Trees.{Tree, two}
-use Rattle.elab_rules.specs.Statements.{statement}
-use Rattle.elab_ops.proofs.Steps.{both_ok}
+use Rattle.elab_expr.specs.cpp_tree.declared.kinds.TKind.TheVariants as forms
+use Rattle.elab_expr.specs.cpp_tree.Trees.{Tree, two}
+use Rattle.elab_expr.specs.elab_rules.Statements.{statement}
+use Rattle.elab_expr.proofs.elab_ops.Steps.{both_ok}
 use Rattle.elab_scopes.proofs.returns.object_returned.Goals as goal
 
 pub returns : goal.returns

@@ -1,6 +1,6 @@
 use Rattle.std.proofs.Common.{refl, rules}
-use Rattle.cpp_types.specs.Typ.{typ_of}
-use Rattle.cpp_tree.specs.Trees.{Tree}
+use Rattle.elab_expr.specs.cpp_types.Typ.{typ_of}
+use Rattle.elab_expr.specs.cpp_tree.Trees.{Tree}
 use Rattle.elab_scopes.specs.States.{full_in}
 use Rattle.elab_scopes.specs.Returning.{object_returned}
 use Rattle.elab_scopes.proofs.Wholly.{made_done}

@@ -1,5 +1,5 @@
 use Rattle.std.proofs.Common.{sym, ◌∙◌}
-use Rattle.cpp_types.specs.Typ.{typ_of}
+use Rattle.elab_expr.specs.cpp_types.Typ.{typ_of}
 use Rattle.elab_scopes.specs.States.{full_in}
 use Rattle.elab_scopes.proofs.Standing.{does_same}
 use Rattle.elab_scopes.proofs.Choices.{value_object, value_scalar}

@@ -1,5 +1,5 @@
 use Rattle.std.proofs.Common.{rules}
-use Rattle.elab_ctx.specs.Ctx.{ctx_of}
+use Rattle.elab_expr.specs.elab_ctx.Ctx.{ctx_of}
 use Rattle.elab_scopes.proofs.Choices.{declared_twice}
 use Rattle.elab_scopes.proofs.scopes.declare.Goals as goal
 

@@ -1,5 +1,5 @@
 use Rattle.std.proofs.Common.{◌≡◌, map, take}
-use Rattle.cpp_tree.specs.Units.{global_of}
+use Rattle.elab_expr.specs.cpp_tree.Units.{global_of}
 use Rattle.elab_scopes.proofs.scratch.copy_globals.Given as goal
 
 abbrev pub invariant-loop-global : goal.invariant-loop-global

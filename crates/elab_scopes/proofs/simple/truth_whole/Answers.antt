@@ -1,8 +1,8 @@
 use Rattle.std.proofs.Common.{ap, refl, Result, Ok}
-use Rattle.cpp_tree.specs.declared.faults.ElabFault.{ElabFault}
-use Rattle.cpp_tree.specs.Trees.{Tree}
-use Rattle.elab_ctx.specs.Ctx.{work_of}
-use Rattle.elab_ctx.specs.Steps.{and_then}
+use Rattle.elab_expr.specs.cpp_tree.declared.faults.ElabFault.{ElabFault}
+use Rattle.elab_expr.specs.cpp_tree.Trees.{Tree}
+use Rattle.elab_expr.specs.elab_ctx.Ctx.{work_of}
+use Rattle.elab_expr.specs.elab_ctx.Steps.{and_then}
 use Rattle.elab_scopes.specs.States.{full_in}
 use Rattle.elab_scopes.proofs.Standing.{grown_by}
 use Rattle.elab_scopes.proofs.Wholly.{whole_made}

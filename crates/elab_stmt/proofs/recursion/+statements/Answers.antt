@@ -1,31 +1,31 @@
 use Rattle.std.proofs.Common.{◌≡◌, ◌<◌, ◌∙◌, ◌-◌, ◌+◌, arith, take, drop, length, Bool, true, List, [], Some, Result, Ok, Err, refl, sym, ap, rules}
-use Rattle.cpp_lex.specs.Tokens.{lexemes_of}
-use Rattle.cpp_types.specs.Typ.{typ_of}
-use Rattle.cpp_ast.specs.Orders.{are_below}
-use Rattle.cpp_ast.specs.Trees as syntax
-use Rattle.cpp_ast.specs.Trees.{kind_of}
-use Rattle.cpp_tree.specs.declared.faults.ElabFault.{ElabFault}
-use Rattle.cpp_tree.specs.declared.faults.ElabFault.TheVariants.{Ill}
-use Rattle.cpp_tree.specs.declared.faults.IllRule.TheVariants.{BadCatch, OutOfProfile}
-use Rattle.cpp_tree.specs.declared.kinds.TKind.{TKind}
-use Rattle.cpp_tree.specs.declared.kinds.TKind.TheVariants as forms
-use Rattle.cpp_tree.specs.Trees.{Tree, Trees, one, more, three}
-use Rattle.cpp_tree.specs.Arena.{tree_at as tree_in}
-use Rattle.elab_ctx.specs.Ctx.{Ctx}
-use Rattle.elab_ctx.specs.Steps.{and_then, check}
-use Rattle.elab_ctx.proofs.Looks.{within_grown}
-use Rattle.elab_ctx.proofs.Making.{faults_in, faults_same}
-use Rattle.elab_rules.specs.Statements.{State, Done, Switched, done, statement, the_tree, joined, statement_of, statements_of, handlers_of}
-use Rattle.elab_types.specs.Syntax.{syntax_of, tree_at, trees_at}
+use Rattle.elab_locals.specs.cpp_lex.Tokens.{lexemes_of}
+use Rattle.elab_locals.specs.cpp_types.Typ.{typ_of}
+use Rattle.elab_locals.specs.cpp_ast.Orders.{are_below}
+use Rattle.elab_locals.specs.cpp_ast.Trees as syntax
+use Rattle.elab_locals.specs.cpp_ast.Trees.{kind_of}
+use Rattle.elab_locals.specs.cpp_tree.declared.faults.ElabFault.{ElabFault}
+use Rattle.elab_locals.specs.cpp_tree.declared.faults.ElabFault.TheVariants.{Ill}
+use Rattle.elab_locals.specs.cpp_tree.declared.faults.IllRule.TheVariants.{BadCatch, OutOfProfile}
+use Rattle.elab_locals.specs.cpp_tree.declared.kinds.TKind.{TKind}
+use Rattle.elab_locals.specs.cpp_tree.declared.kinds.TKind.TheVariants as forms
+use Rattle.elab_locals.specs.cpp_tree.Trees.{Tree, Trees, one, more, three}
+use Rattle.elab_locals.specs.cpp_tree.Arena.{tree_at as tree_in}
+use Rattle.elab_locals.specs.elab_ctx.Ctx.{Ctx}
+use Rattle.elab_locals.specs.elab_ctx.Steps.{and_then, check}
+use Rattle.elab_locals.proofs.elab_ctx.Looks.{within_grown}
+use Rattle.elab_locals.proofs.elab_ctx.Making.{faults_in, faults_same}
+use Rattle.elab_locals.specs.elab_rules.Statements.{State, Done, Switched, done, statement, the_tree, joined, statement_of, statements_of, handlers_of}
+use Rattle.elab_locals.specs.elab_types.Syntax.{syntax_of, tree_at, trees_at}
 use Rattle.elab_locals.proofs.Declared.{kids_behind, faulted}
-use Rattle.elab_scopes.specs.States.{state_of, made}
-use Rattle.elab_scopes.proofs.Standing.{does_same}
-use Rattle.elab_scopes.proofs.Choices.{does_fail}
-use Rattle.elab_scopes.proofs.Behind.{all_one, all_after, so_far_more, so_far_fault, so_far_done}
+use Rattle.elab_locals.specs.elab_scopes.States.{state_of, made}
+use Rattle.elab_locals.proofs.elab_scopes.Standing.{does_same}
+use Rattle.elab_locals.proofs.elab_scopes.Choices.{does_fail}
+use Rattle.elab_locals.proofs.elab_scopes.Behind.{all_one, all_after, so_far_more, so_far_fault, so_far_done}
 use Rattle.elab_stmt.specs.Parts.{body_of, part_of, one_part, if_alone, if_both, while_body, do_test, for_inside_kids, for_loop, guarded, switch_body, try_handlers, handler_of, handler_inside}
 use Rattle.elab_stmt.proofs.Forms.{back}
 use Rattle.elab_stmt.proofs.Rows.{declaration_row, null_row, expression_row, if_short_row, if_long_row, while_row, do_row, switch_row, synchronized_row, atomic_row, try_row, case_row, default_row, break_row, continue_row, return_row, compound_tree, for_tree, for_inside_row, for_body_compound, for_body_part, handler_if_row, other_row, handlers_step}
-use Rattle.elab_expr.proofs.Several.{trees_step, trees_past}
+use Rattle.elab_locals.proofs.elab_expr.Several.{trees_step, trees_past}
 use Rattle.elab_stmt.proofs.Chains.{both_made, tested_made, stepped_made, inside_made}
 use Rattle.elab_stmt.proofs.Scoped.{body_made, node_over}
 use Rattle.elab_stmt.proofs.Steps.{as_lent, one_within, still_within, faults_then, all_fail, all_same, one_then, in_scope, scope_fails, node_three, node_last_of, node_after_all, node_before_all, body_row, body_fails, part_row, part_made, guarded_row, switch_made, switch_fails, switched_then, caught_then, handler_made, one_same, one_made}

@@ -1,10 +1,10 @@
 -- Kids have lower ids; forms of one node call one another in this order.
 use Rattle.std.proofs.Common.{◌≡◌, ◌+◌, ◌*◌, drop}
-use Rattle.cpp_lex.specs.Tokens.{lexemes_of}
-use Rattle.elab_rules.specs.Statements.{statements_of, handlers_of}
-use Rattle.elab_types.specs.Syntax.{syntax_of, trees_at}
-use Rattle.elab_scopes.specs.States.{state_of}
-use Rattle.elab_scopes.proofs.Behind.{SoFar}
+use Rattle.elab_locals.specs.cpp_lex.Tokens.{lexemes_of}
+use Rattle.elab_locals.specs.elab_rules.Statements.{statements_of, handlers_of}
+use Rattle.elab_locals.specs.elab_types.Syntax.{syntax_of, trees_at}
+use Rattle.elab_locals.specs.elab_scopes.States.{state_of}
+use Rattle.elab_locals.proofs.elab_scopes.Behind.{SoFar}
 use Rattle.elab_stmt.proofs.recursion.+statements.Given as goal
 
 abbrev pub decreases-statements : goal.decreases-statements

@@ -1,7 +1,7 @@
 use Rattle.std.proofs.Common.{refl}
-use Rattle.cpp_tree.specs.declared.kinds.TKind.TheVariants as forms
-use Rattle.cpp_tree.specs.Trees.{Tree, three}
-use Rattle.elab_rules.specs.Statements.{statement}
+use Rattle.elab_locals.specs.cpp_tree.declared.kinds.TKind.TheVariants as forms
+use Rattle.elab_locals.specs.cpp_tree.Trees.{Tree, three}
+use Rattle.elab_locals.specs.elab_rules.Statements.{statement}
 use Rattle.elab_stmt.proofs.Steps.{node_three}
 use Rattle.std.proofs.Common.{false}
 use Rattle.elab_stmt.proofs.recursion.do_test.Goals as goal

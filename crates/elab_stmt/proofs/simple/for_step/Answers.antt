@@ -1,8 +1,8 @@
 use Rattle.std.proofs.Common.{◌≡◌, ◌∙◌, Err, refl, sym, ap, rules}
-use Rattle.cpp_lex.specs.Tokens.{lexemes_of}
-use Rattle.elab_types.specs.Syntax.{syntax_of, tree_at, trees_at}
-use Rattle.elab_scopes.specs.States.{state_of}
-use Rattle.elab_scopes.proofs.Standing.{does_same}
+use Rattle.elab_locals.specs.cpp_lex.Tokens.{lexemes_of}
+use Rattle.elab_locals.specs.elab_types.Syntax.{syntax_of, tree_at, trees_at}
+use Rattle.elab_locals.specs.elab_scopes.States.{state_of}
+use Rattle.elab_locals.proofs.elab_scopes.Standing.{does_same}
 use Rattle.elab_stmt.proofs.Small.{step_absent, step_plain}
 use Rattle.elab_stmt.proofs.Steps.{one_same, one_made}
 use Rattle.elab_stmt.proofs.simple.for_step.Goals as goal

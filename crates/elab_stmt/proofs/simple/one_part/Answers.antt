@@ -1,7 +1,7 @@
 use Rattle.std.proofs.Common.{◌≡◌, ◌∙◌, Err, refl, sym, ap, rules}
-use Rattle.cpp_lex.specs.Tokens.{lexemes_of}
-use Rattle.elab_types.specs.Syntax.{syntax_of, tree_at, trees_at}
-use Rattle.elab_scopes.specs.States.{state_of}
+use Rattle.elab_locals.specs.cpp_lex.Tokens.{lexemes_of}
+use Rattle.elab_locals.specs.elab_types.Syntax.{syntax_of, tree_at, trees_at}
+use Rattle.elab_locals.specs.elab_scopes.States.{state_of}
 use Rattle.elab_stmt.proofs.Small.{last_one, part_declared, part_plain}
 use Rattle.elab_stmt.proofs.simple.one_part.Goals as goal
 

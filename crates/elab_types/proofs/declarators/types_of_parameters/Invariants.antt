@@ -1,6 +1,6 @@
 use Rattle.std.proofs.Common.{◌≡◌, map, drop}
 use Rattle.cpp_types.specs.Typ.{typs_of}
-use Rattle.elab_rules.specs.Types.{types_of}
+use Rattle.elab_conv.specs.elab_rules.Types.{types_of}
 use Rattle.elab_types.specs.Shown.{parameter_of}
 use Rattle.elab_types.proofs.ParameterTypes.{joined}
 use Rattle.elab_types.proofs.declarators.types_of_parameters.Given as goal

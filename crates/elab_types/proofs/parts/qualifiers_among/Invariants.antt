@@ -1,6 +1,6 @@
 use Rattle.std.proofs.Common.{◌≡◌, drop}
-use Rattle.cpp_lex.specs.Tokens.{lexemes_of}
-use Rattle.elab_rules.specs.Types.{qualifiers_from, no_qualifiers}
+use Rattle.elab_conv.specs.cpp_lex.Tokens.{lexemes_of}
+use Rattle.elab_conv.specs.elab_rules.Types.{qualifiers_from, no_qualifiers}
 use Rattle.elab_types.specs.Shown.{qualifiers_of}
 use Rattle.elab_types.specs.Syntax.{syntax_of, trees_at}
 use Rattle.elab_types.proofs.parts.qualifiers_among.Given as goal

@@ -1,6 +1,6 @@
 use Rattle.std.proofs.Common.{◌≡◌, true, List, length, subst, sym}
-use Rattle.cpp_ast.specs.Orders.{are_below}
-use Rattle.cpp_ast.specs.declared.arena.NodeId.{NodeId}
+use Rattle.elab_conv.specs.cpp_ast.Orders.{are_below}
+use Rattle.elab_conv.specs.cpp_ast.declared.arena.NodeId.{NodeId}
 use Rattle.elab_types.proofs.KidLists.{wider}
 use Rattle.elab_types.proofs.parts.qualifiers_of.Goals as goal
 

@@ -1,6 +1,6 @@
 use Rattle.std.proofs.Common.{sym, ◌∙◌}
-use Rattle.cpp_lex.specs.Tokens.{lexemes_of}
-use Rattle.elab_ctx.specs.Steps.{spelling}
+use Rattle.elab_conv.specs.cpp_lex.Tokens.{lexemes_of}
+use Rattle.elab_conv.specs.elab_ctx.Steps.{spelling}
 use Rattle.elab_types.proofs.Counting.{times_map}
 use Rattle.elab_types.proofs.specifiers.times.Goals as goal
 

@@ -1,6 +1,6 @@
 use Rattle.std.proofs.Common.{◌≡◌, map, drop}
-use Rattle.elab_ctx.specs.Ctx.{named_of}
-use Rattle.elab_rules.specs.Types.{type_named}
+use Rattle.elab_conv.specs.elab_ctx.Ctx.{named_of}
+use Rattle.elab_conv.specs.elab_rules.Types.{type_named}
 use Rattle.elab_types.proofs.types.type_named.Given as goal
 
 abbrev pub invariant-loop-found : goal.invariant-loop-found

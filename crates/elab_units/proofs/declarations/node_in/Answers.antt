@@ -1,5 +1,5 @@
 use Rattle.std.proofs.Common.{length}
-use Rattle.elab_types.proofs.KidLists.{wider}
+use Rattle.elab_entry.proofs.elab_types.KidLists.{wider}
 use Rattle.elab_units.proofs.declarations.node_in.Goals as goal
 
 pub returns-clause-within : goal.returns-clause-within

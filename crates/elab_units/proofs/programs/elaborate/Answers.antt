@@ -1,7 +1,7 @@
 use Rattle.std.proofs.Common.{◌≡◌, ◌∷◌, [], ap, length, arith, rules}
 use Rattle.std.proofs.lemmas.List.{length-append}
-use Rattle.cpp_types.specs.Class.{classes_of}
-use Rattle.elab_ctx.proofs.Sizes.{in_order}
+use Rattle.elab_entry.specs.cpp_types.Class.{classes_of}
+use Rattle.elab_entry.proofs.elab_ctx.Sizes.{in_order}
 use Rattle.elab_units.proofs.Reading.{readable_none, readable_more}
 use Rattle.elab_units.proofs.programs.elaborate.Goals as goal
 

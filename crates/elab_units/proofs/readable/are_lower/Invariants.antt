@@ -1,5 +1,5 @@
 use Rattle.std.proofs.Common.{◌≡◌, drop}
-use Rattle.cpp_tree.specs.Arena.{are_below}
+use Rattle.elab_entry.specs.cpp_tree.Arena.{are_below}
 use Rattle.elab_units.proofs.readable.are_lower.Given as goal
 
 abbrev pub invariant-loop-id : goal.invariant-loop-id

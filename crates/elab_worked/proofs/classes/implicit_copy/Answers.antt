@@ -1,8 +1,8 @@
 use Rattle.std.proofs.Common.{refl}
-use Rattle.tx_ints.specs.Integers.{reduced, apply_of, from_bits}
-use Rattle.tx_ints.specs.Words.{word_of}
-use Rattle.cpp_lex.specs.Ints.{int_value, int_type_of}
-use Rattle.cpp_lex.specs.Quoted.{simple_escape}
+use Rattle.elab_rules.specs.tx_ints.Integers.{reduced, apply_of, from_bits}
+use Rattle.elab_rules.specs.tx_ints.Words.{word_of}
+use Rattle.elab_rules.specs.cpp_lex.Ints.{int_value, int_type_of}
+use Rattle.elab_rules.specs.cpp_lex.Quoted.{simple_escape}
 use Rattle.elab_worked.proofs.classes.implicit_copy.Goals as goal
 
 pub returns : goal.returns

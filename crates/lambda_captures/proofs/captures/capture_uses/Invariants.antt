@@ -1,6 +1,6 @@
 use Rattle.std.proofs.Common.{◌≡◌, drop, map}
-use Rattle.elab_ctx.specs.Ctx.{ctx_of, capture_of}
-use Rattle.elab_rules.specs.Lambdas.{captured_uses}
+use Rattle.elab_init.specs.elab_ctx.Ctx.{ctx_of, capture_of}
+use Rattle.elab_init.specs.elab_rules.Lambdas.{captured_uses}
 use Rattle.lambda_captures.specs.Shown.{used_of}
 use Rattle.lambda_captures.proofs.captures.capture_uses.Given as goal
 

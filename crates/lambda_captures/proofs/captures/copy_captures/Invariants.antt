@@ -1,5 +1,5 @@
 use Rattle.std.proofs.Common.{◌≡◌, map, take}
-use Rattle.elab_ctx.specs.Ctx.{capture_of}
+use Rattle.elab_init.specs.elab_ctx.Ctx.{capture_of}
 use Rattle.lambda_captures.proofs.captures.copy_captures.Given as goal
 
 abbrev pub invariant-loop-found : goal.invariant-loop-found

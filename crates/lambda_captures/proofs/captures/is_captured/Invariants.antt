@@ -1,7 +1,7 @@
 use Rattle.std.proofs.Common.{◌≡◌, drop, map}
 use Rattle.std.specs.Prelude.{is_some}
-use Rattle.elab_ctx.specs.Ctx.{capture_of}
-use Rattle.elab_rules.specs.Names.{captured_from}
+use Rattle.elab_init.specs.elab_ctx.Ctx.{capture_of}
+use Rattle.elab_init.specs.elab_rules.Names.{captured_from}
 use Rattle.lambda_captures.proofs.captures.is_captured.Given as goal
 
 abbrev pub invariant-loop-found : goal.invariant-loop-found

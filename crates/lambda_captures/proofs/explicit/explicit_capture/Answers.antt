@@ -1,6 +1,6 @@
 use Rattle.std.proofs.Common.{map}
-use Rattle.cpp_lex.specs.Tokens.{lexemes_of}
-use Rattle.elab_ctx.specs.Ctx.{ctx_of, capture_of}
+use Rattle.elab_init.specs.cpp_lex.Tokens.{lexemes_of}
+use Rattle.elab_init.specs.elab_ctx.Ctx.{ctx_of, capture_of}
 use Rattle.elab_types.specs.Syntax.{syntax_of, tree_at, trees_at}
 use Rattle.lambda_captures.specs.Shown.{otherwise_of}
 use Rattle.lambda_captures.proofs.Captured.{this_captured}

@@ -1,8 +1,8 @@
 use Rattle.std.proofs.Common.{◌≡◌, drop, map}
-use Rattle.cpp_lex.specs.Tokens.{lexemes_of}
-use Rattle.elab_ctx.specs.Ctx.{ctx_of, capture_of}
-use Rattle.elab_ctx.specs.Steps.{each_of}
-use Rattle.elab_rules.specs.Lambdas.{explicit_capture, explicit_captures}
+use Rattle.elab_init.specs.cpp_lex.Tokens.{lexemes_of}
+use Rattle.elab_init.specs.elab_ctx.Ctx.{ctx_of, capture_of}
+use Rattle.elab_init.specs.elab_ctx.Steps.{each_of}
+use Rattle.elab_init.specs.elab_rules.Lambdas.{explicit_capture, explicit_captures}
 use Rattle.elab_types.specs.Syntax.{syntax_of, trees_at}
 use Rattle.lambda_captures.specs.Shown.{otherwise_of}
 use Rattle.lambda_captures.proofs.explicit.explicit_captures.Given as goal

@@ -1,5 +1,5 @@
 use Rattle.std.proofs.Common.{◌≡◌, ◌+◌, ◌*◌, drop}
-use Rattle.elab_rules.specs.Lambdas.{name_among}
+use Rattle.elab_init.specs.elab_rules.Lambdas.{name_among}
 use Rattle.elab_types.specs.Syntax.{syntax_of, trees_at}
 use Rattle.lambda_captures.proofs.names.+named.Given as goal
 

@@ -1,7 +1,7 @@
 use Rattle.std.proofs.Common.{◌+◌, ◌*◌, drop}
-use Rattle.cpp_lex.specs.Tokens.{lexemes_of}
-use Rattle.elab_ctx.specs.Ctx.{ctx_of}
-use Rattle.elab_rules.specs.Lambdas.{scanned_all, scanned_apart}
+use Rattle.elab_init.specs.cpp_lex.Tokens.{lexemes_of}
+use Rattle.elab_init.specs.elab_ctx.Ctx.{ctx_of}
+use Rattle.elab_init.specs.elab_rules.Lambdas.{scanned_all, scanned_apart}
 use Rattle.elab_types.specs.Syntax.{syntax_of, trees_at}
 use Rattle.lambda_captures.specs.Shown.{scan_of}
 use Rattle.lambda_captures.proofs.Scans.{Scanning}

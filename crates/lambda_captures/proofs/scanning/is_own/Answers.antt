@@ -1,6 +1,6 @@
 use Rattle.std.proofs.Common.{ap, ◌∙◌}
 use Rattle.std.specs.List.{list_any}
-use Rattle.cpp_lex.specs.Tokens.{lexemes_of}
+use Rattle.elab_init.specs.cpp_lex.Tokens.{lexemes_of}
 use Rattle.lambda_captures.specs.Steps.{spells}
 use Rattle.lambda_captures.proofs.Scans.{own_is}
 use Rattle.lambda_captures.proofs.scanning.is_own.Goals as goal

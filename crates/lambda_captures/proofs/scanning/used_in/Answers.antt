@@ -1,6 +1,6 @@
 use Rattle.std.proofs.Common.{map}
-use Rattle.cpp_lex.specs.Tokens.{lexemes_of}
-use Rattle.elab_ctx.specs.Ctx.{ctx_of}
+use Rattle.elab_init.specs.cpp_lex.Tokens.{lexemes_of}
+use Rattle.elab_init.specs.elab_ctx.Ctx.{ctx_of}
 use Rattle.elab_types.specs.Shown.{parameter_of}
 use Rattle.elab_types.specs.Syntax.{syntax_of, tree_at}
 use Rattle.lambda_captures.proofs.Scans.{used_are}

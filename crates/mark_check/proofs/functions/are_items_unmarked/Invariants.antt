@@ -1,7 +1,7 @@
 use Rattle.std.proofs.Common.{◌≡◌, drop, map}
 use Rattle.std.specs.Prelude.{not}
 use Rattle.std.specs.List.{list_all}
-use Rattle.cpp_types.specs.Typ.{Typ, typ_of}
+use Rattle.cpp_tree.specs.cpp_types.Typ.{Typ, typ_of}
 use Rattle.src_mean.specs.Links.{is_marked}
 use Rattle.mark_check.proofs.functions.are_items_unmarked.Given as goal
 

@@ -1,12 +1,12 @@
 use Rattle.std.proofs.Common.{subst, map, ◌∙◌, string_bytes}
 use Rattle.std.proofs.lemmas.Result.{IfOk-weaker}
-use Rattle.command_io.specs.Writes.{written_of}
-use Rattle.schedules.specs.Text.{most_entries}
-use Rattle.tx_answers.specs.Ends.{Refuses}
-use Rattle.tx_answers.specs.declared.answer.Status.TheVariants as status
-use Rattle.exec_command.specs.Exec.{bad_schedule_line}
+use Rattle.run_command.specs.command_io.Writes.{written_of}
+use Rattle.run_command.specs.schedules.Text.{most_entries}
+use Rattle.run_command.specs.tx_answers.Ends.{Refuses}
+use Rattle.run_command.specs.tx_answers.declared.answer.Status.TheVariants as status
+use Rattle.run_command.specs.exec_command.Exec.{bad_schedule_line}
 use Rattle.races_command.specs.Commands.{DecidesTexts, scheduled, bad_schedule}
-use Rattle.exec_command.proofs.Texts.{kept_below}
+use Rattle.run_command.proofs.exec_command.Texts.{kept_below}
 use Rattle.races_command.proofs.command.decided.Goals as goal
 
 pub with_texts-requires-clause-threads : goal.with_texts-requires-clause-threads

@@ -1,9 +1,9 @@
 use Rattle.std.proofs.Common.{map, string_bytes, subst}
 use Rattle.std.specs.Prelude.{IfOk}
-use Rattle.command_io.specs.Reads.{StopsReading, ReadsWithin, wanted_each, bytes_of}
-use Rattle.command_io.specs.Writes.{written_of}
-use Rattle.command_io.specs.declared.files.FileKind.TheVariants.{Source}
-use Rattle.tx_answers.specs.Ends.{HaltsAmong}
+use Rattle.run_command.specs.command_io.Reads.{StopsReading, ReadsWithin, wanted_each, bytes_of}
+use Rattle.run_command.specs.command_io.Writes.{written_of}
+use Rattle.run_command.specs.command_io.declared.files.FileKind.TheVariants.{Source}
+use Rattle.run_command.specs.tx_answers.Ends.{HaltsAmong}
 use Rattle.races_command.specs.Commands.{Decides}
 use Rattle.run_command.specs.Commands.{input_file}
 use Rattle.races_command.proofs.Moments.{ends_at_sources, ends_at_input, ends_at_schedule, ends_read}

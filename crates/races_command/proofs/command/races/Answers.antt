@@ -1,6 +1,6 @@
 use Rattle.std.proofs.Common.{◌≡◌, [], map, length, string_bytes, refl, rules, arith}
 use Rattle.std.proofs.lemmas.List.{length-map}
-use Rattle.tx_answers.proofs.Endings.{ends_settled}
+use Rattle.run_command.proofs.tx_answers.Endings.{ends_settled}
 use Rattle.races_command.specs.Commands.{too_many, reports}
 use Rattle.run_command.specs.Commands.{TooMany, no_files}
 use Rattle.races_command.proofs.command.races.Goals as goal

@@ -1,6 +1,6 @@
 use Rattle.std.proofs.Common.{map}
 use Rattle.std.proofs.lemmas.Result.{IfOk-weaker}
-use Rattle.tx_code.specs.Objects.{object_view}
+use Rattle.run_command.specs.tx_code.Objects.{object_view}
 use Rattle.run_command.proofs.Objects.{all_views}
 use Rattle.races_command.proofs.steps.with_all.Goals as goal
 

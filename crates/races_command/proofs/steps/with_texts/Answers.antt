@@ -1,5 +1,5 @@
 use Rattle.std.proofs.lemmas.Result.{IfOk-weaker}
-use Rattle.tx_safety.specs.Answers.{checked_in}
+use Rattle.run_command.specs.tx_safety.Answers.{checked_in}
 use Rattle.races_command.specs.Commands.{runs, refuses}
 use Rattle.races_command.proofs.steps.with_texts.Goals as goal
 

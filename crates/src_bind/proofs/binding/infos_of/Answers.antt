@@ -1,6 +1,6 @@
 use Rattle.std.proofs.Common.{Some}
 use Rattle.std.proofs.lemmas.List.{drop_more}
-use Rattle.cpp_types.specs.Class.{classes_of}
+use Rattle.cpp_tree.specs.cpp_types.Class.{classes_of}
 use Rattle.cpp_tree.specs.Units.{program_of}
 use Rattle.src_bind.specs.declared.infos.FuncInfo.{FuncInfo}
 use Rattle.src_bind.specs.Infos.{body_found, is_of_type, type_found, has_body}

@@ -1,6 +1,6 @@
 use Rattle.std.proofs.Common.{◌≡◌, ◌++◌, drop, map, Some}
-use Rattle.cpp_types.specs.Typ.{Signature}
-use Rattle.cpp_types.specs.Class.{classes_of}
+use Rattle.cpp_tree.specs.cpp_types.Typ.{Signature}
+use Rattle.cpp_tree.specs.cpp_types.Class.{classes_of}
 use Rattle.cpp_tree.specs.Units.{program_of}
 use Rattle.src_bind.specs.declared.infos.FuncInfo.{FuncInfo}
 use Rattle.src_bind.specs.Defs.{defs_of}

@@ -1,6 +1,6 @@
 use Rattle.std.proofs.Common.{◌≡◌, ◌∙◌, ℕ, zero, suc, ◌+◌, ◌-◌, sym, ap, arith}
-use Rattle.cpp_types.specs.Class.{classes_of}
-use Rattle.cpp_types.specs.Equal.{name_eq}
+use Rattle.cpp_tree.specs.cpp_types.Class.{classes_of}
+use Rattle.cpp_tree.specs.cpp_types.Equal.{name_eq}
 use Rattle.src_bind.proofs.Chains.{left_none, left_found, left_next}
 use Rattle.src_bind.proofs.bound.has_base.Goals as goal
 

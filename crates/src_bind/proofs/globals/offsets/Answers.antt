@@ -1,7 +1,7 @@
 use Rattle.std.proofs.Common.{◌≤◌, ◌∙◌, ◌+◌, ◌∷◌, ap, arith, map, sym, drop, option_map}
 use Rattle.std.proofs.lemmas.List.{drop_more}
 use Rattle.std.proofs.lemmas.Option.{slice_get-map, slice_get-get_or}
-use Rattle.cpp_layout.specs.Layout.{next_multiple}
+use Rattle.cpp_tree.specs.cpp_layout.Layout.{next_multiple}
 use Rattle.cpp_tree.specs.Units.{program_of}
 use Rattle.src_mean.specs.Links.{global_size}
 use Rattle.src_bind.specs.Defs.{def_of, defs_of}

@@ -1,5 +1,5 @@
 use Rattle.std.proofs.Common.{ap}
-use Rattle.cpp_types.specs.Class.{classes_of}
+use Rattle.cpp_tree.specs.cpp_types.Class.{classes_of}
 use Rattle.cpp_tree.specs.Units.{program_of, global_of}
 use Rattle.src_bind.specs.Defs.{def_of}
 use Rattle.src_bind.proofs.Stay.{holds_by, too_large, sized_by}

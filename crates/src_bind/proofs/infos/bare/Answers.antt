@@ -1,5 +1,5 @@
 use Rattle.std.proofs.Common.{◌∙◌, ap, refl}
-use Rattle.cpp_types.specs.declared.types.FnTy.{out-FnTy}
+use Rattle.cpp_tree.specs.cpp_types.declared.types.FnTy.{out-FnTy}
 use Rattle.src_mean.specs.Links.{unsafe}
 use Rattle.src_bind.proofs.CallWords.{bared}
 use Rattle.src_bind.proofs.infos.bare.Goals as goal

@@ -1,6 +1,6 @@
 use Rattle.std.proofs.Common.{ap, map}
-use Rattle.cpp_types.specs.Class.{classes_of}
-use Rattle.cpp_types.specs.Typ.{typ_of}
+use Rattle.cpp_tree.specs.cpp_types.Class.{classes_of}
+use Rattle.cpp_tree.specs.cpp_types.Typ.{typ_of}
 use Rattle.src_bind.proofs.Frames.{complete_by}
 use Rattle.src_bind.proofs.infos.info.Goals as goal
 

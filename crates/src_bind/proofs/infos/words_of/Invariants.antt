@@ -1,5 +1,5 @@
 use Rattle.std.proofs.Common.{◌≡◌, ◌++◌, ◌-◌, drop, map}
-use Rattle.cpp_types.specs.Typ.{typ_of}
+use Rattle.cpp_tree.specs.cpp_types.Typ.{typ_of}
 use Rattle.src_mean.specs.Links.{word_places}
 use Rattle.src_bind.specs.Infos.{word_of}
 use Rattle.src_bind.proofs.infos.words_of.Given as goal

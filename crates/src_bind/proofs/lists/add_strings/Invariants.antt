@@ -1,5 +1,5 @@
 use Rattle.std.proofs.Common.{◌≡◌, ◌++◌, drop, filter}
-use Rattle.cpp_types.specs.Equal.{flag_eq}
+use Rattle.cpp_tree.specs.cpp_types.Equal.{flag_eq}
 use Rattle.src_mean.specs.Links.{Def, is_string}
 use Rattle.src_bind.specs.Defs.{defs_of}
 use Rattle.src_bind.proofs.lists.add_strings.Given as goal

@@ -1,5 +1,5 @@
 use Rattle.std.proofs.Common.{◌≡◌, ◌++◌, drop, map}
-use Rattle.cpp_types.specs.Class.{classes_of}
+use Rattle.cpp_tree.specs.cpp_types.Class.{classes_of}
 use Rattle.cpp_tree.specs.Units.{unit_of}
 use Rattle.src_mean.specs.Links.{all_classes}
 use Rattle.src_bind.specs.Defs.{defs_of}

@@ -1,5 +1,5 @@
 use Rattle.std.proofs.Common.{◌≡◌, ◌++◌, drop, map}
-use Rattle.cpp_types.specs.Class.{classes_of}
+use Rattle.cpp_tree.specs.cpp_types.Class.{classes_of}
 use Rattle.cpp_tree.specs.Units.{definition_of, unit_of}
 use Rattle.src_mean.specs.Links.{classes_defined}
 use Rattle.src_bind.specs.Defs.{defs_of}

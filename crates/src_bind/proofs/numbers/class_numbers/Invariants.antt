@@ -1,5 +1,5 @@
 use Rattle.std.proofs.Common.{◌≡◌, ◌++◌, drop}
-use Rattle.cpp_types.specs.Class.{classes_of}
+use Rattle.cpp_tree.specs.cpp_types.Class.{classes_of}
 use Rattle.src_bind.specs.Defs.{defs_of}
 use Rattle.src_bind.specs.Numbers.{class_numbers}
 use Rattle.src_bind.proofs.numbers.class_numbers.Given as goal

@@ -1,8 +1,8 @@
 use Rattle.std.proofs.Common.{◌∙◌, ap}
 use Rattle.std.specs.List.{list_any}
-use Rattle.cpp_types.specs.Typ.{shape_form}
-use Rattle.cpp_types.specs.Class.{classes_of}
-use Rattle.cpp_types.specs.Conversion.{chain}
+use Rattle.cpp_tree.specs.cpp_types.Typ.{shape_form}
+use Rattle.cpp_tree.specs.cpp_types.Class.{classes_of}
+use Rattle.cpp_tree.specs.cpp_types.Conversion.{chain}
 use Rattle.src_frames.specs.Texts.{is_spelled}
 use Rattle.src_frames.proofs.Caught.{catches_own, catches_none, catches_base}
 use Rattle.src_frames.proofs.texts.catches_type.Goals as goal

@@ -1,5 +1,5 @@
 use Rattle.std.proofs.Common.{◌≡◌, ◌∙◌, ℕ, zero, suc, ◌+◌, ◌-◌, true, false, sym, arith}
-use Rattle.cpp_types.specs.Class.{classes_of}
+use Rattle.cpp_tree.specs.cpp_types.Class.{classes_of}
 use Rattle.src_frames.specs.Texts.{is_spelled}
 use Rattle.src_frames.proofs.Caught.{left_none, left_found, left_next}
 use Rattle.src_frames.proofs.texts.has_base.Goals as goal

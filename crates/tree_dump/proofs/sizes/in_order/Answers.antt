@@ -1,4 +1,4 @@
-use Rattle.cpp_types.specs.Class.{classes_of}
+use Rattle.cpp_tree.specs.cpp_types.Class.{classes_of}
 use Rattle.tree_dump.proofs.Extents.{consistent}
 use Rattle.tree_dump.proofs.sizes.in_order.Goals as goal
 

@@ -1,5 +1,5 @@
 use Rattle.std.proofs.Common.{arith}
-use Rattle.cpp_types.specs.Class.{classes_of}
+use Rattle.cpp_tree.specs.cpp_types.Class.{classes_of}
 use Rattle.tree_dump.proofs.Extents.{in_order, has_member}
 use Rattle.tree_dump.proofs.sizes.offset_of.Goals as goal
 

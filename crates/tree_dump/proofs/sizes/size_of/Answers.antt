@@ -1,6 +1,6 @@
 use Rattle.std.proofs.Common.{◌∙◌, sym}
-use Rattle.cpp_types.specs.Typ.{shape_form}
-use Rattle.cpp_types.specs.Class.{classes_of}
+use Rattle.cpp_tree.specs.cpp_types.Typ.{shape_form}
+use Rattle.cpp_tree.specs.cpp_types.Class.{classes_of}
 use Rattle.tree_dump.proofs.Extents.{in_order, holds_complete}
 use Rattle.tree_dump.proofs.sizes.size_of.Goals as goal
 

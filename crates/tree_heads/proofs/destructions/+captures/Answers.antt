@@ -1,5 +1,5 @@
 use Rattle.std.proofs.Common.{◌≡◌, ◌∙◌, ℕ, zero, suc, ◌+◌, ◌-◌, Bool, true, false, List, sym, ap, arith}
-use Rattle.cpp_types.specs.Class.{Class, classes_of}
+use Rattle.cpp_tree.specs.cpp_types.Class.{Class, classes_of}
 use Rattle.cpp_tree.specs.Typing.{passes}
 use Rattle.cpp_tree.specs.Parts.{Part, Objects, part_of, are_captured, captured_within}
 use Rattle.tree_heads.specs.Shown.{objects_shown}

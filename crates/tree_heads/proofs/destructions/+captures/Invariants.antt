@@ -1,5 +1,5 @@
 use Rattle.std.proofs.Common.{◌≡◌, ℕ, ◌+◌, ◌-◌, ◌*◌}
-use Rattle.cpp_types.specs.Class.{classes_of}
+use Rattle.cpp_tree.specs.cpp_types.Class.{classes_of}
 use Rattle.cpp_tree.specs.Parts.{any_captured, captured_within}
 use Rattle.tree_heads.specs.Shown.{objects_shown}
 use Rattle.tree_heads.proofs.destructions.+captures.Given as goal

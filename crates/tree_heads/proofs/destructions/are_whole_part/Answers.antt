@@ -1,5 +1,5 @@
 use Rattle.std.proofs.Common.{◌≡◌, ◌∙◌, ap, sym}
-use Rattle.cpp_types.specs.Class.{classes_of}
+use Rattle.cpp_tree.specs.cpp_types.Class.{classes_of}
 use Rattle.cpp_tree.specs.Parts.{are_whole}
 use Rattle.tree_heads.specs.declared.parts.PartType.{PartType}
 use Rattle.tree_heads.specs.Shown.{objects_shown, part_typ}

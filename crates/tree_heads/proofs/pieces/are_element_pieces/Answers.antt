@@ -1,6 +1,6 @@
 use Rattle.std.proofs.Common.{◌≡◌, ◌∙◌, ℕ, ◌+◌, ◌-◌, ◌*◌, Bool, true, false, ◌&&◌, ◌||◌, length, drop, map, sym, ap, arith}
 use Rattle.std.specs.Prelude.{nat_eq}
-use Rattle.cpp_types.specs.Typ.{Typ, typ, array, typ_of}
+use Rattle.cpp_tree.specs.cpp_types.Typ.{Typ, typ, array, typ_of}
 use Rattle.cpp_tree.specs.Parts.{is_piece_at, are_element_pieces}
 use Rattle.tree_heads.specs.Shown.{shown}
 use Rattle.tree_heads.proofs.ElementPieces.{element_step, neither, goes_on}

@@ -1,5 +1,5 @@
 use Rattle.std.proofs.Common.{◌≡◌, drop, map}
-use Rattle.cpp_types.specs.Typ.{typ_of}
+use Rattle.cpp_tree.specs.cpp_types.Typ.{typ_of}
 use Rattle.cpp_tree.specs.Parts.{are_element_pieces}
 use Rattle.tree_heads.specs.Shown.{shown}
 use Rattle.tree_heads.proofs.pieces.are_element_pieces.Given as goal

@@ -1,7 +1,7 @@
 use Rattle.std.proofs.Common.{◌≡◌, ◌∙◌, ℕ, zero, suc, ◌+◌, ◌-◌, ◌/◌, List, ◌++◌, Option, Some, None, sym, ap, arith, map}
 use Rattle.std.specs.Option.{option_map}
-use Rattle.cpp_types.specs.Typ.{typ_of, shape_form}
-use Rattle.cpp_types.specs.Class.{Class, classes_of}
+use Rattle.cpp_tree.specs.cpp_types.Typ.{typ_of, shape_form}
+use Rattle.cpp_tree.specs.cpp_types.Class.{Class, classes_of}
 use Rattle.cpp_tree.specs.Typing.{Head}
 use Rattle.cpp_tree.specs.Parts.{Scalar, Part, part_of, part_scalars, scalars_from, one_element, element_scalars, scalars_within, stride_of}
 use Rattle.tree_heads.specs.Fields.{behind, left}

@@ -1,6 +1,6 @@
 use Rattle.std.proofs.Common.{◌≡◌, ℕ, ◌+◌, ◌-◌, ◌*◌}
-use Rattle.cpp_types.specs.Typ.{shape_form}
-use Rattle.cpp_types.specs.Class.{classes_of}
+use Rattle.cpp_tree.specs.cpp_types.Typ.{shape_form}
+use Rattle.cpp_tree.specs.cpp_types.Class.{classes_of}
 use Rattle.cpp_tree.specs.Parts.{one_element, element_scalars, scalars_from, scalars_within}
 use Rattle.tree_heads.specs.Fields.{behind, left}
 use Rattle.tree_heads.proofs.scalars.+fields.Given as goal

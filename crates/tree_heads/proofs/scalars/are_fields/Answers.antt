@@ -1,7 +1,7 @@
 use Rattle.std.proofs.Common.{◌≡◌, ◌∙◌, ℕ, length, List, Some, None, ap, sym, map}
 use Rattle.std.proofs.lemmas.List.{length-map}
-use Rattle.cpp_types.specs.Typ.{typ_of}
-use Rattle.cpp_types.specs.Class.{Class, class_of, classes_of}
+use Rattle.cpp_tree.specs.cpp_types.Typ.{typ_of}
+use Rattle.cpp_tree.specs.cpp_types.Class.{Class, class_of, classes_of}
 use Rattle.cpp_tree.specs.Typing.{Head}
 use Rattle.cpp_tree.specs.Parts.{object_scalars, scalars_within, scalars_of}
 use Rattle.tree_heads.specs.Fields.{behind, left}

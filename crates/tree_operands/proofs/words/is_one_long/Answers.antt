@@ -1,5 +1,5 @@
 use Rattle.std.proofs.Common.{false}
-use Rattle.tx_ints.specs.declared.kinds.IntKind.TheVariants.{Long}
+use Rattle.cpp_tree.specs.tx_ints.declared.kinds.IntKind.TheVariants.{Long}
 use Rattle.cpp_types.specs.Typ.{typ, int}
 use Rattle.tree_operands.proofs.Params.{many_types}
 use Rattle.tree_operands.proofs.words.is_one_long.Goals as goal

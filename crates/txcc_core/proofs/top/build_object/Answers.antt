@@ -1,8 +1,8 @@
 use Rattle.std.proofs.Common.{subst, ◌∷◌, [], List, ℕ, string_bytes}
-use Rattle.command_io.specs.Reads.{wanted}
-use Rattle.command_io.specs.declared.files.FileKind.TheVariants.{Source}
+use Rattle.run_command.specs.command_io.Reads.{wanted}
+use Rattle.run_command.specs.command_io.declared.files.FileKind.TheVariants.{Source}
 use Rattle.run_command.specs.Commands.{DecidesBuild}
-use Rattle.tx_answers.specs.Ends.{Ends, on_one}
+use Rattle.run_command.specs.tx_answers.Ends.{Ends, on_one}
 use Rattle.txcc_core.proofs.top.build_object.Goals as goal
 
 pub returns : goal.returns

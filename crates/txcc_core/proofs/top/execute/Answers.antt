@@ -1,7 +1,7 @@
 use Rattle.std.proofs.Common.{subst, sym, [], ◌∷◌, List, ℕ, string_bytes}
-use Rattle.command_io.specs.Reads.{wanted}
-use Rattle.command_io.specs.declared.files.FileKind.TheVariants.{Object, Text}
-use Rattle.tx_answers.specs.Ends.{Ends, on_one}
+use Rattle.run_command.specs.command_io.Reads.{wanted}
+use Rattle.run_command.specs.command_io.declared.files.FileKind.TheVariants.{Object, Text}
+use Rattle.run_command.specs.tx_answers.Ends.{Ends, on_one}
 use Rattle.explain_command.specs.Explain.{DecidesExplanation}
 use Rattle.text_commands.specs.TextCommands.{Disassembles, Assembles}
 use Rattle.txcc_core.specs.TopCall.{CanDo, Does}

@@ -1,6 +1,6 @@
 use Rattle.std.proofs.Common.{[], refl}
 use Rattle.txcc_core.specs.TopCall.{DecidesUsage, no_files}
-use Rattle.tx_answers.proofs.Endings.{ends_settled}
+use Rattle.run_command.proofs.tx_answers.Endings.{ends_settled}
 use Rattle.txcc_core.proofs.top.usage.Goals as goal
 
 pub returns : goal.returns

@@ -1,4 +1,4 @@
-use Rattle.cpp_types.specs.Class.{classes_of}
+use Rattle.cpp_layout.specs.cpp_types.Class.{classes_of}
 use Rattle.cpp_layout.proofs.Samples.{all_more}
 use Rattle.type_tests.proofs.layouts.all_complete.Goals as goal
 

@@ -1,5 +1,5 @@
 use Rattle.std.proofs.Common.{◌≡◌, ◌≤◌, length, take}
-use Rattle.tx_events.specs.Thread.{no_atomic}
+use Rattle.cpp_tree.specs.tx_events.Thread.{no_atomic}
 use Rattle.src_mean.specs.Frames.{blocks_of}
 use Rattle.src_bind.specs.Bounds.{given}
 use Rattle.src_frames.specs.Shown.{frames_shown}
