@@ -1,11 +1,12 @@
 -- What `races` comes to.
-use Rattle.std.specs.Prelude.{◌≤◌, ◌<◌, ℕ, List, take, length, string_bytes}
+use Rattle.std.specs.Prelude.{◌≤◌, ◌<◌, ℕ, Bool, List, take, length, string_bytes}
 use Rattle.std.specs.List.{All}
 use Rattle.run_command.specs.command_io.Writes.{Written}
 use Rattle.run_command.specs.cpp_tree.declared.program.Program.{Program}
 use Rattle.run_command.specs.exec_command.Exec.{schedule_name, bad_schedule_line}
 use Rattle.object_races.specs.ObjectRaces.{DecidesObjects}
 use Rattle.run_command.specs.Commands.{source_files, wants_of, AreTexts, TooMany, no_files}
+use Rattle.run_command.specs.Runs.{Compiled}
 use Rattle.run_command.specs.schedules.Text.{Spells as Says, IsFirstBad, most_entries}
 use Rattle.run_command.specs.source_verdict.Verdict.{Accepts, RefusesTexts}
 use Rattle.run_command.specs.tx_answers.Ends.{Ends, Refuses}
@@ -23,15 +24,21 @@ pub record RacesSome (o : RunOptions) (file input entries : List ℕ) (a : Answe
   pub are_objects : All IsObject objects
   pub decides : DecidesObjects o file objects input entries a writes
 
+-- a safe program, with `fold` one that shows the program that it folds to, is compiled and run, and the races of that run are reported
+pub record CompilesAndRaces (o : RunOptions) (fold : Bool) (file : List ℕ) (p : Program) (input entries : List ℕ) (a : Answer) (writes : List Written) : Type 0 where
+  pub program : Program
+  pub compiled : Compiled fold p program
+  pub races : RacesSome o file input entries a writes
+
 -- the first refusal of the texts; or they are a safe program, which is compiled and run
-pub data DecidesTexts (o : RunOptions) (file : List ℕ) (names texts : List (List ℕ)) (input entries : List ℕ) (a : Answer) (writes : List Written) : Type 0 where
-  refuses : RefusesTexts names texts a writes → DecidesTexts o file names texts input entries a writes
-  runs : (p : Program) → Accepts texts p → RacesSome o file input entries a writes → DecidesTexts o file names texts input entries a writes
+pub data DecidesTexts (o : RunOptions) (fold : Bool) (file : List ℕ) (names texts : List (List ℕ)) (input entries : List ℕ) (a : Answer) (writes : List Written) : Type 0 where
+  refuses : RefusesTexts names texts a writes → DecidesTexts o fold file names texts input entries a writes
+  runs : (p : Program) → Accepts texts p → CompilesAndRaces o fold file p input entries a writes → DecidesTexts o fold file names texts input entries a writes
 
 -- the schedule is read: a run looks at its first entries alone
 pub data Decides (r : Races) (sources : List (List ℕ)) (input schedule : List ℕ) (a : Answer) (writes : List Written) : Type 0 where
   bad_schedule : (line : ℕ) → IsFirstBad schedule line → Refuses 10 (bad_schedule_line (schedule_name r.run.options.picker) line) BadSchedule a writes → Decides r sources input schedule a writes
-  scheduled : (entries : List ℕ) → Says schedule entries → DecidesTexts r.run.options (string_bytes r.report_file) (source_files r.run) sources input (take most_entries entries) a writes → Decides r sources input schedule a writes
+  scheduled : (entries : List ℕ) → Says schedule entries → DecidesTexts r.run.options r.run.fold (string_bytes r.report_file) (source_files r.run) sources input (take most_entries entries) a writes → Decides r sources input schedule a writes
 
 pub record DecidesOn (r : Races) (texts : List (List ℕ)) (a : Answer) (writes : List Written) : Type 0 where
   pub sources : List (List ℕ)

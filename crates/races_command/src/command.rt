@@ -30,6 +30,7 @@ fn decided(
         Ok(schedule) => with_texts(
             alloc,
             &races.run.options,
+            races.run.fold,
             races.report_file.as_str(),
             races.run.sources.as_slice(),
             texts,

@@ -7,12 +7,17 @@ ghost use Rattle.run_command.specs.exec_command.Exec.{CanRun};
 ghost use Rattle.run_command.specs.tx_code.Objects.{object_view};
 ghost use Rattle.run_command.specs.tx_code.WellFormed.{IsObject};
 ghost use Rattle.run_command.specs.tx_events.declared.TheConstants.{THREAD_LIMIT};
-ghost use Rattle.races_command.specs.Commands.{DecidesTexts, RacesSome};
+ghost use Rattle.run_command.specs.cpp_tree.Units.{program_of};
+ghost use Rattle.run_command.specs.cpp_tree.WellFormed.{WellFormed};
+ghost use Rattle.run_command.specs.tx_safety.Answers.{checked_in};
+ghost use Rattle.run_command.specs.tx_safety.Safe.{IsSafe};
+ghost use Rattle.races_command.specs.Commands.{CompilesAndRaces, DecidesTexts, RacesSome};
 
 use object_races::with_objects;
 use run_command::below::{
     Decision, Object, RunOptions, SafeProgram, Verdict, unit_objects, verdict_of,
 };
+use run_command::folded_if;
 use std::alloc::{AllocError, Global};
 
 // Objects are linked, verified and run, and the races of the run are reported.
@@ -32,8 +37,8 @@ fn with_all(
     with_objects(alloc, options, file, objects, input, entries)
 }
 
-// A program that is accepted is compiled and run.
-fn compiled(
+// The objects of a program are run, and the races of the run are reported.
+fn run_program(
     alloc: Global,
     options: &RunOptions,
     file: &str,
@@ -51,10 +56,33 @@ fn compiled(
     with_all(alloc, options, file, objects.as_slice(), input, entries)
 }
 
+// A program that is accepted is compiled, with `fold` the program that it folds to, and run.
+fn compiled(
+    alloc: Global,
+    options: &RunOptions,
+    fold: bool,
+    file: &str,
+    safe: SafeProgram,
+    names: &[String],
+    texts: &[Vec<u8>],
+    input: Vec<u8>,
+    entries: &[u8],
+) -> Result<Decision, AllocError>
+    requires options { CanRun options.now }
+    requires threads { list_all (λ t. nat_lt t THREAD_LIMIT) entries.now ≡ true }
+    requires well_formed { WellFormed (checked_in safe) }
+    requires safe { IsSafe (program_of (checked_in safe)) }
+    ensures { IfOk result (λ d. CompilesAndRaces options.now fold file.now (checked_in safe) input.items entries.now d.answer (map written_of d.writes.items)) }
+{
+    let program = folded_if(alloc, fold, safe)?;
+    run_program(alloc, options, file, &program, names, texts, input, entries)
+}
+
 /// What is decided on texts whose files have these names; the report is written to `file`.
 pub fn with_texts(
     alloc: Global,
     options: &RunOptions,
+    fold: bool,
     file: &str,
     names: &[String],
     texts: &[Vec<u8>],
@@ -63,11 +91,11 @@ pub fn with_texts(
 ) -> Result<Decision, AllocError>
     requires options { CanRun options.now }
     requires threads { list_all (λ t. nat_lt t THREAD_LIMIT) entries.now ≡ true }
-    ensures { IfOk result (λ d. DecidesTexts options.now file.now (map string_bytes names.now) (map (λ text. text.items) texts.now) input.items entries.now d.answer (map written_of d.writes.items)) }
+    ensures { IfOk result (λ d. DecidesTexts options.now fold file.now (map string_bytes names.now) (map (λ text. text.items) texts.now) input.items entries.now d.answer (map written_of d.writes.items)) }
 {
     match verdict_of(alloc, names, texts)? {
         Verdict::Accepted(safe) => compiled(
-            alloc, options, file, &safe, names, texts, input, entries,
+            alloc, options, fold, file, safe, names, texts, input, entries,
         ),
         Verdict::Refused(decision) => Ok(decision),
     }

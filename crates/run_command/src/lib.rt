@@ -10,3 +10,4 @@ mod steps;
 pub use building::build;
 pub use running::run;
 pub use selftesting::selftest;
+pub use steps::folded_if;

@@ -40,7 +40,7 @@ fn with_all(
 }
 
 /// What is compiled of a program: with `fold` the program that it folds to.
-pub(crate) fn folded_if(
+pub fn folded_if(
     alloc: Global,
     fold: bool,
     safe: SafeProgram,

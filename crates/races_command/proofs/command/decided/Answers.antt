@@ -16,12 +16,13 @@ pub returns-in-Ok : goal.returns-in-Ok
 returns-in-Ok c =
     let options = c.args.races.now.run.options in
     let texts = map (λ text. text.items) c.args.texts.now in
+    let fold = c.args.races.now.run.fold in
     let file = string_bytes c.args.races.now.report_file in
     IfOk-weaker c.with_texts.result _ _ (λ d h.
     scheduled c.in-Ok.ensures.entries c.in-Ok.ensures.spelled
-    (subst (λ l. DecidesTexts options file (map string_bytes c.args.races.now.run.sources.items) texts c.args.input.items l d.answer (map written_of d.writes.items)) (c.as_slice-in-Ok.ensures.value ∙ c.in-Ok.ensures.kept.0)
-    (subst (λ s. DecidesTexts options file (map string_bytes s) texts c.args.input.items c.as_slice-in-Ok.result.now d.answer (map written_of d.writes.items)) c.as_slice.ensures.value
-    (subst (λ f. DecidesTexts options f (map string_bytes c.as_slice.result.now) texts c.args.input.items c.as_slice-in-Ok.result.now d.answer (map written_of d.writes.items)) c.as_str.ensures.value h))))
+    (subst (λ l. DecidesTexts options fold file (map string_bytes c.args.races.now.run.sources.items) texts c.args.input.items l d.answer (map written_of d.writes.items)) (c.as_slice-in-Ok.ensures.value ∙ c.in-Ok.ensures.kept.0)
+    (subst (λ s. DecidesTexts options fold file (map string_bytes s) texts c.args.input.items c.as_slice-in-Ok.result.now d.answer (map written_of d.writes.items)) c.as_slice.ensures.value
+    (subst (λ f. DecidesTexts options fold f (map string_bytes c.as_slice.result.now) texts c.args.input.items c.as_slice-in-Ok.result.now d.answer (map written_of d.writes.items)) c.as_str.ensures.value h))))
     c.with_texts.ensures
 
 pub returns-in-Err-BadSchedule : goal.returns-in-Err-BadSchedule
