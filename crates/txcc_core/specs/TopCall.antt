@@ -1,12 +1,11 @@
 -- What an answer of the program says.
-use Rattle.std.specs.Prelude.{◌≡◌, ◌≤◌, Bool, true, false, ℕ, List, [], ◌∷◌, codes, string_bytes}
+use Rattle.std.specs.Prelude.{◌≡◌, ◌≤◌, ℕ, List, [], ◌∷◌, codes, string_bytes}
 use Rattle.run_command.specs.tx_host.Told.{HostState}
 use Rattle.run_command.specs.command_io.Reads.{Wanted, wanted}
 use Rattle.run_command.specs.command_io.declared.files.FileKind.TheVariants as kind
 use Rattle.run_command.specs.command_io.Writes.{Written, to_err}
 use Rattle.run_command.specs.tx_words.Reads.{Says}
 use Rattle.run_command.specs.tx_words.declared.command.Build.{Build}
-use Rattle.run_command.specs.tx_words.declared.command.Races.{Races}
 use Rattle.races_command.specs.Commands.{Reports}
 use Rattle.replay_command.specs.Replays.{Replays}
 use Rattle.run_command.specs.Commands.{Runs, DecidesBuild, DecidesSelftest}
@@ -32,18 +31,10 @@ pub record DecidesUsage (texts : List (List ℕ)) (a : Answer) (writes : List Wr
 abbrev pub no_files : List Wanted
 no_files = []
 
--- `races` with `--fold` is to come: it is usage
-abbrev pub where_folded : Bool → Type 0 → Type 0 → Type 0
-where_folded true folded unfolded = folded
-where_folded false folded unfolded = unfolded
-
-abbrev pub RacesUnfolded : Races → HostState → HostState → Answer → Type 0
-RacesUnfolded r old new a = where_folded r.run.fold (Ends no_files DecidesUsage old new a) (Reports r old new a)
-
 abbrev pub Builds : Build → HostState → HostState → Answer → Type 0
 Builds b old new a = Ends (wanted kind.Source (string_bytes b.source) ∷ []) (on_one (DecidesBuild b.fold (string_bytes b.source) (string_bytes b.object_file))) old new a
 
--- what each command comes to. Those that the program does not have yet are usage
+-- what each command comes to
 abbrev pub Does : Command → HostState → HostState → Answer → Type 0
 Does (command.Run r) old new a = Runs r old new a
 Does (command.Check c) old new a = Checks c old new a
@@ -53,7 +44,7 @@ Does (command.Exec e) old new a = Executes e old new a
 Does (command.Replay r) old new a = Replays r old new a
 Does (command.Dis object) old new a = Ends (wanted kind.Object (string_bytes object) ∷ []) (on_one (Disassembles (string_bytes object))) old new a
 Does (command.Asm m) old new a = Ends (wanted kind.Text (string_bytes m.text) ∷ []) (on_one (Assembles (string_bytes m.text) (string_bytes m.object_file))) old new a
-Does (command.Races r) old new a = RacesUnfolded r old new a
+Does (command.Races r) old new a = Reports r old new a
 Does (command.Explain rule) old new a = Ends no_files (DecidesExplanation (string_bytes rule)) old new a
 
 -- a command whose options are such as the words can say

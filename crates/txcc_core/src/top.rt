@@ -2,16 +2,15 @@
 
 ghost use Rattle.std.specs.Prelude.{◌≡◌, ◌≤◌, [], map, length, IfOk, codes, string_bytes, ℕ, List};
 ghost use Rattle.run_command.specs.command_io.Writes.{written_of};
-ghost use Rattle.run_command.specs.exec_command.Exec.{CanRun};
 ghost use Rattle.run_command.specs.tx_answers.Ends.{Ends, bare};
-ghost use Rattle.txcc_core.specs.TopCall.{Answers, CanDo, Does, DecidesUsage, no_files, Builds, RacesUnfolded};
+ghost use Rattle.txcc_core.specs.TopCall.{Answers, CanDo, Does, DecidesUsage, no_files, Builds};
 
 use check_command::check;
 use explain_command::explain;
 use races_command::races;
 use replay_command::replay;
 use run_command::below::{
-    Answer, Build, Command, Decision, Host, Races, Status, Write, bare, exec, settle,
+    Answer, Build, Command, Decision, Host, Status, Write, bare, exec, settle,
     tx_words_read as read,
 };
 use run_command::{build, run, selftest};
@@ -35,17 +34,6 @@ fn usage<H: Host>(alloc: Global, host: &mut H) -> Answer
     ensures { Ends no_files DecidesUsage (H.state host.old) (H.state host.new) result }
 {
     settle(host, usage_lines(alloc))
-}
-
-// Runs sources, and reports the races of the run. Constants are not folded yet.
-fn races_unfolded<H: Host>(alloc: Global, options: &Races, host: &mut H) -> Answer
-    requires { CanRun options.now.run.options }
-    ensures { RacesUnfolded options.now (H.state host.old) (H.state host.new) result }
-{
-    if options.run.fold {
-        return usage(alloc, host);
-    }
-    races(alloc, options, host)
 }
 
 // Writes an object.
@@ -81,7 +69,7 @@ fn execute<H: Host>(alloc: Global, command: &Command, host: &mut H) -> Answer
         Command::Check(options) => check(alloc, options, host),
         Command::Explain(rule) => explain(alloc, rule.as_str(), host),
         Command::Replay(options) => replay(alloc, options, host),
-        Command::Races(options) => races_unfolded(alloc, options, host),
+        Command::Races(options) => races(alloc, options, host),
     }
 }
 

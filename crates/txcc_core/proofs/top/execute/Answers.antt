@@ -53,11 +53,11 @@ returns-in-Explain g c =
     subst (λ k. Does k before after c.explain.result) (sym c.in-Explain.is)
     (subst (λ (n : List ℕ). Ends [] (DecidesExplanation n) before after c.explain.result) c.as_str-in-Explain.ensures.value c.explain.ensures)
 
-pub races_unfolded-requires : goal.races_unfolded-requires
-races_unfolded-requires g c = subst CanDo c.in-Races.is c.requires
+pub races-requires : goal.races-requires
+races-requires g c = record { options = subst CanDo c.in-Races.is c.requires }
 
 pub returns-in-Races : goal.returns-in-Races
-returns-in-Races g c = subst (λ k. Does k (g.H.Host.state c.args.host.now) (g.H.Host.state c.races_unfolded.new.host) c.races_unfolded.result) (sym c.in-Races.is) c.races_unfolded.ensures
+returns-in-Races g c = subst (λ k. Does k (g.H.Host.state c.args.host.now) (g.H.Host.state c.races.new.host) c.races.result) (sym c.in-Races.is) c.races.ensures
 
 pub returns-in-Replay : goal.returns-in-Replay
 returns-in-Replay g c = subst (λ k. Does k (g.H.Host.state c.args.host.now) (g.H.Host.state c.replay.new.host) c.replay.result) (sym c.in-Replay.is) c.replay.ensures
