@@ -7,6 +7,7 @@ use Rattle.std.proofs.lemmas.Option.{same_Some}
 use Rattle.tx_events.specs.declared.Item.{Item}
 use Rattle.race_check.specs.Races.{touches, writes}
 use Rattle.race_check.specs.Marks.{Accesses, Latest, Late}
+use Rattle.race_check.specs.Rows.{Greater}
 use Rattle.race_check.proofs.Numbers.{below_or_at}
 
 pub none_late : (marks row : List ℕ) (t n : ℕ) → length marks ≡ length row → length row ≤ n
@@ -75,3 +76,43 @@ pub latest_stays : (items : List Item) (w : Bool) (item : Item) (n : ℕ) (old :
 latest_stays items w item n old f none h x t =
     latest_other items w x t n (old x t) (h x t)
     (λ a. none (sym (ap (λ (z : Item). writes z.what) (same_Some a.item item (sym a.there ∙ f))) ∙ a.written))
+
+-- rows of bytes that gain the counters of one, byte by byte
+
+greater_to : (f g h k : ℕ → ℕ) → Greater f g h → ((s : ℕ) → k s ≡ h s) → Greater f g k
+greater_to f g h k w e = record {
+  kept = λ s. let le = w.kept s in let q = e s in omega (arith, le, q);
+  gained = λ s. let le = w.gained s in let q = e s in omega (arith, le, q);
+  only = λ s. by s (w.only s);
+}
+  where
+    by : (s : ℕ) → (h s ≡ f s) ⊎ (h s ≡ g s) → (k s ≡ f s) ⊎ (k s ≡ g s)
+    by s (inl q) = inl (e s ∙ q)
+    by s (inr q) = inr (e s ∙ q)
+
+greater_from : (f g h k : ℕ → ℕ) → Greater f g h → ((s : ℕ) → f s ≡ k s) → Greater k g h
+greater_from f g h k w e = record {
+  kept = λ s. let le = w.kept s in let q = e s in omega (arith, le, q);
+  gained = w.gained;
+  only = λ s. by s (w.only s);
+}
+  where
+    by : (s : ℕ) → (h s ≡ f s) ⊎ (h s ≡ g s) → (h s ≡ k s) ⊎ (h s ≡ g s)
+    by s (inl q) = inl (q ∙ e s)
+    by s (inr q) = inr q
+
+pub added_there : (old mid new : ℕ → ℕ → ℕ) (whole : ℕ → ℕ) (from n : ℕ) → ((x : ℕ) → from ≤ x → x < n → Greater (old x) whole (mid x))
+    → ((x s : ℕ) → (from ≤ x → x < n → ⊥) → mid x s ≡ old x s) → Greater (mid n) whole (new n) → ((x s : ℕ) → (x ≡ n → ⊥) → new x s ≡ mid x s)
+    → (x : ℕ) → from ≤ x → x < n + 1 → Greater (old x) whole (new x)
+added_there old mid new whole from n there others here same x le lt = by (below_or_at x n lt)
+  where
+    by : (x < n) ⊎ (x ≡ n) → Greater (old x) whole (new x)
+    by (inl p) = greater_to (old x) whole (mid x) (new x) (there x le p) (λ s. same x s (λ e. omega (arith, p, e)))
+    by (inr e) =
+        subst (λ z. Greater (old z) whole (new z)) (sym e)
+        (greater_from (mid n) whole (new n) (old n) here (λ s. others n s (λ p q. omega (arith, q))))
+
+pub added_others : (old mid new : ℕ → ℕ → ℕ) (from n : ℕ) → from ≤ n → ((x s : ℕ) → (from ≤ x → x < n → ⊥) → mid x s ≡ old x s)
+    → ((x s : ℕ) → (x ≡ n → ⊥) → new x s ≡ mid x s) → (x s : ℕ) → (from ≤ x → x < n + 1 → ⊥) → new x s ≡ old x s
+added_others old mid new from n low others same x s apart =
+    same x s (λ e. apart (omega (arith, low, e)) (omega (arith, e))) ∙ others x s (λ le lt. apart le (omega (arith, lt)))

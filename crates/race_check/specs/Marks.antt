@@ -1,5 +1,5 @@
 -- For each byte and thread, the latest of its items that access the byte.
-use Rattle.std.specs.Prelude.{ℕ, ◌≡◌, ◌<◌, ◌+◌, ◌⊎◌, Bool, true, false, List, [], Option, Some, None, slice_get, slice_index}
+use Rattle.std.specs.Prelude.{ℕ, ◌≡◌, ◌<◌, ◌≤◌, ◌+◌, ◌⊎◌, Bool, true, false, List, [], Option, Some, None, slice_get, slice_index}
 use Rattle.std.specs.BTreeMap.{get}
 use Rattle.std.specs.Ordering.{nat_cmp}
 use Rattle.tx_events.specs.declared.Item.{Item}
@@ -47,3 +47,9 @@ late_at m row u x = Late (latest_in (get nat_cmp m.rows x)) row u
 pub record Racing (seen : Seen) (row : List ℕ) (item : Item) (x : ℕ) : Type 0 where
   pub touched : touches item.what x ≡ true
   pub late : late_at seen.writes row item.t x ⊎ ((writes item.what ≡ true) × late_at seen.reads row item.t x)
+
+-- The row gains the counters of the rows of some bytes.
+pub record GathersFrom (marks : ℕ → ℕ → ℕ) (from to : ℕ) (old new : ℕ → ℕ) : Type 0 where
+  pub kept : (s : ℕ) → old s ≤ new s
+  pub gained : (x s : ℕ) → from ≤ x → x < to → marks x s ≤ new s
+  pub only : (s : ℕ) → (new s ≡ old s) ⊎ ((x : ℕ) × (from ≤ x) × (x < to) × (new s ≡ marks x s))

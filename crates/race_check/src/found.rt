@@ -1,16 +1,21 @@
 //! The words of a trace's races.
-ghost use Rattle.std.specs.Prelude.{◌≡◌, ℕ, ◌<◌, ◌≤◌, ◌+◌, ◌^◌, IfOk, OnOk};
+ghost use Rattle.std.specs.Prelude.{◌≡◌, ℕ, ◌<◌, ◌≤◌, ◌+◌, ◌^◌, IfOk, OnOk, Some, length, slice_get};
 ghost use Rattle.race_check.specs.Marks.{Racing, late_at};
 ghost use Rattle.race_check.specs.Races.{Ascending, Races};
 ghost use Rattle.race_check.specs.Regular.{Regular, end_of};
 ghost use Rattle.race_check.specs.Words.{WordsOf};
+ghost use Rattle.race_check.specs.Blocks.{Blocked};
+ghost use Rattle.race_check.specs.Clocks.{Clocked};
+ghost use Rattle.race_check.specs.Rows.{Right};
 
+use crate::blocks::Blocks;
+use crate::clocks::Clocks;
 use crate::items::{bytes_of, is_write, item_at};
 use crate::marks::{Marks, Seen};
-use crate::rows::{Row, row_of};
+use crate::rows::{Row, with_item};
 use crate::words::add_word;
 use std::alloc::{AllocError, Global};
-use tx_events::Item;
+use tx_events::{Item, What};
 
 // Adds the byte's word, if another thread is marked there with an item that the row does not count.
 fn add_at(
@@ -63,20 +68,46 @@ fn add_races(words: &mut Vec<u64>, seen: &Seen, row: &Row, item: Item) -> Result
     Ok(())
 }
 
+// The row of item `j`, by what the items before it leave.
+fn row_of(items: &[Item], clocks: &Clocks, blocks: &Blocks, item: Item, j: usize) -> Row
+    requires regular { Regular items.now }
+    requires there { slice_get items.now j ≡ Some item }
+    requires within { j < length items.now }
+    requires clocked { Clocked items.now clocks.now j }
+    requires blocked { Blocked items.now blocks.now j }
+    ensures { Right items.now result.latest j }
+{
+    let mut row = clocks.own(usize::from(item.t));
+    match item.what {
+        What::Joined { child } => {
+            clocks.add_child(&mut row, child);
+            row
+        }
+        What::Enter => {
+            blocks.gather_ahead(items, item.t, j, &mut row);
+            row
+        }
+        What::Read { .. } | What::Write { .. } | What::Leave | What::Spawned { .. } => row,
+    }
+}
+
 /// The words of the races of a trace, ascending and distinct.
 pub fn races(alloc: Global, items: &[Item]) -> Result<Vec<u64>, AllocError>
     requires { Regular items.now }
     ensures { IfOk result (λ words. Races items.now words.items) }
 {
-    let mut rows: Vec<Row> = Vec::new(alloc);
+    let mut clocks = Clocks::new(alloc)?;
+    let mut blocks = Blocks::new(alloc);
     let mut seen = Seen::new(alloc);
     let mut words = Vec::new(alloc);
     'items: for j in 0..items.len() {
         let item = item_at(items, j);
-        let row = row_of(items, &rows, j);
+        let row = row_of(items, &clocks, &blocks, item, j);
         add_races(&mut words, &seen, &row, item)?;
         seen.put(items, item, j)?;
-        rows.push(row)?;
+        let whole = with_item(items, item, j, &row);
+        clocks.put(items, item, j, &whole);
+        blocks.put(items, item, j, &whole)?;
     }
     Ok(words)
 }

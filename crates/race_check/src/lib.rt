@@ -5,12 +5,13 @@
 //! each is a law.
 #![tactic(auto)]
 
+mod blocks;
+mod clocks;
 mod found;
 mod items;
 mod marks;
 mod regular;
 mod rows;
-mod walks;
 mod words;
 
 ghost use Rattle.std.specs.Prelude.{◌≡◌, ℕ, Bool, true, List, [], ◌∷◌, Some, slice_get};

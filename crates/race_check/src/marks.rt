@@ -1,7 +1,8 @@
 //! For each byte and thread, the latest of its items that access the byte.
 ghost use Rattle.std.specs.Prelude.{◌≡◌, ℕ, ◌<◌, ◌≤◌, ◌+◌, ◌^◌, true, false, OnOk, Some, length, slice_get, slice_index};
-ghost use Rattle.race_check.specs.Marks.{Late, Marked, late_at, mark};
+ghost use Rattle.race_check.specs.Marks.{GathersFrom, Late, Marked, late_at, mark};
 ghost use Rattle.race_check.specs.Regular.{Regular, end_of};
+ghost use Rattle.race_check.specs.Rows.{Greater};
 
 use crate::items::{bytes_of, is_write};
 use crate::rows::{Row, THREADS, empty_row};
@@ -23,7 +24,7 @@ pub(crate) struct Seen {
 }
 
 impl Marks {
-    fn new(alloc: Global) -> Marks
+    pub(crate) fn new(alloc: Global) -> Marks
         ensures { (x t : ℕ) → mark result x t ≡ 0 }
     {
         Marks {
@@ -63,6 +64,47 @@ impl Marks {
             self.put(byte, t, value)?;
         }
         Ok(())
+    }
+
+    // The byte's row counts what this one counts too.
+    fn add(&mut self, byte: u64, row: &Row) -> Result<(), AllocError>
+        ensures there { OnOk result (Greater (mark self.old byte) (slice_index row.now.latest) (mark self.new byte)) }
+        ensures others { OnOk result ((x s : ℕ) → (x ≡ byte → ⊥) → mark self.new x s ≡ mark self.old x s) }
+    {
+        let mut more = self.at(byte);
+        more.add(row);
+        self.rows.insert(byte, more)?;
+        Ok(())
+    }
+
+    /// The rows of these bytes count what this one counts too.
+    pub(crate) fn add_all(&mut self, from: u64, to: u64, row: &Row) -> Result<(), AllocError>
+        ensures there { OnOk result ((x : ℕ) → from ≤ x → x < to → Greater (mark self.old x) (slice_index row.now.latest) (mark self.new x)) }
+        ensures others { OnOk result ((x s : ℕ) → (from ≤ x → x < to → ⊥) → mark self.new x s ≡ mark self.old x s) }
+    {
+        'bytes: for byte in from..to {
+            self.add(byte, row)?;
+        }
+        Ok(())
+    }
+
+    // The row counts what the byte's row counts too.
+    fn add_byte(&self, row: &mut Row, byte: u64)
+        ensures { Greater (slice_index row.old.latest) (mark self.now byte) (slice_index row.new.latest) }
+    {
+        match self.rows.get(&byte) {
+            None => {}
+            Some(other) => row.add(other),
+        }
+    }
+
+    /// The row counts what the rows of these bytes count too.
+    pub(crate) fn add_to(&self, row: &mut Row, from: u64, to: u64)
+        ensures { GathersFrom (mark self.now) from to (slice_index row.old.latest) (slice_index row.new.latest) }
+    {
+        'bytes: for byte in from..to {
+            self.add_byte(row, byte);
+        }
     }
 
     /// Another thread is marked at the byte with an item that the row does not count.

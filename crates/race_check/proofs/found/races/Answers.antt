@@ -1,11 +1,10 @@
-use Rattle.race_check.proofs.FoundSteps.{all_listed, more_listed, right_more, size_more}
+use Rattle.race_check.proofs.FoundSteps.{all_listed, more_listed}
 use Rattle.race_check.proofs.found.races.Goals as goal
 
 pub items-preserved : goal.items-preserved
 items-preserved c = record {
-  size = size_more c.items.rows.items c.push.new.self.items c.row_of-row.result c.items.j c.items.invariant.size c.in_ok-push.ensures.items;
-  right = right_more c.args.items.now c.items.rows.items c.push.new.self.items c.row_of-row.result c.items.j c.items.invariant.size
-      c.in_ok-push.ensures.items c.row_of-row.ensures c.items.invariant.right;
+  clocked = c.put-2.ensures;
+  blocked = c.in_ok-put-2.ensures;
   marked = c.in_ok-put.ensures;
   listed = more_listed c.args.items.now c.requires c.items.words.items c.add_races.new.words.items c.row_of-row.result.latest c.items.seen c.items.j
       c.item_at-item.result c.item_at-item.ensures c.row_of-row.ensures c.items.invariant.marked c.in_ok-add_races.ensures c.items.invariant.listed;
