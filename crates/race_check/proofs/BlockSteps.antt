@@ -47,11 +47,11 @@ module _ (items : List Item) (t l k : ℕ) (item : Item) (at : slice_get items k
           stays (same_thread_of items k item t Leave at here) (same_what_of items k item t Leave at here)
 
   none_here : (item.t ≡ t → item.what ≡ Enter → ⊥) → (found : Option ℕ) → Earliest items t l (k + 1) found → Earliest items t l k found
-  none_here none None h f p q d = by (at_or_above f k p)
+  none_here none None h = λ f p q d. by f q d (at_or_above f k p)
     where
-      by : (k ≡ f) ⊎ (k + 1 ≤ f) → ⊥
-      by (inr le) = h f le q d
-      by (inl e) =
+      by : (f : ℕ) → f < l → Does items f t Enter → (k ≡ f) ⊎ (k + 1 ≤ f) → ⊥
+      by f q d (inr le) = h f le q d
+      by f q d (inl e) =
           let here : Does items k t Enter = subst (λ z. Does items z t Enter) (sym e) d in
           none (same_thread_of items k item t Enter at here) (same_what_of items k item t Enter at here)
   none_here none (Some e) h = let le = h.1 in (h.0, omega (arith, le), h.2, λ f p q d. by f q d (at_or_above f k p))
@@ -206,15 +206,15 @@ module _ (items : List Item) (t l from k : ℕ) (item : Item) (at : slice_get it
 
       by : (b : Bool) (x : ℕ) → Adds (hits b item.what) whole (rows_of old b) (rows_of new b) → (hits b item.what x ≡ true) ⊎ (hits b item.what x ≡ false)
           → Down items (rows_of new b x) (λ p. IsBlock items b x l p ⊎ ((p ≡ l) × IsUsed items b t from (k + 1) x))
-      by b x g (inr no) = putting_same b x (rows_of old b x) (rows_of new b x) (λ s yes. true≢false (sym yes ∙ no)) (λ s. g.others x s no) (h b x)
-      by b x g (inl yes) =
+      by b x g (inr not_so) = putting_same b x (rows_of old b x) (rows_of new b x) (λ s so. true≢false (sym so ∙ not_so)) (λ s. g.others x s not_so) (h b x)
+      by b x g (inl so) =
           like_down items (rows_of new b x) (rows_of new b x) (λ p. (IsBlock items b x l p ⊎ ((p ≡ l) × IsUsed items b t from k x)) ⊎ (p ≡ l))
           (λ p. IsBlock items b x l p ⊎ ((p ≡ l) × IsUsed items b t from (k + 1) x))
-          (joined_down items (rows_of old b x) whole (rows_of new b x) (λ p. IsBlock items b x l p ⊎ ((p ≡ l) × IsUsed items b t from k x)) (λ p. p ≡ l) (h b x) w (g.there x yes))
+          (joined_down items (rows_of old b x) whole (rows_of new b x) (λ p. IsBlock items b x l p ⊎ ((p ≡ l) × IsUsed items b t from k x)) (λ p. p ≡ l) (h b x) w (g.there x so))
           (λ s. refl) to back
         where
           used : IsUsed items b t from (k + 1) x
-          used = record { one = k; what = item.what; item = does items k item t item.what at e refl; behind = lt; before = omega arith; hit = yes }
+          used = record { one = k; what = item.what; item = does items k item t item.what at e refl; behind = lt; before = omega arith; hit = so }
 
           to : (p : ℕ) → (IsBlock items b x l p ⊎ ((p ≡ l) × IsUsed items b t from k x)) ⊎ (p ≡ l) → IsBlock items b x l p ⊎ ((p ≡ l) × IsUsed items b t from (k + 1) x)
           to p (inl (inl q)) = inl q
@@ -279,10 +279,10 @@ put_in items b t l from to item at owner leaves end first h w x =
 -- ---- what an access adds
 
 pub adds_read : (what : What) (whole : ℕ → ℕ) (marks : ℕ → ℕ → ℕ) → writes what ≡ false → Adds (hits true what) whole marks marks
-adds_read what whole marks no = record { there = λ x h. absurd (true≢false (sym (and_parts (touches what x) (writes what) h).1 ∙ no)); others = λ x s h. refl }
+adds_read what whole marks not_so = record { there = λ x h. absurd (true≢false (sym (and_parts (touches what x) (writes what) h).1 ∙ not_so)); others = λ x s h. refl }
 
 in_range : (what : What) (from to x : ℕ) → ((x : ℕ) → from ≤ x → x < to → touches what x ≡ true) → touches what x ≡ false → from ≤ x → x < to → ⊥
-in_range what from to x inside no le lt = true≢false (sym (inside x le lt) ∙ no)
+in_range what from to x inside not_so le lt = true≢false (sym (inside x le lt) ∙ not_so)
 
 pub adds_users : (what : What) (whole : ℕ → ℕ) (old new : ℕ → ℕ → ℕ) (from to : ℕ) → ((x : ℕ) → from ≤ x → x < to → touches what x ≡ true)
     → ((x : ℕ) → touches what x ≡ true → (from ≤ x) × (x < to)) → ((x : ℕ) → from ≤ x → x < to → Greater (old x) whole (new x))
@@ -295,20 +295,20 @@ adds_users what whole old new from to inside all there others = record {
 pub adds_writers : (what : What) (whole : ℕ → ℕ) (old new : ℕ → ℕ → ℕ) (from to : ℕ) → ((x : ℕ) → from ≤ x → x < to → touches what x ≡ true)
     → ((x : ℕ) → touches what x ≡ true → (from ≤ x) × (x < to)) → writes what ≡ true → ((x : ℕ) → from ≤ x → x < to → Greater (old x) whole (new x))
     → ((x s : ℕ) → (from ≤ x → x < to → ⊥) → new x s ≡ old x s) → Adds (hits true what) whole old new
-adds_writers what whole old new from to inside all yes there others = record {
+adds_writers what whole old new from to inside all so there others = record {
   there = λ x h. let r = all x (and_parts (touches what x) (writes what) h).0 in there x r.0 r.1;
-  others = λ x s h. others x s (λ le lt. true≢false (sym (and_from (touches what x) (writes what) (inside x le lt) yes) ∙ h));
+  others = λ x s h. others x s (λ le lt. true≢false (sym (and_from (touches what x) (writes what) (inside x le lt) so) ∙ h));
 }
 
 -- ---- what the Enter of a block gathers
 
 pub gathers_one : (b : Blocks) (what : What) (from to : ℕ) (old new : ℕ → ℕ) → ((x : ℕ) → from ≤ x → x < to → touches what x ≡ true)
     → ((x : ℕ) → touches what x ≡ true → (from ≤ x) × (x < to)) → writes what ≡ false → GathersFrom (mark b.writers) from to old new → Gathers b what old new
-gathers_one b what from to old new inside all no g = record { kept = g.kept; gained = gained; only = λ s. only s (g.only s) }
+gathers_one b what from to old new inside all not_so g = record { kept = g.kept; gained = gained; only = λ s. only s (g.only s) }
   where
     gained : (w : Bool) (x s : ℕ) → against w what x ≡ true → rows_of b w x s ≤ new s
     gained true x s h = let r = all x h in g.gained x s r.0 r.1
-    gained false x s h = absurd (true≢false (sym (and_parts (touches what x) (writes what) h).1 ∙ no))
+    gained false x s h = absurd (true≢false (sym (and_parts (touches what x) (writes what) h).1 ∙ not_so))
 
     only : (s : ℕ) → (new s ≡ old s) ⊎ ((x : ℕ) × (from ≤ x) × (x < to) × (new s ≡ mark b.writers x s))
         → (new s ≡ old s) ⊎ ((w : Bool) × (x : ℕ) × (against w what x ≡ true) × (new s ≡ rows_of b w x s))
@@ -318,7 +318,7 @@ gathers_one b what from to old new inside all no g = record { kept = g.kept; gai
 pub gathers_two : (b : Blocks) (what : What) (from to : ℕ) (old mid new : ℕ → ℕ) → ((x : ℕ) → from ≤ x → x < to → touches what x ≡ true)
     → ((x : ℕ) → touches what x ≡ true → (from ≤ x) × (x < to)) → writes what ≡ true → GathersFrom (mark b.writers) from to old mid
     → GathersFrom (mark b.users) from to mid new → Gathers b what old new
-gathers_two b what from to old mid new inside all yes g h = record {
+gathers_two b what from to old mid new inside all so g h = record {
   kept = λ s. let p = g.kept s in let q = h.kept s in omega (arith, p, q);
   gained = gained;
   only = λ s. last s (h.only s);
@@ -336,7 +336,7 @@ gathers_two b what from to old mid new inside all yes g h = record {
     last : (s : ℕ) → (new s ≡ mid s) ⊎ ((x : ℕ) × (from ≤ x) × (x < to) × (new s ≡ mark b.users x s))
         → (new s ≡ old s) ⊎ ((w : Bool) × (x : ℕ) × (against w what x ≡ true) × (new s ≡ rows_of b w x s))
     last s (inl e) = first s e (g.only s)
-    last s (inr (x, le, lt, e)) = inr (false, x, and_from (touches what x) (writes what) (inside x le lt) yes, e)
+    last s (inr (x, le, lt, e)) = inr (false, x, and_from (touches what x) (writes what) (inside x le lt) so, e)
 
 abbrev pub Hit : List Item → What → (j p : ℕ) → Type 0
 Hit items what j p = (w : Bool) × (x : ℕ) × (against w what x ≡ true) × IsBlock items w x j p
@@ -502,12 +502,12 @@ clash_parts false a b x h g = let p = and_parts (touches b x) (writes b) g in (h
 
 clash_by : (a b : What) (x : ℕ) → touches a x ≡ true → touches b x ≡ true → (writes a || writes b) ≡ true → (writes a ≡ true) ⊎ (writes a ≡ false)
     → (w : Bool) × (hits w a x ≡ true) × (against w b x ≡ true)
-clash_by a b x p q r (inl yes) = (true, and_from (touches a x) (writes a) p yes, q)
-clash_by a b x p q r (inr no) = (false, p, and_from (touches b x) (writes b) q (by (or_cases _ _ r)))
+clash_by a b x p q r (inl so) = (true, and_from (touches a x) (writes a) p so, q)
+clash_by a b x p q r (inr not_so) = (false, p, and_from (touches b x) (writes b) q (by (or_cases _ _ r)))
   where
     by : (writes a ≡ true) ⊎ (writes b ≡ true) → writes b ≡ true
-    by (inl yes) = absurd (true≢false (sym yes ∙ no))
-    by (inr yes) = yes
+    by (inl so) = absurd (true≢false (sym so ∙ not_so))
+    by (inr so) = so
 
 met_before : (items : List Item) (j u n p : ℕ) → Does items j u Enter → IsMet items j u n p → Ordered items p j
 met_before items j u n p enters m = by (cases_eq m.block.thread u)

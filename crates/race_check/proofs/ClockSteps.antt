@@ -202,3 +202,13 @@ child_down items r clocks j child h = by (cases_lt child 64)
         let size = h.done_size in
         nothing_down items (row_in clocks.done.items child) (IsOf items j child) (λ s. past_rows clocks.done.items child s (omega (arith, size, le)))
         (λ p i. let lt : child < 64 = r.threads p _ i.item in omega (arith, lt, le))
+
+-- what is ordered before the next item of a thread by its own items and its start
+pub own_down : (items : List Item) → Regular items → (clocks : Clocks) (j t : ℕ) (item : Item) (row : ℕ → ℕ) → slice_get items j ≡ Some item → Clocked items clocks j → t ≡ item.t
+    → Greater (row_in clocks.done.items t) (row_in clocks.starts.items t) row → Down items row (Own items j item.t)
+own_down items r clocks j t item row at h e g =
+    subst (λ z. Down items row (Own items j z)) e
+    (joined_down items (row_in clocks.done.items t) (row_in clocks.starts.items t) row (IsOf items j t) (IsStart items j t) (h.done t lt) (h.starts t lt) g)
+  where
+    lt : t < 64
+    lt = subst (λ z. z < 64) (sym e) (r.threads j item at)
