@@ -1,12 +1,12 @@
 -- Blocks that are put in, and the Enter of a block that conflicts with some of them.
 use Rattle.std.proofs.Common.{ℕ, ◌≡◌, ◌<◌, ◌≤◌, ◌+◌, ◌⊎◌, inl, inr, refl, ap, sym, ◌∙◌, subst, Bool, true, false, List, Option, Some, None, length, arith}
-use Rattle.std.specs.Prelude.{slice_get, slice_index, MatchOption, ◌&&◌, ◌||◌}
-use Rattle.std.proofs.lemmas.Bool.{cases_lt, cases_eq, cases_order, cases_Bool, true≢false, false≢true, and_parts, and_from, or_left, or_right, or_cases, ne_eqb}
+use Rattle.std.specs.Prelude.{slice_get, slice_index, MatchOption, ◌||◌}
+use Rattle.std.proofs.lemmas.Bool.{cases_eq, cases_order, cases_Bool, true≢false, false≢true, and_parts, and_from, or_left, or_right, or_cases, ne_eqb}
 use Rattle.std.proofs.lemmas.Option.{same_Some}
 use Rattle.tx_events.specs.declared.Item.{Item}
 use Rattle.tx_events.specs.declared.What.{What}
-use Rattle.tx_events.specs.declared.What.TheVariants.{Enter, Leave, Joined}
-use Rattle.race_check.specs.Races.{Does, InBlock, Conflict, Meet, same_thread, blocks, Ordered, at_once, touches, writes}
+use Rattle.tx_events.specs.declared.What.TheVariants.{Enter, Leave}
+use Rattle.race_check.specs.Races.{Does, InBlock, Meet, same_thread, blocks, Ordered, at_once, touches, writes}
 use Rattle.race_check.specs.Regular.{Regular}
 use Rattle.race_check.specs.Rows.{Down, Greater, Right}
 use Rattle.race_check.specs.Clocks.{Own}

@@ -1,8 +1,8 @@
 -- The words of races, item by item.
-use Rattle.std.proofs.Common.{ℕ, zero, suc, ◌≡◌, ◌==◌, ◌<◌, ◌≤◌, ◌+◌, ◌⊎◌, inl, inr, refl, ap, sym, ◌∙◌, subst, Bool, true, false, List, [], ◌∷◌, ◌++◌, Some, length, length-append, arith}
+use Rattle.std.proofs.Common.{ℕ, ◌≡◌, ◌==◌, ◌<◌, ◌≤◌, ◌+◌, ◌⊎◌, inl, inr, refl, ap, sym, ◌∙◌, subst, Bool, true, false, List, [], Some, length, arith}
 use Rattle.std.specs.Prelude.{slice_get, slice_index, ◌||◌}
 use Rattle.std.proofs.lemmas.Bool.{cases_lt, cases_order, cases_Bool, eq-eqb, eqb-true, ne_eqb, true≢false, false_from_ne_true, or_cases, or_left, or_right}
-use Rattle.std.proofs.lemmas.Option.{same_Some, none-some}
+use Rattle.std.proofs.lemmas.Option.{same_Some}
 use Rattle.tx_events.specs.declared.Item.{Item}
 use Rattle.race_check.specs.Races.{Conflict, Ordered, Race, Races, Stands, word_of_byte, touches, writes}
 use Rattle.race_check.specs.Regular.{Regular}

@@ -1,4 +1,4 @@
-use Rattle.std.proofs.Common.{ℕ, ◌≡◌, sym, subst, replicate}
+use Rattle.std.proofs.Common.{◌≡◌, sym, subst, replicate}
 use Rattle.race_check.specs.Clocks.{row_in}
 use Rattle.race_check.proofs.ClockSteps.{zero_rows}
 use Rattle.race_check.proofs.clocks.empty_rows.Goals as goal

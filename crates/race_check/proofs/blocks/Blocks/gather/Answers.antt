@@ -1,4 +1,4 @@
-use Rattle.std.proofs.Common.{◌≡◌, true, false, sym, ◌∙◌}
+use Rattle.std.proofs.Common.{sym, ◌∙◌}
 use Rattle.std.specs.Prelude.{slice_index}
 use Rattle.race_check.proofs.BlockSteps.{gathers_one, gathers_two}
 use Rattle.race_check.proofs.blocks.Blocks.gather.Goals as goal

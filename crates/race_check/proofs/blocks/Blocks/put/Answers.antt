@@ -1,7 +1,6 @@
-use Rattle.std.proofs.Common.{◌≡◌, sym, ◌∙◌, subst, refl, ap, true}
+use Rattle.std.proofs.Common.{sym, ◌∙◌, subst, refl}
 use Rattle.std.proofs.lemmas.Bool.{true≢false}
 use Rattle.race_check.specs.Blocks.{Enters}
-use Rattle.race_check.specs.Races.{Does}
 use Rattle.tx_events.specs.declared.What.TheVariants.{Leave}
 use Rattle.race_check.proofs.ItemSteps.{same_thread_of, same_what_of}
 use Rattle.race_check.proofs.BlockSteps.{blocked_still, put_in}
@@ -12,10 +11,10 @@ returns-then-not-is_leave c =
     blocked_still c.args.items.now c.args.self.now c.args.j c.requires.so_far
     (λ t f d n. true≢false (sym (c.is_leave.ensures.no (same_what_of c.args.items.now c.args.j c.args.item t Leave c.requires.there d)) ∙ c.if-not-is_leave.true))
 
-pub returns-in-None : goal.returns-in-None
-returns-in-None c =
+pub returns-in_default : goal.returns-in_default
+returns-in_default c =
     blocked_still c.args.items.now c.args.self.now c.args.j c.requires.so_far
-    (λ t f d n. c.in-None.ensures f (subst (λ z. Enters c.args.items.now z c.args.j f) (sym (same_thread_of c.args.items.now c.args.j c.args.item t Leave c.requires.there d)) n))
+    (λ t f d n. c.in_default.ensures f (subst (λ z. Enters c.args.items.now z c.args.j f) (sym (same_thread_of c.args.items.now c.args.j c.args.item t Leave c.requires.there d)) n))
 
 pub returns : goal.returns
 returns c =

@@ -1,6 +1,5 @@
-use Rattle.std.proofs.Common.{◌≡◌, true, false, sym, ◌∙◌}
+use Rattle.std.proofs.Common.{sym, ◌∙◌}
 use Rattle.std.specs.Prelude.{slice_index}
-use Rattle.race_check.specs.Races.{writes}
 use Rattle.race_check.specs.Marks.{mark}
 use Rattle.race_check.proofs.BlockSteps.{adds_read, adds_users, adds_writers}
 use Rattle.race_check.proofs.blocks.Blocks.put_access.Goals as goal

@@ -1,4 +1,4 @@
-use Rattle.std.proofs.Common.{◌≡◌, ◌<◌, ◌≤◌, ◌+◌, subst, arith}
+use Rattle.std.proofs.Common.{◌≡◌, ◌≤◌, ◌+◌, subst, arith}
 use Rattle.std.specs.Prelude.{slice_index}
 use Rattle.race_check.specs.Blocks.{Putting}
 use Rattle.race_check.proofs.BlockSteps.{putting_first, putting_passed, putting_more}

@@ -1,4 +1,4 @@
-use Rattle.std.proofs.Common.{ℕ, ◌≡◌, ◌<◌, subst, ◌∙◌}
+use Rattle.std.proofs.Common.{◌≡◌, ◌<◌, subst, ◌∙◌}
 use Rattle.std.specs.Prelude.{slice_index}
 use Rattle.race_check.specs.Rows.{Greater}
 use Rattle.race_check.specs.Clocks.{row_in}
