@@ -75,15 +75,12 @@ module _ (items : List Item) (j : ℕ) (item : Item) (f : slice_get items j ≡ 
   is_start_more : (t p : ℕ) → IsStart items j t p → IsStart items (j + 1) t p
   is_start_more t p h = let lt = h.before in record { starter = h.starter; item = h.item; before = omega (arith, lt) }
 
-  -- one item more of a thread
-  done_here : (old new whole : ℕ → ℕ) → Down items old (IsOf items j item.t) → Down items whole (λ p. p ≡ j) → Greater old whole new → Down items new (IsOf items (j + 1) item.t)
-  done_here old new whole h w g =
-      same_down items new new (λ p. IsOf items j item.t p ⊎ (p ≡ j)) (IsOf items (j + 1) item.t) (joined_down items old whole new (IsOf items j item.t) (λ p. p ≡ j) h w g)
-      (λ s. refl) (λ p r. (p, to p r, inl refl)) (λ p r. (j, inr refl, upto p r (below_or_at p j r.before)))
+  -- one item more of a thread: it and what is ordered before it are the thread's items and what is ordered before those
+  done_here : (new whole : ℕ → ℕ) → Down items whole (λ p. p ≡ j) → ((s : ℕ) → new s ≡ whole s) → Down items new (IsOf items (j + 1) item.t)
+  done_here new whole w e = same_down items whole new (λ p. p ≡ j) (IsOf items (j + 1) item.t) w e (λ p r. (p, to p r, inl refl)) (λ p r. (j, refl, upto p r (below_or_at p j r.before)))
     where
-      to : (p : ℕ) → IsOf items j item.t p ⊎ (p ≡ j) → IsOf items (j + 1) item.t p
-      to p (inl r) = is_of_more item.t p r
-      to p (inr e) = subst (λ z. IsOf items (j + 1) item.t z) (sym e) (record { what = item.what; item = f; before = omega arith })
+      to : (p : ℕ) → p ≡ j → IsOf items (j + 1) item.t p
+      to p e = subst (λ z. IsOf items (j + 1) item.t z) (sym e) (record { what = item.what; item = f; before = omega arith })
 
       upto : (p : ℕ) → IsOf items (j + 1) item.t p → (p < j) ⊎ (p ≡ j) → (p ≡ j) ⊎ Ordered items p j
       upto p r (inl lt) = inr (at_once (same_thread item.t r.what item.what lt r.item f))
@@ -118,7 +115,7 @@ module _ (items : List Item) (j : ℕ) (item : Item) (f : slice_get items j ≡ 
       back p r (inr e) = absurd (d (same_what_of items j item r.starter (Spawned t) f (subst (λ z. Does items z r.starter (Spawned t)) e r.item)))
 
   pub clocked_more : (old new : Clocks) (whole : ℕ → ℕ) → Clocked items old j → Down items whole (λ p. p ≡ j) → item.t < 64 → length new.done.items ≡ 64
-      → Greater (row_in old.done.items item.t) whole (row_in new.done.items item.t)
+      → ((s : ℕ) → row_in new.done.items item.t s ≡ whole s)
       → ((u s : ℕ) → (u ≡ item.t → ⊥) → row_in new.done.items u s ≡ row_in old.done.items u s) → length new.starts.items ≡ 64
       → ((child : ℕ) → item.what ≡ Spawned child → child < 64 → Greater (row_in old.starts.items child) whole (row_in new.starts.items child))
       → ((u s : ℕ) → (item.what ≡ Spawned u → ⊥) → row_in new.starts.items u s ≡ row_in old.starts.items u s) → Clocked items new (j + 1)
@@ -132,7 +129,7 @@ module _ (items : List Item) (j : ℕ) (item : Item) (f : slice_get items j ≡ 
       by_thread : (t : ℕ) → t < 64 → (t ≡ item.t) ⊎ (t ≡ item.t → ⊥) → Down items (row_in new.done.items t) (IsOf items (j + 1) t)
       by_thread t lt (inl e) =
           subst (λ z. Down items (row_in new.done.items z) (IsOf items (j + 1) z)) (sym e)
-          (done_here (row_in old.done.items item.t) (row_in new.done.items item.t) whole (h.done item.t fits) w there)
+          (done_here (row_in new.done.items item.t) whole w there)
       by_thread t lt (inr d) = done_other t (row_in old.done.items t) (row_in new.done.items t) d (h.done t lt) (λ s. others t s d)
 
       by_start : (t : ℕ) → t < 64 → (item.what ≡ Spawned t) ⊎ (item.what ≡ Spawned t → ⊥) → Down items (row_in new.starts.items t) (IsStart items (j + 1) t)

@@ -35,6 +35,16 @@ fn add_from(row: &mut Row, rows: &[Row], t: usize)
     row.add(&rows[t]);
 }
 
+// Row `t` becomes this row.
+fn set_at(rows: &mut Vec<Row>, t: usize, row: &Row)
+    requires { t < length rows.old.items }
+    ensures size { length rows.new.items ≡ length rows.old.items }
+    ensures there { (s : ℕ) → row_in rows.new.items t s ≡ slice_index row.now.latest s }
+    ensures others { (u s : ℕ) → (u ≡ t → ⊥) → row_in rows.new.items u s ≡ row_in rows.old.items u s }
+{
+    rows[t] = *row;
+}
+
 // Row `t` counts what this row counts too.
 fn add_at(rows: &mut Vec<Row>, t: usize, row: &Row)
     requires { t < length rows.old.items }
@@ -106,7 +116,7 @@ impl Clocks {
         requires whole { Down items.now (slice_index whole.now.latest) (λ p. p ≡ j) }
         ensures { Clocked items.now self.new (j + 1) }
     {
-        add_at(&mut self.done, usize::from(item.t), whole);
+        set_at(&mut self.done, usize::from(item.t), whole);
         put_start(&mut self.starts, item.what, whole);
     }
 }

@@ -1,6 +1,6 @@
 //! The words of a trace's races.
 ghost use Rattle.std.specs.Prelude.{◌≡◌, ℕ, ◌<◌, ◌≤◌, ◌+◌, ◌^◌, IfOk, OnOk, Some, length, slice_get};
-ghost use Rattle.race_check.specs.Marks.{Racing, late_at};
+ghost use Rattle.race_check.specs.Marks.{IsPiece, Racing, late_at};
 ghost use Rattle.race_check.specs.Races.{Ascending, Races};
 ghost use Rattle.race_check.specs.Regular.{Regular, end_of};
 ghost use Rattle.race_check.specs.Words.{WordsOf};
@@ -12,26 +12,29 @@ use crate::blocks::Blocks;
 use crate::clocks::Clocks;
 use crate::items::{bytes_of, is_write, item_at};
 use crate::marks::{Marks, Seen};
+use crate::pieces::piece_end;
 use crate::rows::{Row, with_item};
 use crate::words::add_word;
 use std::alloc::{AllocError, Global};
 use tx_events::{Item, What};
 
-// Adds the byte's word, if another thread is marked there with an item that the row does not count.
-fn add_at(
+// Adds the word of a piece, if another thread is marked in it with an item that the row does not count.
+fn add_piece(
     words: &mut Vec<u64>,
     marks: &Marks,
     row: &Row,
     t: u8,
-    byte: u64,
+    at: u64,
+    end: u64,
 ) -> Result<(), AllocError>
-    requires { Ascending words.old.items }
-    ensures { OnOk result (WordsOf (λ x. (x ≡ byte) × late_at marks.now row.now.latest t x) words.old.items words.new.items) }
+    requires ascending { Ascending words.old.items }
+    requires piece { IsPiece at end }
+    ensures { OnOk result (WordsOf (λ x. (at ≤ x) × (x < end) × late_at marks.now row.now.latest t x) words.old.items words.new.items) }
 {
-    if !marks.is_late(row, t, byte) {
+    if !marks.is_late(row, t, at, end) {
         return Ok(());
     }
-    add_word(words, 8 * (byte / 8))?;
+    add_word(words, 8 * (at / 8))?;
     Ok(())
 }
 
@@ -47,8 +50,11 @@ fn add_late(
     requires { Ascending words.old.items }
     ensures { OnOk result (WordsOf (λ x. (from ≤ x) × (x < to) × late_at marks.now row.now.latest t x) words.old.items words.new.items) }
 {
-    'bytes: for byte in from..to {
-        add_at(words, marks, row, t, byte)?;
+    let mut at = from;
+    'pieces: while at < to {
+        let end = piece_end(at, to);
+        add_piece(words, marks, row, t, at, end)?;
+        at = end;
     }
     Ok(())
 }

@@ -10,8 +10,10 @@ mod clocks;
 mod found;
 mod items;
 mod marks;
+mod pieces;
 mod regular;
 mod rows;
+mod tables;
 mod words;
 
 ghost use Rattle.std.specs.Prelude.{◌≡◌, ℕ, Bool, true, List, [], ◌∷◌, Some, slice_get};
