@@ -548,8 +548,8 @@ met_of items j u t p lt left m =
     let second : c.other ≡ other = same_Some c.other other (sym c.at_other ∙ m.threads.1.1) in
     let written : (writes one.what || writes c.other.what) ≡ true = subst (λ (z : Item). (writes z.what || writes c.other.what) ≡ true) first c.written in
     let h =
-        clash_by one.what other.what m.byte (subst (λ (z : Item). touches z.what m.byte ≡ true) first c.in_one) (subst (λ (z : Item). touches z.what m.byte ≡ true) second c.in_other)
-        (subst (λ (z : Item). (writes one.what || writes z.what) ≡ true) second written) (cases_Bool (writes one.what)) in
+    clash_by one.what other.what m.byte (subst (λ (z : Item). touches z.what m.byte ≡ true) first c.in_one) (subst (λ (z : Item). touches z.what m.byte ≡ true) second c.in_other)
+    (subst (λ (z : Item). (writes one.what || writes z.what) ≡ true) second written) (cases_Bool (writes one.what)) in
     record {
       other = m.other;
       what = m.threads.1.0;

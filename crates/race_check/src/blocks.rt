@@ -69,7 +69,14 @@ impl Blocks {
     }
 
     // The accesses of the block that thread `t` enters at `from` and leaves at `l`.
-    fn put_block(&mut self, items: &[Item], t: u8, from: usize, l: usize, whole: &Row) -> Result<(), AllocError>
+    fn put_block(
+        &mut self,
+        items: &[Item],
+        t: u8,
+        from: usize,
+        l: usize,
+        whole: &Row,
+    ) -> Result<(), AllocError>
         requires regular { Regular items.now }
         requires order { from < l }
         requires within { l < length items.now }
@@ -88,7 +95,13 @@ impl Blocks {
     }
 
     /// The item `j` is done: where it leaves a block, the block is put in; `whole` counts the item and what is ordered before it.
-    pub(crate) fn put(&mut self, items: &[Item], item: Item, j: usize, whole: &Row) -> Result<(), AllocError>
+    pub(crate) fn put(
+        &mut self,
+        items: &[Item],
+        item: Item,
+        j: usize,
+        whole: &Row,
+    ) -> Result<(), AllocError>
         requires regular { Regular items.now }
         requires there { slice_get items.now j ≡ Some item }
         requires within { j < length items.now }

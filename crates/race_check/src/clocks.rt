@@ -71,7 +71,8 @@ fn put_start(starts: &mut Vec<Row>, what: What, whole: &Row)
                 add_at(starts, t, whole);
             }
         }
-        What::Read { .. } | What::Write { .. } | What::Enter | What::Leave | What::Joined { .. } => {}
+        What::Read { .. } | What::Write { .. } | What::Enter | What::Leave | What::Joined { .. } =>
+            {}
     }
 }
 

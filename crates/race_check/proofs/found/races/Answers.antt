@@ -5,13 +5,13 @@ use Rattle.race_check.proofs.found.races.Goals as goal
 
 pub items-init : goal.items-init
 items-init c =
-  let empty : c.new-words.result.items ≡ [] = search rules in
-  record {
-  clocked = c.in_ok-clocks.ensures c.args.items.now;
-  blocked = c.new-blocks.ensures c.args.items.now;
-  marked = none_marked c.args.items.now c.new-seen.result c.new-seen.ensures.reads c.new-seen.ensures.writes;
-  listed = subst (λ words. Listed c.args.items.now words 0) (sym empty) (none_listed c.args.items.now);
-}
+    let empty : c.new-words.result.items ≡ [] = search rules in
+    record {
+      clocked = c.in_ok-clocks.ensures c.args.items.now;
+      blocked = c.new-blocks.ensures c.args.items.now;
+      marked = none_marked c.args.items.now c.new-seen.result c.new-seen.ensures.reads c.new-seen.ensures.writes;
+      listed = subst (λ words. Listed c.args.items.now words 0) (sym empty) (none_listed c.args.items.now);
+    }
 
 pub items-preserved : goal.items-preserved
 items-preserved c = record {
