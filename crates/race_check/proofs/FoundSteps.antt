@@ -1,14 +1,13 @@
 -- The words of races, item by item.
-use Rattle.std.proofs.Common.{ℕ, zero, suc, ◌≡◌, ◌==◌, ◌<◌, ◌≤◌, ◌+◌, ◌⊎◌, inl, inr, refl, ap, sym, ◌∙◌, subst, Bool, true, false, List, [], ◌∷◌, ◌++◌, Some, length, length-append, arith}
+use Rattle.std.proofs.Common.{ℕ, ◌≡◌, ◌==◌, ◌<◌, ◌≤◌, ◌+◌, ◌⊎◌, inl, inr, refl, ap, sym, ◌∙◌, subst, Bool, true, false, List, [], Some, length, arith}
 use Rattle.std.specs.Prelude.{slice_get, slice_index, ◌||◌}
 use Rattle.std.proofs.lemmas.Bool.{cases_lt, cases_order, cases_Bool, eq-eqb, eqb-true, ne_eqb, true≢false, false_from_ne_true, or_cases, or_left, or_right}
-use Rattle.std.proofs.lemmas.Option.{same_Some, none-some}
+use Rattle.std.proofs.lemmas.Option.{same_Some}
 use Rattle.tx_events.specs.declared.Item.{Item}
 use Rattle.race_check.specs.Races.{Conflict, Ordered, Race, Races, Stands, word_of_byte, touches, writes}
 use Rattle.race_check.specs.Regular.{Regular}
-use Rattle.race_check.specs.Rows.{AllRight, Right}
+use Rattle.race_check.specs.Rows.{Right}
 use Rattle.race_check.specs.Marks.{mark, late_at, Latest, Marked, Racing}
-use Rattle.race_check.specs.declared.rows.Row.{Row}
 use Rattle.race_check.specs.declared.marks.Marks.{Marks}
 use Rattle.race_check.specs.declared.marks.Seen.{Seen}
 use Rattle.race_check.specs.Words.{WordsOf, Listed}
@@ -160,25 +159,3 @@ racing_both seen row item from to words mid new inside all w g h =
         → ((from ≤ x) × (x < to) × late_at seen.writes row item.t x) ⊎ ((from ≤ x) × (x < to) × late_at seen.reads row item.t x)
     split x r (inl l) = inl (r.0, r.1, l)
     split x r (inr (e, l)) = inr (r.0, r.1, l)
-
--- a row more
-pushed : (rows : List Row) (row : Row) (p : ℕ) (r : Row) → slice_get (rows ++ row ∷ []) p ≡ Some r → (slice_get rows p ≡ Some r) ⊎ ((p ≡ length rows) × (row ≡ r))
-pushed [] row zero r e = inr (refl, same_Some row r e)
-pushed [] row (suc p) r e = absurd (none-some r e)
-pushed (a ∷ rest) row zero r e = inl e
-pushed (a ∷ rest) row (suc p) r e = by (pushed rest row p r e)
-  where
-    by : (slice_get rest p ≡ Some r) ⊎ ((p ≡ length rest) × (row ≡ r)) → (slice_get rest p ≡ Some r) ⊎ ((suc p ≡ length (a ∷ rest)) × (row ≡ r))
-    by (inl h) = inl h
-    by (inr (q, s)) = inr (omega (arith, q), s)
-
-pub right_more : (items : List Item) (rows new : List Row) (row : Row) (n : ℕ) → length rows ≡ n → new ≡ rows ++ row ∷ [] → Right items row.latest n
-    → AllRight items rows → AllRight items new
-right_more items rows new row n size e right h p r g = by (pushed rows row p r (subst (λ z. slice_get z p ≡ Some r) e g))
-  where
-    by : (slice_get rows p ≡ Some r) ⊎ ((p ≡ length rows) × (row ≡ r)) → Right items r.latest p
-    by (inl k) = h p r k
-    by (inr (q, s)) = subst (λ (z : Row). Right items z.latest p) s (subst (λ z. Right items row.latest z) (sym (q ∙ size)) right)
-
-pub size_more : (rows new : List Row) (row : Row) (n : ℕ) → length rows ≡ n → new ≡ rows ++ row ∷ [] → length new ≡ n + 1
-size_more rows new row n size e = let a = ap length e in let b = length-append rows (row ∷ []) in omega (arith, a, b, size)

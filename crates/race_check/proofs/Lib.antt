@@ -1,9 +1,10 @@
 pub mod OneList
 pub mod Closed
 pub mod Numbers
-pub mod AheadSteps
-pub mod Meetings
+pub mod ItemSteps
 pub mod RowSteps
+pub mod ClockSteps
+pub mod BlockSteps
 pub mod WordSteps
 pub mod FoundSteps
 pub mod RegularSteps

@@ -1,10 +1,10 @@
 -- An ascending list with one word more.
-use Rattle.std.proofs.Common.{ℕ, zero, suc, ◌≡◌, ◌<◌, ◌≤◌, ◌+◌, ◌⊎◌, inl, inr, refl, ap, sym, ◌∙◌, subst, List, [], ◌∷◌, length, arith}
+use Rattle.std.proofs.Common.{ℕ, zero, suc, ◌≡◌, ◌<◌, ◌≤◌, ◌⊎◌, inl, inr, refl, ap, sym, ◌∙◌, subst, List, [], ◌∷◌, length, arith}
 use Rattle.std.specs.Prelude.{slice_index}
 use Rattle.std.specs.List.{insert}
 use Rattle.race_check.specs.Races.{Stands, first, later, Ascends, Ascending, word_of_byte}
 use Rattle.race_check.specs.Words.{Gap, OneMore, WordsOf}
-use Rattle.race_check.proofs.Numbers.{below_or_at}
+use Rattle.std.proofs.lemmas.Bool.{cases_lt}
 
 -- a word more at an index, by recursion
 abbrev put : ℕ → List ℕ → ℕ → List ℕ
@@ -135,13 +135,25 @@ words_same P R ws new h back on = record {
     by v (inl (x, p, e)) = inl (x, on x p, e)
     by v (inr s) = inr s
 
-pub words_further : (D : ℕ → Type 0) (from n : ℕ) (ws mid new : List ℕ) → from ≤ n → WordsOf (λ x. (from ≤ x) × (x < n) × D x) ws mid
-    → WordsOf (λ x. (x ≡ n) × D x) mid new → WordsOf (λ x. (from ≤ x) × (x < n + 1) × D x) ws new
-words_further D from n ws mid new le g h =
-    words_both (λ x. (from ≤ x) × (x < n) × D x) (λ x. (x ≡ n) × D x) (λ x. (from ≤ x) × (x < n + 1) × D x) ws mid new g h
-    (λ x r. split x r.0 r.2 (below_or_at x n r.1)) (λ x p. let lt = p.1 in (p.0, omega (arith, lt), p.2))
-    (λ x q. let e = q.0 in (omega (arith, le, e), omega (arith, e), q.1))
+-- the words of bytes of one word
+pub words_same_word : (P : ℕ → Type 0) (w x : ℕ) (ws new : List ℕ) → OneMore w ws new → P x → ((y : ℕ) → P y → word_of_byte y ≡ w) → WordsOf P ws new
+words_same_word P w x ws new h p same = record {
+  ascending = h.ascending;
+  kept = h.kept;
+  there = λ y q. subst (λ z. Stands z new) (sym (same y q)) h.there;
+  only = λ v s. by v (h.only v s);
+}
   where
-    split : (x : ℕ) → from ≤ x → D x → (x < n) ⊎ (x ≡ n) → ((from ≤ x) × (x < n) × D x) ⊎ ((x ≡ n) × D x)
-    split x le d (inl lt) = inl (le, lt, d)
-    split x le d (inr e) = inr (e, d)
+    by : (v : ℕ) → (v ≡ w) ⊎ Stands v ws → ((y : ℕ) × P y × (word_of_byte y ≡ v)) ⊎ Stands v ws
+    by v (inl e) = inl (x, p, same x p ∙ sym e)
+    by v (inr s) = inr s
+
+pub words_further : (D : ℕ → Type 0) (from n end : ℕ) (ws mid new : List ℕ) → from ≤ n → n ≤ end → WordsOf (λ x. (from ≤ x) × (x < n) × D x) ws mid
+    → WordsOf (λ x. (n ≤ x) × (x < end) × D x) mid new → WordsOf (λ x. (from ≤ x) × (x < end) × D x) ws new
+words_further D from n end ws mid new low high g h =
+    words_both (λ x. (from ≤ x) × (x < n) × D x) (λ x. (n ≤ x) × (x < end) × D x) (λ x. (from ≤ x) × (x < end) × D x) ws mid new g h
+    (λ x r. split x r (cases_lt x n)) (λ x p. let lt = p.1 in (p.0, omega (arith, lt, high), p.2)) (λ x q. let le = q.0 in (omega (arith, low, le), q.1, q.2))
+  where
+    split : (x : ℕ) → (from ≤ x) × (x < end) × D x → (x < n) ⊎ (n ≤ x) → ((from ≤ x) × (x < n) × D x) ⊎ ((n ≤ x) × (x < end) × D x)
+    split x r (inl lt) = inl (r.0, lt, r.2)
+    split x r (inr le) = inr (le, r.1, r.2)

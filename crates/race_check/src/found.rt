@@ -1,32 +1,40 @@
 //! The words of a trace's races.
-ghost use Rattle.std.specs.Prelude.{◌≡◌, ℕ, ◌<◌, ◌≤◌, ◌+◌, ◌^◌, IfOk, OnOk};
-ghost use Rattle.race_check.specs.Marks.{Racing, late_at};
+ghost use Rattle.std.specs.Prelude.{◌≡◌, ℕ, ◌<◌, ◌≤◌, ◌+◌, ◌^◌, IfOk, OnOk, Some, length, slice_get};
+ghost use Rattle.race_check.specs.Marks.{IsPiece, Racing, late_at};
 ghost use Rattle.race_check.specs.Races.{Ascending, Races};
 ghost use Rattle.race_check.specs.Regular.{Regular, end_of};
 ghost use Rattle.race_check.specs.Words.{WordsOf};
+ghost use Rattle.race_check.specs.Blocks.{Blocked};
+ghost use Rattle.race_check.specs.Clocks.{Clocked};
+ghost use Rattle.race_check.specs.Rows.{Right};
 
+use crate::blocks::Blocks;
+use crate::clocks::Clocks;
 use crate::items::{bytes_of, is_write, item_at};
 use crate::marks::{Marks, Seen};
-use crate::rows::{Row, row_of};
+use crate::pieces::piece_end;
+use crate::rows::{Row, with_item};
 use crate::words::add_word;
 use std::alloc::{AllocError, Global};
-use tx_events::Item;
+use tx_events::{Item, What};
 
-// Adds the byte's word, if another thread is marked there with an item that the row does not count.
-fn add_at(
+// Adds the word of a piece, if another thread is marked in it with an item that the row does not count.
+fn add_piece(
     words: &mut Vec<u64>,
     marks: &Marks,
     row: &Row,
     t: u8,
-    byte: u64,
+    at: u64,
+    end: u64,
 ) -> Result<(), AllocError>
-    requires { Ascending words.old.items }
-    ensures { OnOk result (WordsOf (λ x. (x ≡ byte) × late_at marks.now row.now.latest t x) words.old.items words.new.items) }
+    requires ascending { Ascending words.old.items }
+    requires piece { IsPiece at end }
+    ensures { OnOk result (WordsOf (λ x. (at ≤ x) × (x < end) × late_at marks.now row.now.latest t x) words.old.items words.new.items) }
 {
-    if !marks.is_late(row, t, byte) {
+    if !marks.is_late(row, t, at, end) {
         return Ok(());
     }
-    add_word(words, 8 * (byte / 8))?;
+    add_word(words, 8 * (at / 8))?;
     Ok(())
 }
 
@@ -42,8 +50,11 @@ fn add_late(
     requires { Ascending words.old.items }
     ensures { OnOk result (WordsOf (λ x. (from ≤ x) × (x < to) × late_at marks.now row.now.latest t x) words.old.items words.new.items) }
 {
-    'bytes: for byte in from..to {
-        add_at(words, marks, row, t, byte)?;
+    let mut at = from;
+    'pieces: while at < to {
+        let end = piece_end(at, to);
+        add_piece(words, marks, row, t, at, end)?;
+        at = end;
     }
     Ok(())
 }
@@ -63,20 +74,46 @@ fn add_races(words: &mut Vec<u64>, seen: &Seen, row: &Row, item: Item) -> Result
     Ok(())
 }
 
+// The row of item `j`, by what the items before it leave.
+fn row_of(items: &[Item], clocks: &Clocks, blocks: &Blocks, item: Item, j: usize) -> Row
+    requires regular { Regular items.now }
+    requires there { slice_get items.now j ≡ Some item }
+    requires within { j < length items.now }
+    requires clocked { Clocked items.now clocks.now j }
+    requires blocked { Blocked items.now blocks.now j }
+    ensures { Right items.now result.latest j }
+{
+    let mut row = clocks.own(usize::from(item.t));
+    match item.what {
+        What::Joined { child } => {
+            clocks.add_child(&mut row, child);
+            row
+        }
+        What::Enter => {
+            blocks.gather_ahead(items, item.t, j, &mut row);
+            row
+        }
+        What::Read { .. } | What::Write { .. } | What::Leave | What::Spawned { .. } => row,
+    }
+}
+
 /// The words of the races of a trace, ascending and distinct.
 pub fn races(alloc: Global, items: &[Item]) -> Result<Vec<u64>, AllocError>
     requires { Regular items.now }
     ensures { IfOk result (λ words. Races items.now words.items) }
 {
-    let mut rows: Vec<Row> = Vec::new(alloc);
+    let mut clocks = Clocks::new(alloc)?;
+    let mut blocks = Blocks::new(alloc);
     let mut seen = Seen::new(alloc);
     let mut words = Vec::new(alloc);
     'items: for j in 0..items.len() {
         let item = item_at(items, j);
-        let row = row_of(items, &rows, j);
+        let row = row_of(items, &clocks, &blocks, item, j);
         add_races(&mut words, &seen, &row, item)?;
         seen.put(items, item, j)?;
-        rows.push(row)?;
+        let whole = with_item(items, item, j, &row);
+        clocks.put(items, item, j, &whole);
+        blocks.put(items, item, j, &whole)?;
     }
     Ok(words)
 }

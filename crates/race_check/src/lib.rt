@@ -5,12 +5,15 @@
 //! each is a law.
 #![tactic(auto)]
 
+mod blocks;
+mod clocks;
 mod found;
 mod items;
 mod marks;
+mod pieces;
 mod regular;
 mod rows;
-mod walks;
+mod tables;
 mod words;
 
 ghost use Rattle.std.specs.Prelude.{◌≡◌, ℕ, Bool, true, List, [], ◌∷◌, Some, slice_get};

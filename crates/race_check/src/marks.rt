@@ -1,18 +1,22 @@
 //! For each byte and thread, the latest of its items that access the byte.
 ghost use Rattle.std.specs.Prelude.{◌≡◌, ℕ, ◌<◌, ◌≤◌, ◌+◌, ◌^◌, true, false, OnOk, Some, length, slice_get, slice_index};
-ghost use Rattle.race_check.specs.Marks.{Late, Marked, late_at, mark};
-ghost use Rattle.race_check.specs.Regular.{Regular, end_of};
+ghost use Rattle.race_check.specs.Marks.{GathersFrom, IsPiece, Marked, cell, late_at, lone, mark};
+ghost use Rattle.race_check.specs.Regular.{Regular};
+ghost use Rattle.race_check.specs.Rows.{Greater};
 
 use crate::items::{bytes_of, is_write};
-use crate::rows::{Row, THREADS, empty_row};
+use crate::pieces::piece_end;
+use crate::rows::Row;
+use crate::tables::Table;
 use std::alloc::{AllocError, Global};
-use std::collections::BTreeMap;
 use tx_events::Item;
 
-/// A row for each byte that has one: for each thread, one more than the index of an item, 0 where there is none.
+/// A row for each group of four bytes, for accesses to all of it, and one for each byte, for those to parts of a group. What is marked at a byte is the
+/// greater of both.
 #[derive(Drop)]
 pub(crate) struct Marks {
-    pub(crate) rows: BTreeMap<u64, Row>,
+    pub(crate) groups: Table,
+    pub(crate) bytes: Table,
 }
 
 /// The latest reads and writes.
@@ -23,72 +27,119 @@ pub(crate) struct Seen {
 }
 
 impl Marks {
-    fn new(alloc: Global) -> Marks
+    pub(crate) fn new(alloc: Global) -> Marks
         ensures { (x t : ℕ) → mark result x t ≡ 0 }
     {
         Marks {
-            rows: BTreeMap::new(alloc),
+            groups: Table::new(alloc),
+            bytes: Table::new(alloc),
         }
     }
 
-    /// The marks at a byte.
-    fn at(&self, byte: u64) -> Row
-        ensures { (t : ℕ) → slice_index result.latest t ≡ mark self.now byte t }
+    // The bytes of a piece have at least this mark for a thread.
+    fn raise_piece(&mut self, at: u64, end: u64, t: usize, value: usize) -> Result<(), AllocError>
+        requires piece { IsPiece at end }
+        requires thread { t < 64 }
+        ensures there { OnOk result ((x : ℕ) → at ≤ x → x < end → Greater (mark self.old x) (lone t value) (mark self.new x)) }
+        ensures others { OnOk result ((x s : ℕ) → (at ≤ x → x < end → ⊥) → mark self.new x s ≡ mark self.old x s) }
     {
-        match self.rows.get(&byte) {
-            None => empty_row(),
-            Some(row) => *row,
+        if end - at == 4 {
+            self.groups.raise(at / 4, t, value)?;
+            return Ok(());
         }
-    }
-
-    /// Marks a thread at a byte.
-    fn put(&mut self, byte: u64, t: usize, value: usize) -> Result<(), AllocError>
-        requires { t < 64 }
-        ensures there { OnOk result (mark self.new byte t ≡ value) }
-        ensures others { OnOk result ((x s : ℕ) → (x ≡ byte → s ≡ t → ⊥) → mark self.new x s ≡ mark self.old x s) }
-    {
-        let mut row = self.at(byte);
-        row.latest[t] = value;
-        self.rows.insert(byte, row)?;
+        self.bytes.raise(at, t, value)?;
         Ok(())
     }
 
-    /// Marks a thread at each of these bytes.
-    fn put_all(&mut self, from: u64, to: u64, t: usize, value: usize) -> Result<(), AllocError>
+    /// Each of these bytes has at least this mark for a thread.
+    fn raise_all(&mut self, from: u64, to: u64, t: usize, value: usize) -> Result<(), AllocError>
         requires { t < 64 }
-        ensures there { OnOk result ((x : ℕ) → from ≤ x → x < to → mark self.new x t ≡ value) }
-        ensures others { OnOk result ((x s : ℕ) → (from ≤ x → x < to → s ≡ t → ⊥) → mark self.new x s ≡ mark self.old x s) }
+        ensures there { OnOk result ((x : ℕ) → from ≤ x → x < to → Greater (mark self.old x) (lone t value) (mark self.new x)) }
+        ensures others { OnOk result ((x s : ℕ) → (from ≤ x → x < to → ⊥) → mark self.new x s ≡ mark self.old x s) }
+    {
+        let mut at = from;
+        'pieces: while at < to {
+            let end = piece_end(at, to);
+            self.raise_piece(at, end, t, value)?;
+            at = end;
+        }
+        Ok(())
+    }
+
+    // The rows of the bytes of a piece count what this one counts too.
+    fn add_piece(&mut self, at: u64, end: u64, row: &Row) -> Result<(), AllocError>
+        requires { IsPiece at end }
+        ensures there { OnOk result ((x : ℕ) → at ≤ x → x < end → Greater (mark self.old x) (slice_index row.now.latest) (mark self.new x)) }
+        ensures others { OnOk result ((x s : ℕ) → (at ≤ x → x < end → ⊥) → mark self.new x s ≡ mark self.old x s) }
+    {
+        if end - at == 4 {
+            self.groups.add(at / 4, row)?;
+            return Ok(());
+        }
+        self.bytes.add(at, row)?;
+        Ok(())
+    }
+
+    /// The rows of these bytes count what this one counts too.
+    pub(crate) fn add_all(&mut self, from: u64, to: u64, row: &Row) -> Result<(), AllocError>
+        ensures there { OnOk result ((x : ℕ) → from ≤ x → x < to → Greater (mark self.old x) (slice_index row.now.latest) (mark self.new x)) }
+        ensures others { OnOk result ((x s : ℕ) → (from ≤ x → x < to → ⊥) → mark self.new x s ≡ mark self.old x s) }
+    {
+        let mut at = from;
+        'pieces: while at < to {
+            let end = piece_end(at, to);
+            self.add_piece(at, end, row)?;
+            at = end;
+        }
+        Ok(())
+    }
+
+    // The row counts what the rows of these single bytes count too.
+    fn add_bytes(&self, row: &mut Row, from: u64, to: u64)
+        ensures { GathersFrom (cell self.now.bytes) from to (slice_index row.old.latest) (slice_index row.new.latest) }
     {
         'bytes: for byte in from..to {
-            self.put(byte, t, value)?;
+            self.bytes.add_to(row, byte);
         }
-        Ok(())
     }
 
-    /// Another thread is marked at the byte with an item that the row does not count.
-    pub(crate) fn is_late(&self, row: &Row, t: u8, byte: u64) -> bool
-        ensures yes { result ≡ true → late_at self.now row.now.latest t byte }
-        ensures no { result ≡ false → late_at self.now row.now.latest t byte → ⊥ }
+    // The row counts what the rows of the bytes of a piece count too.
+    fn add_from_piece(&self, row: &mut Row, at: u64, end: u64)
+        requires { IsPiece at end }
+        ensures { GathersFrom (mark self.now) at end (slice_index row.old.latest) (slice_index row.new.latest) }
     {
-        is_late(&self.at(byte).latest, &row.latest, usize::from(t))
+        self.groups.add_to(row, at / 4);
+        self.add_bytes(row, at, end);
     }
-}
 
-// A thread but this one has a mark above the row's counter.
-fn is_late(marks: &[usize], row: &[usize], t: usize) -> bool
-    requires { length marks.now ≡ length row.now }
-    ensures yes { result ≡ true → Late marks.now row.now t }
-    ensures no { result ≡ false → Late marks.now row.now t → ⊥ }
-{
-    'threads: for s in 0..row.len() {
-        if s == t {
-            continue;
+    /// The row counts what the rows of these bytes count too.
+    pub(crate) fn add_to(&self, row: &mut Row, from: u64, to: u64)
+        ensures { GathersFrom (mark self.now) from to (slice_index row.old.latest) (slice_index row.new.latest) }
+    {
+        let mut at = from;
+        'pieces: while at < to {
+            let end = piece_end(at, to);
+            self.add_from_piece(row, at, end);
+            at = end;
         }
-        if row[s] < marks[s] {
+    }
+
+    /// Another thread is marked at a byte of a piece with an item that the row does not count.
+    pub(crate) fn is_late(&self, row: &Row, t: u8, at: u64, end: u64) -> bool
+        requires { IsPiece at end }
+        ensures yes { result ≡ true → (x : ℕ) × (at ≤ x) × (x < end) × late_at self.now row.now.latest t x }
+        ensures no { result ≡ false → (x : ℕ) → at ≤ x → x < end → late_at self.now row.now.latest t x → ⊥ }
+    {
+        if self.groups.is_late(row, t, at / 4) {
             return true;
         }
+        'bytes: for byte in at..end {
+            if self.bytes.is_late(row, t, byte) {
+                return true;
+            }
+        }
+        false
     }
-    false
 }
 
 impl Seen {
@@ -113,10 +164,10 @@ impl Seen {
         let bytes = bytes_of(item.what);
         let t = usize::from(item.t);
         if is_write(item.what) {
-            self.writes.put_all(bytes.from, bytes.to, t, index + 1)?;
+            self.writes.raise_all(bytes.from, bytes.to, t, index + 1)?;
             return Ok(());
         }
-        self.reads.put_all(bytes.from, bytes.to, t, index + 1)?;
+        self.reads.raise_all(bytes.from, bytes.to, t, index + 1)?;
         Ok(())
     }
 }

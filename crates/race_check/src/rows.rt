@@ -1,12 +1,9 @@
-//! The row of an item: for each thread, a counter above its items that are ordered before.
-ghost use Rattle.std.specs.Prelude.{◌≡◌, ℕ, ◌<◌, ◌≤◌, ◌+◌, ◌⊎◌, ◌^◌, length, slice_index, true};
-ghost use Rattle.tx_events.specs.declared.What.TheVariants.{Enter, Joined};
+//! Rows: for each thread, a counter above its items that are counted.
+ghost use Rattle.std.specs.Prelude.{◌≡◌, ℕ, ◌<◌, ◌≤◌, ◌+◌, ◌⊎◌, ◌^◌, Some, length, slice_get, slice_index};
 ghost use Rattle.race_check.specs.Regular.{Regular};
-ghost use Rattle.race_check.specs.Rows.{AllRight, Building, Right};
+ghost use Rattle.race_check.specs.Rows.{Down, Greater, Right};
 
-use crate::items::item_at;
-use crate::walks::leads;
-use tx_events::{Item, What};
+use tx_events::Item;
 
 /// How many threads a trace can have.
 pub(crate) const THREADS: usize = 64;
@@ -55,58 +52,24 @@ fn add_item(row: &mut [usize], t: usize, p: usize)
     }
 }
 
-// Takes in item p and what is ordered before it, if p leads to j at once and is not counted yet.
-fn take_in(items: &[Item], rows: &[Row], j: usize, p: usize, row: &mut Row)
-    requires regular { Regular items.now }
-    requires order { p < j }
-    requires within { j < length items.now }
-    requires rows { length rows.now ≡ j }
-    requires right { AllRight items.now rows.now }
-    requires so_far { Building items.now row.old.latest j (p + 1) }
-    ensures { Building items.now row.new.latest j p }
-{
-    let item = item_at(items, p);
-    let t = usize::from(item.t);
-    if p < row.latest[t] {
-        return;
-    }
-    if !leads(items, p, j) {
-        return;
-    }
-    add_row(&mut row.latest, &rows[p].latest);
-    add_item(&mut row.latest, t, p);
-}
-
-// What leads to the later item at once from before this one is ordered before this one.
-fn is_enough(one: Item, other: Item) -> bool
-    ensures thread { result ≡ true → one.t ≡ other.t }
-    ensures enter { result ≡ true → other.what ≡ Enter → ⊥ }
-    ensures join { result ≡ true → (child : ℕ) → other.what ≡ Joined child → ⊥ }
-{
-    match other.what {
-        What::Enter | What::Joined { .. } => false,
-        What::Read { .. } | What::Write { .. } | What::Leave | What::Spawned { .. } => one.t
-            == other.t,
+impl Row {
+    /// What the other row counts is counted too.
+    pub(crate) fn add(&mut self, other: &Row)
+        ensures { Greater (slice_index self.old.latest) (slice_index other.now.latest) (slice_index self.new.latest) }
+    {
+        add_row(&mut self.latest, &other.latest);
     }
 }
 
-/// The row of item `j`, from those of the items before it.
-pub(crate) fn row_of(items: &[Item], rows: &[Row], j: usize) -> Row
+/// The row of item `j`, and the item itself.
+pub(crate) fn with_item(items: &[Item], item: Item, j: usize, row: &Row) -> Row
     requires regular { Regular items.now }
+    requires there { slice_get items.now j ≡ Some item }
     requires within { j < length items.now }
-    requires rows { length rows.now ≡ j }
-    requires right { AllRight items.now rows.now }
-    ensures { Right items.now result.latest j }
+    requires right { Right items.now row.now.latest j }
+    ensures { Down items.now (slice_index result.latest) (λ p. p ≡ j) }
 {
-    let item = item_at(items, j);
-    let mut row = empty_row();
-    let mut p = j;
-    'earlier: while 0 < p {
-        p -= 1;
-        take_in(items, rows, j, p, &mut row);
-        if is_enough(item_at(items, p), item) {
-            return row;
-        }
-    }
-    row
+    let mut whole = *row;
+    add_item(&mut whole.latest, usize::from(item.t), j);
+    whole
 }

@@ -40,11 +40,7 @@ fn with_all(
 }
 
 /// What is compiled of a program: with `fold` the program that it folds to.
-pub fn folded_if(
-    alloc: Global,
-    fold: bool,
-    safe: SafeProgram,
-) -> Result<SafeProgram, AllocError>
+pub fn folded_if(alloc: Global, fold: bool, safe: SafeProgram) -> Result<SafeProgram, AllocError>
     requires well_formed { WellFormed (checked_in safe) }
     requires safe { IsSafe (program_of (checked_in safe)) }
     ensures { IfOk result (λ q. Compiled fold (checked_in safe) (checked_in q)) }
