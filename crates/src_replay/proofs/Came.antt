@@ -84,3 +84,11 @@ open_is false ms e h f = false≢true (e ∙ eq-eqb (length ms) 0 (ap length f))
 
 pub is_open : (b : Bool) (ms : List ℕ) → b ≡ (length ms == 0) → not b ≡ true → ms ≢ []
 is_open b ms e h = λ f. open_is b ms e h f
+
+pub is_shut : (b : Bool) (ms : List ℕ) → b ≡ (length ms == 0) → not b ≡ false → ms ≡ []
+is_shut true ms e h = no_marks ms (eqb-true (length ms) 0 (sym e))
+  where
+    no_marks : (ms : List ℕ) → length ms ≡ 0 → ms ≡ []
+    no_marks [] h = refl
+    no_marks (m ∷ ms) h = let k : suc (length ms) ≡ 0 = h in absurd (omega (arith, k))
+is_shut false ms e h = absurd (false≢true (sym h))

@@ -1,4 +1,11 @@
 pub mod Undone
 pub mod Came
-pub mod Entries
 pub mod Words
+pub mod ThreadLists
+pub mod Moves
+pub mod Results
+pub mod Arms
+pub mod EntrySteps
+pub mod BlockSteps
+pub mod BlockEntries
+pub mod OrderSteps

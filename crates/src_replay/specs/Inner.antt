@@ -1,7 +1,7 @@
 -- A step of a thread in its outermost block: what it does to memory and to the copies, by `inner_by` of `tx_events`.
 use Rattle.std.specs.Prelude.{◌≡◌, ℕ, Bool, true, false, nat_lt, ◌^◌, ◌*◌, ◌&&◌, List, []}
 use Rattle.tx_events.specs.declared.Event.{Event}
-use Rattle.tx_events.specs.declared.Event.TheVariants.{Silent, Load, Store}
+use Rattle.tx_events.specs.declared.Event.TheVariants.{Silent, Load, Store, Out, Inp, Spawn, Join, BeginAtomic, EndAtomic, Raise, BeginSync, EndSync, Done, Stop}
 use Rattle.tx_events.specs.declared.Reply.{Reply}
 use Rattle.tx_events.specs.declared.Reply.TheVariants.{Nothing, Loaded}
 use Rattle.tx_events.specs.Memory.{MemoryLayout, load}
@@ -41,3 +41,27 @@ Came memory cs step other = ⊥
 abbrev pub reply_in : (ℕ → ℕ) → Step → Event → Reply
 reply_in memory Goes (Load addr size volatile) = Loaded (load memory addr size)
 reply_in memory step e = Nothing
+
+-- the thread goes on behind such a step
+abbrev pub is_going_step : Step → Bool
+is_going_step Goes = true
+is_going_step Leaves = true
+is_going_step (Halts end) = false
+is_going_step Never = false
+
+-- the event may come inside an atomic block
+abbrev pub is_inner : Event → Bool
+is_inner (Out byte) = false
+is_inner Inp = false
+is_inner (Spawn func arg) = false
+is_inner (Join id) = false
+is_inner Done = false
+is_inner Silent = true
+is_inner (Load addr size volatile) = true
+is_inner (Store addr size value volatile) = true
+is_inner (BeginAtomic kind) = true
+is_inner EndAtomic = true
+is_inner (Raise kind cancels) = true
+is_inner BeginSync = true
+is_inner EndSync = true
+is_inner (Stop end) = true

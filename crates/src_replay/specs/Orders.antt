@@ -1,37 +1,69 @@
--- What holds of each replay, whatever the threads do.
-use Rattle.std.specs.Prelude.{◌≡◌, ◌≤◌, ◌<◌, ℕ, suc, ◌+◌, List, [], ◌∷◌, take, length, None}
+-- What the replay of an order answers.
+use Rattle.std.specs.Prelude.{◌≡◌, ◌≤◌, ◌+◌, ◌/◌, ◌*◌, ℕ, List, [], ◌∷◌, take, slice_get, Some, Result, Ok, Err}
+use Rattle.tx_events.specs.declared.TheConstants.{THREAD_LIMIT}
+use Rattle.tx_events.specs.Memory.{MemoryLayout, no_bytes, with_cells}
+use Rattle.tx_events.specs.Thread.{Thread}
+use Rattle.tx_events.specs.World.{World, Replays, first_world}
+use Rattle.src_bind.specs.declared.bound_program.Bound.{Bound}
+use Rattle.src_bind.specs.Bounds.{given}
+use Rattle.src_bind.specs.Tables.{typed, linked_of}
+use Rattle.src_mean.specs.Linked.{Program}
+use Rattle.src_mean.specs.Links.{first_cells, globals_size}
+use Rattle.src_mean.specs.Frames.{State}
+use Rattle.src_mean.specs.Source.{source, main_state}
+use Rattle.src_mean.specs.Cost.{cost}
 use Rattle.src_replay.specs.declared.replaying.ReplayFault.{ReplayFault}
 use Rattle.src_replay.specs.declared.replaying.ReplayFault.TheVariants.{NotARun, Spent, Memory}
 use Rattle.src_replay.specs.declared.replaying.Replayed.{Replayed}
+use Rattle.src_replay.specs.Entries.{Refused, Unfinished}
 
--- Each entry names a thread that can have been started: thread 0 is there at first, and each entry starts at most one. `n` threads are there at most
--- before the first of these entries.
-abbrev pub AreStarted : ℕ → List ℕ → Type 0
-AreStarted n [] = Unit {0}
-AreStarted n (t ∷ ts) = (t < n) × AreStarted (suc n) ts
+-- The order leads from the first world to this one, with this output and end, and that is what it costs, which is at most what was given.
+pub record IsReplay {S : Type 0} (a : Thread S) (p : MemoryLayout) (first : World S) (order : List ℕ) (most : ℕ) (r : Replayed) : Type 0 where
+  pub world : World S
+  pub replays : Replays a p first order world
+  pub out_is : r.out.items ≡ world.out
+  pub end_is : r.end ≡ world.end
+  pub cost_is : r.cost ≡ cost a p first order world replays
+  pub within : r.cost ≤ most
 
--- An order that was replayed: its entries name threads that can have been started, each costs a step or more, and so does each byte of the output.
-pub record IsReplayed (order : List ℕ) (most : ℕ) (r : Replayed) : Type 0 where
-  pub started : AreStarted 1 order
-  pub paid : length order ≤ r.cost
-  pub written : length r.out.items ≤ r.cost
-  pub cost : r.cost ≤ most
+-- The entries before one lead from the first world to this one, and so many units are left of those that were given.
+pub record IsBegun {S : Type 0} (a : Thread S) (p : MemoryLayout) (first : World S) (order : List ℕ) (most index : ℕ) : Type 0 where
+  pub thread : ℕ
+  pub entry : slice_get order index ≡ Some thread
+  pub world : World S
+  pub replays : Replays a p first (take index order) world
+  pub left : ℕ
+  pub paid : cost a p first (take index order) world replays + left ≡ most
 
--- the entries before this one were taken
-pub record StopsAt (order : List ℕ) (most index : ℕ) : Type 0 where
-  pub within : index < length order
-  pub started : AreStarted 1 (take index order)
-  pub paid : index ≤ most
+-- the entry has no step, which the units that are left show
+pub record IsNotARun {S : Type 0} (a : Thread S) (p : MemoryLayout) (first : World S) (order : List ℕ) (most index : ℕ) : Type 0 where
+  pub begun : IsBegun a p first order most index
+  pub refused : Refused a p begun.thread begun.world begun.left
 
--- The entry at an index is not enabled, or it takes more steps than there are; it is the first. One that takes too many names a thread that can have been
--- started.
-abbrev pub IsFault : List ℕ → ℕ → ReplayFault → Type 0
-IsFault order most (NotARun index) = StopsAt order most index
-IsFault order most (Spent index) = StopsAt order most index × AreStarted 1 (take (index + 1) order)
-IsFault order most Memory = Unit {0}
+-- the entry takes more than the units that are left
+pub record IsSpent {S : Type 0} (a : Thread S) (p : MemoryLayout) (first : World S) (order : List ℕ) (most index : ℕ) : Type 0 where
+  pub begun : IsBegun a p first order most index
+  pub unfinished : Unfinished a p begun.thread begun.world begun.left
 
--- where no entry is, nothing happened
-pub record IsNothing (r : Replayed) : Type 0 where
-  pub out : r.out.items ≡ []
-  pub end : r.end ≡ None
-  pub cost : r.cost ≡ 0
+-- the answer on an order, want of memory aside
+abbrev pub IsAnswer : {S : Type 0} → Thread S → MemoryLayout → World S → List ℕ → ℕ → Result Replayed ReplayFault → Type 0
+IsAnswer a p first order most (Ok r) = IsReplay a p first order most r
+IsAnswer a p first order most (Err (NotARun index)) = IsNotARun a p first order most index
+IsAnswer a p first order most (Err (Spent index)) = IsSpent a p first order most index
+IsAnswer a p first order most (Err Memory) = Unit {0}
+
+-- the linked program that a bound program is
+abbrev pub program_in : Bound → Program
+program_in b = linked_of (given b)
+
+-- its globals, and as many stacks as there may be threads
+abbrev pub layout_in : Bound → MemoryLayout
+layout_in b = record { globals = (globals_size (typed (given b)) + 7) / 8 * 8; limit = THREAD_LIMIT }
+
+-- the world at its start: the first bytes of its globals, this input, and thread 0 at the start of `main`
+abbrev pub first_in : Bound → List ℕ → World State
+first_in b input = first_world (with_cells no_bytes (first_cells (typed (given b)) (program_in b))) input (main_state (program_in b))
+
+-- the answer on an order of threads of a bound program
+abbrev pub Answers : Bound → List ℕ → List ℕ → ℕ → Result Replayed ReplayFault → Type 0
+Answers b input order most r = IsAnswer (source (program_in b)) (layout_in b) (first_in b input) order most r

@@ -10,7 +10,7 @@ ghost use Rattle.tx_events.specs.Memory.{can_access, load as load_of};
 ghost use Rattle.tx_events.specs.Thread.{is_size as is_size_of};
 ghost use Rattle.tx_memory.specs.View.{layout_of, words_of};
 ghost use Rattle.src_replay.specs.Undone.{IsNested, copies, Ended};
-ghost use Rattle.src_replay.specs.Inner.{has_size, comes_to, Came, reply_in};
+ghost use Rattle.src_replay.specs.Inner.{has_size, comes_to, Came, reply_in, is_going_step, is_inner};
 ghost use Rattle.src_replay.specs.declared.block.Step.TheVariants.{Goes, Leaves, Halts, Never};
 
 use crate::nested::Nested;
@@ -208,9 +208,23 @@ fn raise(memory: &mut Memory, nested: &mut Nested, kind: BlockKind, cancels: boo
 }
 
 /// Whether the thread goes on behind a step.
-pub(crate) fn goes_on(step: Step) -> bool {
+pub(crate) fn goes_on(step: Step) -> bool
+    ensures { result ≡ is_going_step step }
+{
     match step {
         Step::Goes | Step::Leaves => true,
         Step::Halts(_) | Step::Never => false,
+    }
+}
+
+/// Whether an event may come inside an atomic block.
+pub(crate) fn comes_inside(event: Event) -> bool
+    ensures { result ≡ is_inner event }
+{
+    match event {
+        Event::Silent | Event::Load { .. } | Event::Store { .. } | Event::BeginAtomic { .. } => true,
+        Event::EndAtomic | Event::Raise { .. } | Event::BeginSync | Event::EndSync => true,
+        Event::Stop { .. } => true,
+        Event::Out { .. } | Event::Inp | Event::Spawn { .. } | Event::Join { .. } | Event::Done => false,
     }
 }

@@ -51,7 +51,8 @@ impl Nested {
 
     /// Whether a block is open.
     pub(crate) fn is_open(&self) -> bool
-        ensures { result ≡ true → self.now.marks.items ≢ [] }
+        ensures open { result ≡ true → self.now.marks.items ≢ [] }
+        ensures shut { result ≡ false → self.now.marks.items ≡ [] }
     {
         let none = self.is_empty();
         !none

@@ -1,9 +1,9 @@
 //! The replay of a written order.
 
-ghost use Rattle.std.specs.Prelude.{◌≡◌, ◌≤◌, [], IfOk, IfErr};
+ghost use Rattle.std.specs.Prelude.{◌≡◌, ◌≤◌};
 ghost use Rattle.src_bind.specs.Bounds.{given};
 ghost use Rattle.src_bind.specs.Tables.{CanBind, typed};
-ghost use Rattle.src_replay.specs.Orders.{IsReplayed, IsFault, IsNothing};
+ghost use Rattle.src_replay.specs.Orders.{Answers};
 
 use crate::world::{Entry, World};
 use src_bind::Bound;
@@ -47,9 +47,7 @@ pub fn replay<'a>(
     most: u32,
 ) -> Result<Replayed, ReplayFault>
     requires { CanBind (typed (given bound.now)) }
-    ensures replayed { IfOk result (IsReplayed order.now most) }
-    ensures fault { IfErr result (IsFault order.now most) }
-    ensures nothing { order.now ≡ [] → IfOk result IsNothing }
+    ensures { Answers bound.now input.now order.now most result }
 {
     let mut world = match World::new(alloc, bound, input, most) {
         Ok(world) => world,
