@@ -41,7 +41,7 @@ module _ (program : Program) (p : MemoryLayout) (t : ℕ) (w : Worlds State) (s 
   block_start old now first nested e set same notes marks more_notes more_marks l =
       let r = (source program).after s Nothing in
       let world : world_of now ≡ goes t w r = ap world_of same ∙ (set_world (world_of old) program (layout_of now.memory) t (record { state = r; ended = false }) old.threads.alive.items now.threads.alive.items set
-          ∙ (ap (λ (z : Worlds State). goes t z r) e ∙ goes_twice t w s r)) in
+      ∙ (ap (λ (z : Worlds State). goes t z r) e ∙ goes_twice t w s r)) in
       let memory : words_of now.memory ≡ w.memory = ap (λ (z : Worlds State). z.memory) world in
       let none : copies first w.memory ≡ [] = ap (λ (ms : List ℕ). map (λ (k : ℕ). undone first.notes.items k w.memory) (reverse ms)) marks in
       let kept : now.left ≡ old.left = ap (λ (z : World). z.left) same in

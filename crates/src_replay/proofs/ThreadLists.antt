@@ -98,9 +98,9 @@ is_set program p xs t x s h e of stand =
 more_threads : (xs : List Alive) (x : Alive) (s : Started State) → alive_in (Some x) ≡ Some s → threads_of (xs ++ x ∷ []) ≡ update (threads_of xs) (length xs) (Some s)
 unfolding threads_of
 more_threads xs x s e = fun_ext (λ u. elim (u == length xs) as (λ b. (u == length xs) ≡ b → alive_in (slice_get (xs ++ x ∷ []) u) ≡ cond b (Some s) (alive_in (slice_get xs u))) [
-    | true ↦ λ q. ap (λ n. alive_in (slice_get (xs ++ x ∷ []) n)) (eqb-true u (length xs) q) ∙ (ap alive_in (get_last xs x) ∙ e)
-    | false ↦ λ q. ap alive_in (get_before xs x u (eqb-false u (length xs) q))
-  ] refl)
+  | true ↦ λ q. ap (λ n. alive_in (slice_get (xs ++ x ∷ []) n)) (eqb-true u (length xs) q) ∙ (ap alive_in (get_last xs x) ∙ e)
+  | false ↦ λ q. ap alive_in (get_before xs x u (eqb-false u (length xs) q))
+] refl)
 
 more_each : (program : Program) (xs : List Alive) (x : Alive) → ((k : ℕ) (y : Alive) → slice_get xs k ≡ Some y → IsOf program y) → IsOf program x
     → (k : ℕ) (y : Alive) → slice_get (xs ++ x ∷ []) k ≡ Some y → IsOf program y

@@ -222,9 +222,11 @@ pub(crate) fn comes_inside(event: Event) -> bool
     ensures { result ≡ is_inner event }
 {
     match event {
-        Event::Silent | Event::Load { .. } | Event::Store { .. } | Event::BeginAtomic { .. } => true,
+        Event::Silent | Event::Load { .. } | Event::Store { .. } | Event::BeginAtomic { .. } =>
+            true,
         Event::EndAtomic | Event::Raise { .. } | Event::BeginSync | Event::EndSync => true,
         Event::Stop { .. } => true,
-        Event::Out { .. } | Event::Inp | Event::Spawn { .. } | Event::Join { .. } | Event::Done => false,
+        Event::Out { .. } | Event::Inp | Event::Spawn { .. } | Event::Join { .. } | Event::Done =>
+            false,
     }
 }

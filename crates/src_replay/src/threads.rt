@@ -87,13 +87,7 @@ impl<'a> Threads<'a> {
     }
 
     /// Starts a thread of this number, as this one asks for.
-    pub(crate) fn start(
-        &mut self,
-        t: u8,
-        number: u8,
-        func: u64,
-        arg: i64,
-    ) -> Result<(), AllocError>
+    pub(crate) fn start(&mut self, t: u8, number: u8, func: u64, arg: i64) -> Result<(), AllocError>
         requires { t < length self.old.alive.items }
         ensures count { length self.old.alive.items ≤ length self.new.alive.items }
         ensures more { (program : Program) (p : MemoryLayout) (s : State) → Stand program p self.old.alive.items → threads_of self.old.alive.items t ≡ alive s

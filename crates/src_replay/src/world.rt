@@ -247,11 +247,7 @@ impl<'a> World<'a> {
             → is_enabled_in t w event ≡ true → IfOk result (Acted program (layout_of self.old.memory) t w s self.old.left self.new) }
     {
         match event {
-            Event::Load {
-                addr,
-                size,
-                ..
-            } => self.load(t, addr, size),
+            Event::Load { addr, size, .. } => self.load(t, addr, size),
             Event::Store {
                 addr,
                 size,
