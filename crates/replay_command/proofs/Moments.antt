@@ -65,12 +65,12 @@ module _ (e : Replay) where
   -- all files were read, and what is decided on their texts is written
   pub ends_read : (old first second mid new : HostState) (sources : List (List ℕ)) (input order : List ℕ) (d : Result Decision AllocError) (a : Answer) → ReadsWithin old sources_wanted sources first
       → ReadsWithin first input_wanted (bytes_of (input_file e) input) second → ReadsWithin second order_wanted (order ∷ []) mid → (input_file e ≡ None → input ≡ [])
-      → IfOk d (λ x. Decides e sources order x.answer (map written_of x.writes.items)) → Settles mid new d a → Ends (wants_of e) (DecidesOn e) old new a
+      → IfOk d (λ x. Decides e sources input order x.answer (map written_of x.writes.items)) → Settles mid new d a → Ends (wants_of e) (DecidesOn e) old new a
   ends_read old first second mid new sources input order d a reads also last no_input decides settles =
       let inputs = bytes_of (input_file e) input in
       let orders = order ∷ [] in
       let texts_are = whole old first sources input order reads no_input in
       ends_settled (wants_of e) (DecidesOn e) old mid new (sources ++ (inputs ++ orders)) d a
       (reads_append old first mid sources_wanted (input_wanted ++ order_wanted) sources (inputs ++ orders) reads (reads_append first second mid input_wanted order_wanted inputs orders also last))
-      (IfOk-weaker d (λ x. Decides e sources order x.answer (map written_of x.writes.items)) (λ x. DecidesOn e (sources ++ (inputs ++ orders)) x.answer (map written_of x.writes.items))
+      (IfOk-weaker d (λ x. Decides e sources input order x.answer (map written_of x.writes.items)) (λ x. DecidesOn e (sources ++ (inputs ++ orders)) x.answer (map written_of x.writes.items))
       (λ x h. record { sources = sources; input = input; order = order; texts_are = texts_are; decides = h }) decides) settles

@@ -1,5 +1,5 @@
 -- What `replay` comes to: the steps of the command, each with the refusal that ends it there.
-use Rattle.std.specs.Prelude.{◌≡◌, ◌≤◌, ◌<◌, ℕ, List, [], ◌∷◌, ◌++◌, length, Option, Some, None, codes, map, string_bytes}
+use Rattle.std.specs.Prelude.{◌≡◌, ◌≤◌, ◌<◌, ℕ, List, [], ◌∷◌, ◌++◌, length, Option, Some, None, codes, map, string_bytes, Ok, Err}
 use Rattle.std.specs.Option.{option_map}
 use Rattle.std.specs.Fmt.{decimal}
 use Rattle.std.specs.List.{All}
@@ -13,7 +13,11 @@ use Rattle.link_faults.specs.declared.fault.LinkFault.{LinkFault}
 use Rattle.schedules.specs.Text.{Spells as Says, IsFirstBad, Keeps, most_entries}
 use Rattle.schedules.specs.declared.Schedule.{Schedule}
 use Rattle.source_verdict.specs.Verdict.{Accepts, RefusesTexts}
-use Rattle.src_replay.specs.Orders.{IsReplayed, IsFault}
+use Rattle.cpp_tree.specs.Units.{program_of}
+use Rattle.src_bind.specs.Tables.{Given}
+use Rattle.src_bind.specs.declared.choices.Choices.{Choices}
+use Rattle.src_link.specs.Slots.{AreChoices}
+use Rattle.src_replay.specs.Orders.{Answers as AnswersOrder}
 use Rattle.src_replay.specs.declared.replaying.Replayed.{Replayed}
 use Rattle.src_replay.specs.declared.replaying.ReplayFault.TheVariants.{NotARun, Spent}
 use Rattle.tx_answers.specs.Ends.{Ends, Refuses, bare}
@@ -77,41 +81,47 @@ spent_line index = codes "cost out " ++ decimal index
 
 -- ---- the steps
 
--- The order is replayed on the program. What the threads do is not told yet: of the answer of the call `replay` stands here what holds of each.
-pub data DecidesOrder (r : Replay) (order : List ℕ) (a : Answer) (writes : List Written) : Type 0 where
-  replayed : (o : Replayed) → IsReplayed order r.cost o → Answers o a writes → DecidesOrder r order a writes
-  not_a_run : (index : ℕ) → IsFault order r.cost (NotARun index) → Refuses 13 (not_a_run_line (order_file r) index) Refused a writes → DecidesOrder r order a writes
-  spent : (index : ℕ) → IsFault order r.cost (Spent index) → Refuses 15 (spent_line index) CostOut a writes → DecidesOrder r order a writes
+-- The order is replayed on the program that is bound, with this input: it is a run of it with that output and end, or an entry is not enabled, or it costs too much.
+pub data DecidesOrder (r : Replay) (g : Given) (input order : List ℕ) (a : Answer) (writes : List Written) : Type 0 where
+  replayed : (o : Replayed) → AnswersOrder g input order r.cost (Ok o) → Answers o a writes → DecidesOrder r g input order a writes
+  not_a_run : (index : ℕ) → AnswersOrder g input order r.cost (Err (NotARun index)) → Refuses 13 (not_a_run_line (order_file r) index) Refused a writes → DecidesOrder r g input order a writes
+  spent : (index : ℕ) → AnswersOrder g input order r.cost (Err (Spent index)) → Refuses 15 (spent_line index) CostOut a writes → DecidesOrder r g input order a writes
+
+-- the program is bound: functions have safe bodies where they are safe, slots name the final overriders, and thread 0 starts in `main`
+pub record DecidesBound (r : Replay) (p : Program) (input order : List ℕ) (a : Answer) (writes : List Written) : Type 0 where
+  pub choices : Choices
+  pub are_choices : AreChoices (program_of p) choices
+  pub decides : DecidesOrder r (record { program = p; choices = choices }) input order a writes
 
 -- the objects of the units are linked
-pub data DecidesObjects (r : Replay) (objects : List ObjectView) (order : List ℕ) (a : Answer) (writes : List Written) : Type 0 where
-  faulty : (fault : LinkFault) → Faulty objects fault → RefusesLink fault a writes → DecidesObjects r objects order a writes
-  linked : (image : ImageView) → ImageOf objects image → DecidesOrder r order a writes → DecidesObjects r objects order a writes
+pub data DecidesObjects (r : Replay) (p : Program) (objects : List ObjectView) (input order : List ℕ) (a : Answer) (writes : List Written) : Type 0 where
+  faulty : (fault : LinkFault) → Faulty objects fault → RefusesLink fault a writes → DecidesObjects r p objects input order a writes
+  linked : (image : ImageView) → ImageOf objects image → DecidesBound r p input order a writes → DecidesObjects r p objects input order a writes
 
 -- Some objects are linked. Which ones the compiler makes of a program is not told yet.
-pub record DecidesSome (r : Replay) (order : List ℕ) (a : Answer) (writes : List Written) : Type 0 where
+pub record DecidesSome (r : Replay) (p : Program) (input order : List ℕ) (a : Answer) (writes : List Written) : Type 0 where
   pub objects : List ObjectView
   pub are_objects : All IsObject objects
-  pub decides : DecidesObjects r objects order a writes
+  pub decides : DecidesObjects r p objects input order a writes
 
 -- the first refusal of the texts; or they are a safe program
-pub data DecidesTexts (r : Replay) (texts : List (List ℕ)) (order : List ℕ) (a : Answer) (writes : List Written) : Type 0 where
-  refuses : RefusesTexts (source_files r) texts a writes → DecidesTexts r texts order a writes
-  accepts : (p : Program) → Accepts texts p → DecidesSome r order a writes → DecidesTexts r texts order a writes
+pub data DecidesTexts (r : Replay) (texts : List (List ℕ)) (input order : List ℕ) (a : Answer) (writes : List Written) : Type 0 where
+  refuses : RefusesTexts (source_files r) texts a writes → DecidesTexts r texts input order a writes
+  accepts : (p : Program) → Accepts texts p → DecidesSome r p input order a writes → DecidesTexts r texts input order a writes
 
 -- an order of more entries is refused
-pub data OnEntries (r : Replay) (texts : List (List ℕ)) (entries : List ℕ) (a : Answer) (writes : List Written) : Type 0 where
-  too_long : most_entries < length entries → Refuses 7 (limit_line (order_file r)) Limit a writes → OnEntries r texts entries a writes
-  ordered : length entries ≤ most_entries → DecidesTexts r texts entries a writes → OnEntries r texts entries a writes
+pub data OnEntries (r : Replay) (texts : List (List ℕ)) (input entries : List ℕ) (a : Answer) (writes : List Written) : Type 0 where
+  too_long : most_entries < length entries → Refuses 7 (limit_line (order_file r)) Limit a writes → OnEntries r texts input entries a writes
+  ordered : length entries ≤ most_entries → DecidesTexts r texts input entries a writes → OnEntries r texts input entries a writes
 
 -- what is decided where so many of the entries are kept
-abbrev pub OnKept : Replay → List (List ℕ) → Schedule → Answer → List Written → Type 0
-OnKept r texts order a writes = (entries : List ℕ) → Keeps most_entries entries order → OnEntries r texts entries a writes
+abbrev pub OnKept : Replay → List (List ℕ) → List ℕ → Schedule → Answer → List Written → Type 0
+OnKept r texts input order a writes = (entries : List ℕ) → Keeps most_entries entries order → OnEntries r texts input entries a writes
 
 -- the order is read, on the texts of the sources
-pub data Decides (r : Replay) (texts : List (List ℕ)) (order : List ℕ) (a : Answer) (writes : List Written) : Type 0 where
-  bad_schedule : (line : ℕ) → IsFirstBad order line → Refuses 10 (bad_schedule_line (order_file r) line) BadSchedule a writes → Decides r texts order a writes
-  says : (entries : List ℕ) → Says order entries → OnEntries r texts entries a writes → Decides r texts order a writes
+pub data Decides (r : Replay) (texts : List (List ℕ)) (input order : List ℕ) (a : Answer) (writes : List Written) : Type 0 where
+  bad_schedule : (line : ℕ) → IsFirstBad order line → Refuses 10 (bad_schedule_line (order_file r) line) BadSchedule a writes → Decides r texts input order a writes
+  says : (entries : List ℕ) → Says order entries → OnEntries r texts input entries a writes → Decides r texts input order a writes
 
 -- ---- the command
 
@@ -121,7 +131,7 @@ pub record DecidesOn (r : Replay) (texts : List (List ℕ)) (a : Answer) (writes
   pub input : List ℕ
   pub order : List ℕ
   pub texts_are : AreTexts r texts sources input order
-  pub decides : Decides r sources order a writes
+  pub decides : Decides r sources input order a writes
 
 abbrev pub TooMany : List (List ℕ) → Answer → List Written → Type 0
 TooMany texts a writes = Refuses 7 (codes "Limit Sources") Limit a writes

@@ -8,7 +8,8 @@ ghost use Rattle.src_bind.specs.Bounds.{given};
 ghost use Rattle.src_bind.specs.Tables.{CanBind, typed};
 ghost use Rattle.tx_code.specs.Objects.{object_view};
 ghost use Rattle.tx_code.specs.WellFormed.{IsObject};
-ghost use Rattle.replay_command.specs.Replays.{Decides, OnKept, DecidesTexts, DecidesSome, DecidesObjects, DecidesOrder};
+ghost use Rattle.replay_command.specs.Replays.{Decides, OnKept, DecidesTexts, DecidesSome, DecidesObjects, DecidesBound, DecidesOrder};
+ghost use Rattle.tx_safety.specs.Answers.{checked_in};
 
 use crate::answers::{ended, not_a_run, spent, too_long};
 use exec_command::refusals::{bad_link, bad_schedule};
@@ -34,7 +35,7 @@ fn with_bound<'a>(
     order: &[u8],
 ) -> Result<Decision, AllocError>
     requires { CanBind (typed (given bound.now)) }
-    ensures { IfOk result (λ d. DecidesOrder words.now order.now d.answer (map written_of d.writes.items)) }
+    ensures { IfOk result (λ d. DecidesOrder words.now (given bound.now) input.now order.now d.answer (map written_of d.writes.items)) }
 {
     match replay(alloc, bound, input, order, words.cost) {
         Ok(replayed) => ended(alloc, replayed),
@@ -52,7 +53,7 @@ fn with_program(
     input: &[u8],
     order: &[u8],
 ) -> Result<Decision, AllocError>
-    ensures { IfOk result (λ d. DecidesOrder words.now order.now d.answer (map written_of d.writes.items)) }
+    ensures { IfOk result (λ d. DecidesBound words.now (checked_in safe.now) input.now order.now d.answer (map written_of d.writes.items)) }
 {
     let program = safe.program();
     if !can_bind(alloc, program)? {
@@ -73,7 +74,7 @@ fn with_objects(
     order: &[u8],
 ) -> Result<Decision, AllocError>
     requires { All (λ o. IsObject (object_view o)) objects.now }
-    ensures { IfOk result (λ d. DecidesObjects words.now (map object_view objects.now) order.now d.answer (map written_of d.writes.items)) }
+    ensures { IfOk result (λ d. DecidesObjects words.now (checked_in safe.now) (map object_view objects.now) input.now order.now d.answer (map written_of d.writes.items)) }
 {
     match link(alloc, objects) {
         Ok(_image) => with_program(alloc, words, safe, input, order),
@@ -90,7 +91,7 @@ fn compiled(
     input: &[u8],
     order: &[u8],
 ) -> Result<Decision, AllocError>
-    ensures { IfOk result (λ d. DecidesSome words.now order.now d.answer (map written_of d.writes.items)) }
+    ensures { IfOk result (λ d. DecidesSome words.now (checked_in safe.now) input.now order.now d.answer (map written_of d.writes.items)) }
 {
     let objects = unit_objects(alloc, safe, words.sources.as_slice(), texts)?;
     with_objects(alloc, words, safe, objects.as_slice(), input, order)
@@ -104,7 +105,7 @@ fn with_texts(
     input: &[u8],
     order: &[u8],
 ) -> Result<Decision, AllocError>
-    ensures { IfOk result (λ d. DecidesTexts words.now (map (λ text. text.items) texts.now) order.now d.answer (map written_of d.writes.items)) }
+    ensures { IfOk result (λ d. DecidesTexts words.now (map (λ text. text.items) texts.now) input.now order.now d.answer (map written_of d.writes.items)) }
 {
     match verdict_of(alloc, words.sources.as_slice(), texts)? {
         Verdict::Accepted(safe) => compiled(alloc, words, &safe, texts, input, order),
@@ -120,7 +121,7 @@ fn with_order(
     input: &[u8],
     order: &Schedule,
 ) -> Result<Decision, AllocError>
-    ensures { IfOk result (λ d. OnKept words.now (map (λ text. text.items) texts.now) order.now d.answer (map written_of d.writes.items)) }
+    ensures { IfOk result (λ d. OnKept words.now (map (λ text. text.items) texts.now) input.now order.now d.answer (map written_of d.writes.items)) }
 {
     if order.has_more {
         return too_long(alloc, words.order_file.as_str());
@@ -136,7 +137,7 @@ pub fn decided(
     input: &[u8],
     order: &[u8],
 ) -> Result<Decision, AllocError>
-    ensures { IfOk result (λ d. Decides words.now (map (λ text. text.items) texts.now) order.now d.answer (map written_of d.writes.items)) }
+    ensures { IfOk result (λ d. Decides words.now (map (λ text. text.items) texts.now) input.now order.now d.answer (map written_of d.writes.items)) }
 {
     match read(alloc, order) {
         Ok(schedule) => with_order(alloc, words, texts, input, &schedule),

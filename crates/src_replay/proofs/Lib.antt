@@ -9,3 +9,4 @@ pub mod EntrySteps
 pub mod BlockSteps
 pub mod BlockEntries
 pub mod OrderSteps
+pub mod OneEntry

@@ -8,7 +8,7 @@ use Rattle.tx_events.specs.Memory.{MemoryLayout}
 use Rattle.tx_events.specs.Thread.{Thread}
 use Rattle.tx_events.specs.World.{World as Worlds, Step, Replays}
 use Rattle.tx_memory.specs.View.{layout_of}
-use Rattle.src_bind.specs.declared.bound_program.Bound.{Bound}
+use Rattle.src_bind.specs.Tables.{Given}
 use Rattle.src_mean.specs.Cost.{cost, step_cost}
 use Rattle.src_mean.specs.Frames.{State}
 use Rattle.src_mean.specs.Linked.{Program}
@@ -19,6 +19,7 @@ use Rattle.src_replay.specs.declared.world.Entry.TheVariants.{Taken, Refused, Sp
 use Rattle.src_replay.specs.declared.world.World.{World}
 use Rattle.src_replay.specs.Entries.{over}
 use Rattle.src_replay.specs.Orders.{IsReplay, IsBegun, IsNotARun, IsSpent, program_in, layout_in, first_in}
+use Rattle.src_replay.proofs.OneEntry.{refused_no_step, unfinished_more}
 use Rattle.src_replay.specs.Shown.{world_of, Stands, Shows, StepTaken, Stepped, Ran}
 
 module _ {S : Type 0} (a : Thread S) (p : MemoryLayout) where
@@ -52,7 +53,7 @@ stepped_shown program p t old v left new r shows h = by_end old.end refl
     by_end None none = subst (λ (z : Worlds State). Stepped program p t z left new r) (shows.all none) h
     by_end (Some e) some = stepped_over program p t old v left new e r shows some h
 
-module _ (b : Bound) (input order : List ℕ) (most : ℕ) where
+module _ (b : Given) (input order : List ℕ) (most : ℕ) where
   pub ran_first : (now : World) → world_of now ≡ first_in b input → layout_of now.memory ≡ layout_in b → Stands (program_in b) now → now.left ≡ most → Ran b input order most 0 now
   ran_first now e layout stands left = record {
     world = first_in b input;
@@ -91,12 +92,12 @@ module _ (b : Bound) (input order : List ℕ) (most : ℕ) where
     pub ran_refused : (index : ℕ) (r : Entry) → index ≡ i → r ≡ Refused → Stepped (program_in b) (layout_of old.memory) t (world_of old) old.left new r → IsNotARun (source (program_in b)) (layout_in b) (first_in b input) order most index
     ran_refused index r n e h =
         let there : Stepped (program_in b) (layout_in b) t ran.world old.left new Refused = subst (λ (z : Entry). Stepped (program_in b) (layout_in b) t ran.world old.left new z) e (from_there r h) in
-        subst (λ (z : ℕ). IsNotARun (source (program_in b)) (layout_in b) (first_in b input) order most z) (sym n) (record { begun = begun; refused = there })
+        subst (λ (z : ℕ). IsNotARun (source (program_in b)) (layout_in b) (first_in b input) order most z) (sym n) (record { begun = begun; refused = there; no_step = λ v d. refused_no_step (source (program_in b)) (layout_in b) t ran.world old.left v there d })
 
     pub ran_spent : (index : ℕ) (r : Entry) → index ≡ i → r ≡ Spent → Stepped (program_in b) (layout_of old.memory) t (world_of old) old.left new r → IsSpent (source (program_in b)) (layout_in b) (first_in b input) order most index
     ran_spent index r n e h =
         let there : Stepped (program_in b) (layout_in b) t ran.world old.left new Spent = subst (λ (z : Entry). Stepped (program_in b) (layout_in b) t ran.world old.left new z) e (from_there r h) in
-        subst (λ (z : ℕ). IsSpent (source (program_in b)) (layout_in b) (first_in b input) order most z) (sym n) (record { begun = begun; unfinished = there })
+        subst (λ (z : ℕ). IsSpent (source (program_in b)) (layout_in b) (first_in b input) order most z) (sym n) (record { begun = begun; unfinished = there; costs_more = λ v d. unfinished_more (source (program_in b)) (layout_in b) t ran.world old.left v there d })
 
   pub ran_all : (i : ℕ) (now : World) (r : Replayed) → Ran b input order most i now → length order ≤ i → r.out.items ≡ now.out.items → r.end ≡ now.end → r.cost + now.left ≡ most
       → IsReplay (source (program_in b)) (layout_in b) (first_in b input) order most r

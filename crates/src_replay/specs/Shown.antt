@@ -16,7 +16,7 @@ use Rattle.src_mean.specs.Frames.{State}
 use Rattle.src_mean.specs.Source.{source}
 use Rattle.src_mean.specs.Laws.{IsSettled}
 use Rattle.src_mean.specs.Cost.{silent_cost, inside_cost, event_cost, step_cost, cost}
-use Rattle.src_bind.specs.declared.bound_program.Bound.{Bound}
+use Rattle.src_bind.specs.Tables.{Given}
 use Rattle.src_replay.specs.Orders.{program_in, layout_in, first_in}
 use Rattle.src_thread.specs.Thread.{program_of, shown}
 use Rattle.src_replay.specs.declared.block.Step.{Step}
@@ -217,7 +217,7 @@ Stepped program p t w left new Refused = entries.Refused (source program) p t w 
 Stepped program p t w left new Spent = entries.Unfinished (source program) p t w left
 
 -- so many entries of the order lead from the first world to the one that is shown
-pub record Ran (b : Bound) (input order : List ℕ) (most count : ℕ) (now : World) : Type 0 where
+pub record Ran (b : Given) (input order : List ℕ) (most count : ℕ) (now : World) : Type 0 where
   pub world : Worlds State
   pub replays : Replays (source (program_in b)) (layout_in b) (first_in b input) (take count order) world
   pub cost_is : cost (source (program_in b)) (layout_in b) (first_in b input) (take count order) world replays + now.left ≡ most

@@ -9,6 +9,7 @@
 
 pub mod alone;
 mod block;
+pub mod laws;
 mod memories;
 mod nested;
 pub mod replaying;

@@ -47,7 +47,7 @@ pub fn replay<'a>(
     most: u32,
 ) -> Result<Replayed, ReplayFault>
     requires { CanBind (typed (given bound.now)) }
-    ensures { Answers bound.now input.now order.now most result }
+    ensures { Answers (given bound.now) input.now order.now most result }
 {
     let mut world = match World::new(alloc, bound, input, most) {
         Ok(world) => world,

@@ -93,9 +93,9 @@ impl<'a> World<'a> {
         most: u32,
     ) -> Result<World<'a>, AllocError>
         requires { CanBind (typed (given bound.now)) }
-        ensures world { IfOk result (λ w. world_of w ≡ first_in bound.now input.now) }
-        ensures layout { IfOk result (λ w. layout_of w.memory ≡ layout_in bound.now) }
-        ensures stands { IfOk result (Stands (program_in bound.now)) }
+        ensures world { IfOk result (λ w. world_of w ≡ first_in (given bound.now) input.now) }
+        ensures layout { IfOk result (λ w. layout_of w.memory ≡ layout_in (given bound.now)) }
+        ensures stands { IfOk result (Stands (program_in (given bound.now))) }
         ensures left { IfOk result (λ w. w.left ≡ most) }
     {
         let main = SourceThread::main(alloc, bound)?;

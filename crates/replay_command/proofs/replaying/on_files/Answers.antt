@@ -44,6 +44,7 @@ returns g c =
     c.in-Ok-read_given.ensures.read
     (subst (λ n. ReadsWithin (state c.read_given.new.host) (wanted Schedule n ∷ []) (c.in-Ok-read_file.order.items ∷ []) (state c.read_file.new.host)) c.as_str-order_file.ensures.value c.in-Ok-read_file.ensures.read)
     c.in-Ok-read_given.ensures.empty
-    (subst (λ l. IfOk c.decided.result (λ d. Decides e (map (λ text. text.items) l) c.in-Ok-read_file.order.items d.answer (map written_of d.writes.items))) c.as_slice.ensures.value
-    (subst (λ s. IfOk c.decided.result (λ d. Decides e (map (λ text. text.items) c.as_slice.result.now) s d.answer (map written_of d.writes.items))) c.as_slice-3.ensures.value c.decided.ensures))
+    (subst (λ l. IfOk c.decided.result (λ d. Decides e (map (λ text. text.items) l) input c.in-Ok-read_file.order.items d.answer (map written_of d.writes.items))) c.as_slice.ensures.value
+    (subst (λ n. IfOk c.decided.result (λ d. Decides e (map (λ text. text.items) c.as_slice.result.now) n c.in-Ok-read_file.order.items d.answer (map written_of d.writes.items))) c.as_slice-2.ensures.value
+    (subst (λ s. IfOk c.decided.result (λ d. Decides e (map (λ text. text.items) c.as_slice.result.now) c.as_slice-2.result.now s d.answer (map written_of d.writes.items))) c.as_slice-3.ensures.value c.decided.ensures)))
     c.settle.ensures

@@ -1,4 +1,5 @@
 use Rattle.std.proofs.Common.{◌≤◌, ◌+◌}
+use Rattle.src_bind.specs.Bounds.{given}
 use Rattle.src_replay.specs.Shown.{Ran}
 use Rattle.src_replay.proofs.replaying.replay.Given as goal
 
@@ -6,5 +7,5 @@ use Rattle.src_replay.proofs.replaying.replay.Given as goal
 abbrev pub invariant-loop-i : goal.invariant-loop-i
 invariant-loop-i l = record {
   left : l.world.left + l.i ≤ l.most;
-  ran : Ran l.bound l.input l.order l.most l.i l.world;
+  ran : Ran (given l.bound) l.input l.order l.most l.i l.world;
 }
