@@ -1,13 +1,13 @@
 -- What an event of a thread does to the world, and what the code does.
-use Rattle.std.proofs.Common.{ℕ, ℤ, pos, negsuc, zero, suc, ◌≡◌, ◌==◌, ◌<◌, ◌≤◌, ◌+◌, ◌-◌, ◌%◌, ◌^◌, ◌*◌, ◌&&◌, Bool, true, false, cond, Option, Some, None, is_some, option_map, List, [], ◌∷◌, ◌++◌, length, refl, ap, sym, ◌∙◌, subst, arith}
+use Rattle.std.proofs.Common.{ℕ, ℤ, pos, zero, suc, ◌≡◌, ◌<◌, ◌≤◌, ◌+◌, ◌^◌, ◌*◌, ◌&&◌, Bool, true, false, cond, Option, Some, None, is_some, option_map, List, [], ◌∷◌, length, refl, ap, sym, ◌∙◌, subst, arith}
 use Rattle.std.specs.Prelude.{nat_lt, if◌then◌else◌, slice_get}
 use Rattle.std.proofs.Math.Path.{fun_ext}
-use Rattle.std.proofs.lemmas.Bool.{false≢true, true≢false, lt-ltb, le-leb, ne_eqb}
+use Rattle.std.proofs.lemmas.Bool.{false≢true, true≢false, ne_eqb}
 use Rattle.std.proofs.lemmas.Option.{same_Some}
 use Rattle.tx_events.specs.declared.TheConstants.{THREAD_LIMIT}
 use Rattle.tx_events.specs.declared.End.{End}
 use Rattle.tx_events.specs.declared.End.TheVariants.{Trapped}
-use Rattle.tx_events.specs.declared.Trap.TheVariants.{BadAddress, BadJoin, TooManyThreads}
+use Rattle.tx_events.specs.declared.Trap.TheVariants.{BadAddress, BadJoin}
 use Rattle.tx_events.specs.declared.Event.{Event}
 use Rattle.tx_events.specs.declared.Event.TheVariants.{Silent, Load, Store, Out, Inp, Spawn, Join, BeginAtomic, EndAtomic, Raise, BeginSync, EndSync, Done, Stop}
 use Rattle.tx_events.specs.declared.Reply.{Reply}
@@ -15,7 +15,7 @@ use Rattle.tx_events.specs.declared.Reply.TheVariants.{Nothing, Loaded, Byte, Id
 use Rattle.tx_events.specs.Memory.{MemoryLayout, update, can_access, load, store}
 use Rattle.tx_events.specs.Thread.{Open, is_size}
 use Rattle.tx_events.specs.World.{World as Worlds, Alive as Started, alive, goes, ends, EventStep, Joins, target, byte_of, input_after, first_world, only_first}
-use Rattle.tx_memory.specs.View.{layout_of, words_of}
+use Rattle.tx_memory.specs.View.{layout_of}
 use Rattle.src_mean.specs.Frames.{State}
 use Rattle.src_mean.specs.Laws.{IsSettled, follows}
 use Rattle.src_mean.specs.Linked.{Program}
@@ -28,9 +28,9 @@ use Rattle.src_replay.specs.declared.world.Entry.TheVariants.{Taken}
 use Rattle.src_replay.specs.declared.world.World.{World}
 use Rattle.tx_events.specs.Alone.{Inner}
 use Rattle.src_replay.specs.declared.nested.Nested.{Nested}
-use Rattle.src_replay.specs.Entries.{has_ended, is_joinable, is_enabled}
+use Rattle.src_replay.specs.Entries.{has_ended, is_joinable}
 use Rattle.src_replay.specs.Inner.{has_size}
-use Rattle.src_replay.specs.Shown.{alive_in, threads_of, world_of, IsOf, Stand, Stands, IsSet, IsMore, Shows, Stays, WentOn, Took, InBlock}
+use Rattle.src_replay.specs.Shown.{alive_in, threads_of, world_of, IsOf, Stand, Stands, IsSet, IsMore, Shows, WentOn, Took, InBlock}
 use Rattle.src_replay.proofs.ThreadLists.{one_thread}
 use Rattle.src_replay.proofs.Moves.{update_at, update_twice, update_between, moved, target_same}
 

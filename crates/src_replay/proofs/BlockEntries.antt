@@ -1,7 +1,6 @@
 -- A whole atomic block as one step.
-use Rattle.std.proofs.Common.{ℕ, ◌≡◌, ◌<◌, ◌≤◌, ◌+◌, Bool, true, false, Option, Some, None, List, [], ◌∷◌, ◌++◌, map, length, refl, ap, sym, ◌∙◌, subst, arith}
+use Rattle.std.proofs.Common.{ℕ, ◌≡◌, ◌+◌, Bool, true, false, Some, None, List, [], ◌∷◌, ◌++◌, map, length, refl, ap, sym, ◌∙◌, subst, arith}
 use Rattle.std.specs.Prelude.{reverse, ◌≢◌}
-use Rattle.std.proofs.lemmas.Bool.{false≢true, true≢false}
 use Rattle.tx_events.specs.declared.BlockKind.{BlockKind}
 use Rattle.tx_events.specs.declared.End.{End}
 use Rattle.tx_events.specs.declared.Event.{Event}
@@ -12,7 +11,6 @@ use Rattle.tx_events.specs.Alone.{Inner, BlockStep, Inside, Alone, at_start, inn
 use Rattle.tx_events.specs.Alone as alone
 use Rattle.tx_events.specs.World.{World as Worlds, alive, goes, ends, lock_free, BlockEffect, EventStep}
 use Rattle.tx_memory.specs.View.{layout_of, words_of}
-use Rattle.src_mean.specs.Cost.{inside_cost}
 use Rattle.src_mean.specs.Frames.{State}
 use Rattle.src_mean.specs.Linked.{Program}
 use Rattle.src_mean.specs.Source.{source}
@@ -22,7 +20,7 @@ use Rattle.src_replay.specs.declared.world.Entry.TheVariants.{Taken}
 use Rattle.src_replay.specs.declared.world.World.{World}
 use Rattle.src_replay.specs.Entries.{comes}
 use Rattle.src_replay.specs.Inner.{is_inner}
-use Rattle.src_replay.specs.Shown.{threads_of, world_of, Stands, IsSet, Shows, Does, Inmost, ActTaken, ActRefused, ActSpent, Acted, InBlock, BlockGoes, BlockLeaves, BlockRun}
+use Rattle.src_replay.specs.Shown.{world_of, Stands, IsSet, Does, Inmost, ActTaken, ActRefused, ActSpent, Acted, BlockGoes, BlockLeaves, BlockRun}
 use Rattle.src_replay.specs.Undone.{copies, undone}
 use Rattle.src_replay.proofs.Moves.{goes_twice}
 use Rattle.src_replay.proofs.Arms.{set_world}

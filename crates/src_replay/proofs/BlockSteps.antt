@@ -1,6 +1,6 @@
 -- What a thread does in its outermost atomic block.
-use Rattle.std.proofs.Common.{ℕ, ◌≡◌, ◌<◌, ◌≤◌, ◌+◌, Bool, true, false, cond, List, [], ◌∷◌, ◌++◌, map, length, refl, ap, sym, ◌∙◌, subst, arith}
-use Rattle.std.specs.Prelude.{reverse, ◌≢◌}
+use Rattle.std.proofs.Common.{ℕ, ◌≡◌, Bool, true, false, cond, List, [], ◌∷◌, refl, ap, sym, ◌∙◌, subst}
+use Rattle.std.specs.Prelude.{◌≢◌}
 use Rattle.std.proofs.lemmas.Bool.{false≢true, true≢false}
 use Rattle.tx_events.specs.declared.BlockKind.{BlockKind}
 use Rattle.tx_events.specs.declared.BlockKind.TheVariants.{NoExcept, Commit, Cancel}
@@ -13,7 +13,7 @@ use Rattle.tx_events.specs.Memory.{MemoryLayout, update, can_access}
 use Rattle.tx_events.specs.Thread.{Thread}
 use Rattle.tx_events.specs.Alone.{Inner, BlockStep, Inside, at_start, inner_by, leave, raise, newest, begin, is_over}
 use Rattle.tx_events.specs.Alone as alone
-use Rattle.tx_events.specs.World.{World as Worlds, alive, goes, ends}
+use Rattle.tx_events.specs.World.{World as Worlds, alive}
 use Rattle.tx_memory.specs.View.{layout_of, words_of}
 use Rattle.src_mean.specs.Frames.{State}
 use Rattle.src_mean.specs.Linked.{Program}
@@ -24,10 +24,10 @@ use Rattle.src_replay.specs.declared.nested.Nested.{Nested}
 use Rattle.src_replay.specs.declared.world.World.{World}
 use Rattle.src_replay.specs.Entries.{comes}
 use Rattle.src_replay.specs.Inner.{untold, inner_of, comes_to, Came, reply_in, is_inner, is_going_step}
-use Rattle.src_replay.specs.Shown.{threads_of, world_of, Stands, IsSet, InBlock, BlockGoes, BlockLeaves, BlockSteps, InnerStep}
+use Rattle.src_replay.specs.Shown.{world_of, Stands, IsSet, InBlock, BlockGoes, BlockLeaves, BlockSteps, InnerStep}
 use Rattle.src_replay.specs.Undone.{copies}
-use Rattle.src_replay.proofs.Moves.{update_at, update_twice}
-use Rattle.src_replay.proofs.Arms.{set_world, stand_on}
+use Rattle.src_replay.proofs.Moves.{update_twice}
+use Rattle.src_replay.proofs.Arms.{set_world}
 
 -- a block is open where there is a copy
 

@@ -1,15 +1,14 @@
 -- An entry: silent steps, then an event or a whole block.
-use Rattle.std.proofs.Common.{ℕ, ◌≡◌, ◌<◌, ◌≤◌, ◌+◌, ◌||◌, Bool, true, false, not, is_some, Option, Some, None, List, [], ◌∷◌, length, refl, ap, sym, ◌∙◌, subst, arith}
+use Rattle.std.proofs.Common.{ℕ, ◌≡◌, ◌<◌, ◌≤◌, ◌+◌, ◌||◌, Bool, true, false, not, is_some, Option, Some, None, length, refl, ap, sym, ◌∙◌, subst, arith}
 use Rattle.std.specs.Prelude.{Result, Ok, Err, OnOk, IfOk}
 use Rattle.std.specs.declared.alloc.AllocError.{AllocError}
 use Rattle.std.proofs.lemmas.Bool.{false≢true, true≢false}
-use Rattle.tx_events.specs.declared.BlockKind.{BlockKind}
 use Rattle.tx_events.specs.declared.Event.{Event}
 use Rattle.tx_events.specs.declared.Event.TheVariants.{Silent, Load, Store, Out, Inp, Spawn, Join, BeginAtomic, EndAtomic, Raise, BeginSync, EndSync, Done, Stop}
 use Rattle.tx_events.specs.declared.Reply.TheVariants.{Nothing}
 use Rattle.tx_events.specs.Memory.{MemoryLayout}
 use Rattle.tx_events.specs.Thread.{Thread, is_silent}
-use Rattle.tx_events.specs.World.{World as Worlds, alive, goes, SilentSteps, none, one_more, EventStep, Step}
+use Rattle.tx_events.specs.World.{World as Worlds, alive, goes, SilentSteps, none, one_more, EventStep}
 use Rattle.tx_memory.specs.View.{layout_of}
 use Rattle.src_mean.specs.Cost.{silent_cost, event_cost}
 use Rattle.src_mean.specs.Frames.{State}

@@ -1,18 +1,16 @@
 -- An entry comes to one thing: it has a step, or it is refused, or it goes on behind the units that are left.
-use Rattle.std.proofs.Common.{ℕ, ℤ, ◌≡◌, ◌<◌, ◌≤◌, ◌+◌, ◌||◌, Bool, true, false, not, is_some, Option, Some, None, List, [], ◌∷◌, refl, ap, sym, ◌∙◌, subst, arith}
+use Rattle.std.proofs.Common.{ℕ, ◌≡◌, ◌<◌, ◌≤◌, ◌+◌, ◌||◌, Bool, true, false, is_some, Option, Some, None, refl, ap, sym, ◌∙◌, subst, arith}
 use Rattle.std.proofs.lemmas.Bool.{false≢true, true≢false}
 use Rattle.std.proofs.lemmas.Option.{same_Some}
-use Rattle.tx_events.specs.declared.BlockKind.{BlockKind}
 use Rattle.tx_events.specs.declared.Event.{Event}
 use Rattle.tx_events.specs.declared.Event.TheVariants.{Silent, Load, Store, Out, Inp, Spawn, Join, BeginAtomic, EndAtomic, Raise, BeginSync, EndSync, Done, Stop}
 use Rattle.tx_events.specs.declared.Reply.TheVariants.{Nothing}
 use Rattle.tx_events.specs.Memory.{MemoryLayout}
 use Rattle.tx_events.specs.Thread.{Thread, is_silent}
-use Rattle.tx_events.specs.Alone.{Inner, BlockStep, Goes, Leaves, Halts, Never, Inside, at_start, goes_on, inner_by, is_over, begin, Alone, outcome}
-use Rattle.tx_events.specs.World.{World, Alive, alive, SilentSteps, none, one_more, EventStep, Joins, BlockEffect, Step, lock_free, target}
+use Rattle.tx_events.specs.Alone.{Inner, BlockStep, Goes, Leaves, Halts, Never, Inside, at_start, goes_on, inner_by, is_over, begin}
+use Rattle.tx_events.specs.World.{World, Alive, alive, SilentSteps, none, one_more, EventStep, Joins, Step, target}
 use Rattle.src_mean.specs.Cost.{silent_cost, inside_cost, event_cost, step_cost}
 use Rattle.src_replay.specs.Entries.{is_going, is_enabled, is_joinable, comes, Moment, outside, within, units, goes_further, Refused, over, absent, stays, Unfinished}
-use Rattle.src_replay.proofs.Moves.{silent_is}
 use Rattle.tx_events.proofs.OneReplay.{loud}
 
 one_state : {S : Type 0} (s r : S) → alive s ≡ alive r → s ≡ r

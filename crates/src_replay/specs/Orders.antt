@@ -1,5 +1,5 @@
 -- What the replay of an order answers.
-use Rattle.std.specs.Prelude.{◌≡◌, ◌≤◌, ◌<◌, ◌+◌, ◌/◌, ◌*◌, ℕ, List, [], ◌∷◌, take, slice_get, Some, Result, Ok, Err}
+use Rattle.std.specs.Prelude.{◌≡◌, ◌≤◌, ◌<◌, ◌+◌, ◌/◌, ◌*◌, ℕ, List, take, slice_get, Some, Result, Ok, Err}
 use Rattle.tx_events.specs.declared.TheConstants.{THREAD_LIMIT}
 use Rattle.tx_events.specs.Memory.{MemoryLayout, no_bytes, with_cells}
 use Rattle.tx_events.specs.Thread.{Thread}

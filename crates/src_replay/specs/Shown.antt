@@ -1,5 +1,5 @@
 -- The world that the code's world shows, and what a step of the code does to it.
-use Rattle.std.specs.Prelude.{◌≡◌, ◌≤◌, ◌<◌, ◌+◌, ℕ, Bool, true, false, List, length, take, Option, Some, None, slice_get}
+use Rattle.std.specs.Prelude.{◌≡◌, ◌≤◌, ◌+◌, ℕ, Bool, true, false, List, length, take, Option, Some, None, slice_get}
 use Rattle.tx_events.specs.declared.BlockKind.{BlockKind}
 use Rattle.tx_events.specs.declared.Event.{Event}
 use Rattle.tx_events.specs.declared.Event.TheVariants.{BeginAtomic}

@@ -1,4 +1,4 @@
-use Rattle.std.proofs.Common.{arith, get_or, refl, ◌≡◌, ◌+◌}
+use Rattle.std.proofs.Common.{arith, get_or, refl}
 use Rattle.src_replay.proofs.OrderSteps.{ran_first, ran_taken, ran_refused, ran_spent, ran_all}
 use Rattle.src_bind.specs.Bounds.{given}
 use Rattle.src_replay.specs.Orders.{program_in}

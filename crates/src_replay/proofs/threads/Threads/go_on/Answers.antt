@@ -1,5 +1,3 @@
-use Rattle.std.proofs.Math.ListN.{length-set}
-use Rattle.src_replay.specs.declared.threads.Alive.{Alive}
 use Rattle.src_replay.proofs.Results.{on_ok}
 use Rattle.src_replay.proofs.ThreadLists.{gone_on}
 use Rattle.src_replay.proofs.threads.Threads.go_on.Goals as goal

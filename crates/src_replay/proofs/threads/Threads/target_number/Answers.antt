@@ -1,5 +1,4 @@
 use Rattle.std.proofs.Common.{None}
-use Rattle.src_replay.specs.Shown.{alive_in}
 use Rattle.src_replay.proofs.ThreadLists.{found_at, none_at, joined}
 use Rattle.src_replay.proofs.threads.Threads.target_number.Goals as goal
 

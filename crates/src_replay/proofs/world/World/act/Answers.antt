@@ -1,6 +1,6 @@
 use Rattle.std.proofs.Common.{refl, ap, sym, ◌∙◌, ◌≡◌, ℤ, w32, w64, to_z, of_z, rules}
 use Rattle.std.proofs.lemmas.Result.{IfOk-weaker}
-use Rattle.tx_events.specs.declared.Event.TheVariants.{Load, Store, Out, Inp, Spawn, Join, BeginAtomic, BeginSync, EndSync, Done, Stop}
+use Rattle.tx_events.specs.declared.Event.TheVariants.{Load, Store, Out, Inp, Spawn, Join, BeginSync, EndSync, Done, Stop}
 use Rattle.src_replay.specs.Entries.{is_enabled}
 use Rattle.src_replay.proofs.EntrySteps.{took_acted}
 use Rattle.src_replay.proofs.world.World.act.Goals as goal

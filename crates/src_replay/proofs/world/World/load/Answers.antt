@@ -1,14 +1,13 @@
-use Rattle.std.proofs.Common.{refl, sym, ◌∙◌}
+use Rattle.std.proofs.Common.{refl, ◌∙◌}
 use Rattle.std.proofs.lemmas.Bool.{false≢true}
 use Rattle.std.proofs.lemmas.Result.{IfOk-weaker}
 use Rattle.tx_events.specs.declared.End.TheVariants.{Trapped}
 use Rattle.tx_events.specs.declared.Trap.TheVariants.{BadAddress}
 use Rattle.tx_events.specs.declared.Event.TheVariants.{Load}
-use Rattle.tx_events.specs.declared.Reply.TheVariants.{Loaded, Nothing}
-use Rattle.tx_events.specs.Memory.{can_access, load}
-use Rattle.tx_events.specs.World.{goes, ends}
-use Rattle.tx_memory.specs.View.{layout_of, words_of}
-use Rattle.src_mean.specs.Source.{source}
+use Rattle.tx_events.specs.declared.Reply.TheVariants.{Loaded}
+use Rattle.tx_events.specs.Memory.{can_access}
+use Rattle.tx_events.specs.World.{ends}
+use Rattle.tx_memory.specs.View.{layout_of}
 use Rattle.src_replay.specs.Shown.{world_of}
 use Rattle.src_replay.proofs.Arms.{stands_in, took_moved, took_halted, load_does, read_none, cond_false, load_sized, sized_at}
 use Rattle.src_replay.proofs.world.World.load.Goals as goal

@@ -1,4 +1,4 @@
-use Rattle.std.proofs.Common.{◌≡◌, ◌<◌, ◌+◌, ◌++◌, ◌∷◌, [], length, refl, ap, sym, ◌∙◌, subst, arith, false}
+use Rattle.std.proofs.Common.{◌≡◌, ◌+◌, ◌++◌, ◌∷◌, [], length, refl, ap, sym, ◌∙◌, subst, arith, false}
 use Rattle.std.proofs.lemmas.Result.{IfOk-weaker}
 use Rattle.tx_memory.specs.View.{layout_of}
 use Rattle.src_replay.specs.declared.world.World.{World}

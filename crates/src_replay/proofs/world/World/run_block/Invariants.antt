@@ -1,6 +1,4 @@
-use Rattle.std.proofs.Common.{◌≡◌, ◌≢◌, ◌+◌, true, [], length}
-use Rattle.tx_events.specs.declared.BlockKind.{BlockKind}
-use Rattle.tx_events.specs.declared.Event.TheVariants.{BeginAtomic}
+use Rattle.std.proofs.Common.{◌≡◌, ◌≢◌, ◌+◌, [], length}
 use Rattle.tx_events.specs.World.{World as Worlds, goes}
 use Rattle.tx_memory.specs.View.{layout_of}
 use Rattle.src_mean.specs.Frames.{State}

@@ -1,4 +1,4 @@
-use Rattle.std.proofs.Common.{◌≡◌, ◌+◌, ℕ, length, refl, ap, sym, ◌∙◌, subst, arith, true, false}
+use Rattle.std.proofs.Common.{◌≡◌, ◌+◌, length, refl, ap, sym, ◌∙◌, subst, arith, false}
 use Rattle.tx_events.specs.Thread.{is_silent}
 use Rattle.tx_memory.specs.View.{layout_of}
 use Rattle.src_replay.specs.declared.world.World.{World}

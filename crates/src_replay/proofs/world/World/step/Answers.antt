@@ -1,5 +1,4 @@
 use Rattle.std.proofs.Common.{false, sym, ◌∙◌}
-use Rattle.tx_memory.specs.View.{layout_of}
 use Rattle.src_replay.specs.Entries.{over, absent}
 use Rattle.src_replay.specs.Shown.{threads_of}
 use Rattle.src_replay.proofs.EntrySteps.{none_there}

@@ -1,10 +1,6 @@
 use Rattle.std.proofs.Common.{◌∙◌, ap, sym, refl, false}
-use Rattle.tx_events.specs.World.{World as Worlds}
-use Rattle.tx_events.specs.Memory.{update}
 use Rattle.tx_memory.specs.View.{layout_of, words_of}
-use Rattle.src_mean.specs.Frames.{State}
 use Rattle.src_replay.specs.Inner.{has_size}
-use Rattle.src_replay.specs.Shown.{world_of}
 use Rattle.src_replay.specs.Undone.{copies}
 use Rattle.src_replay.proofs.Arms.{stand_on, sized_at, stands_at}
 use Rattle.src_replay.proofs.BlockSteps.{came_there, replied_there, went_in_block, stopped_in_block}

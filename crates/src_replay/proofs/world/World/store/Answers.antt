@@ -8,7 +8,7 @@ use Rattle.tx_events.specs.declared.Reply.TheVariants.{Nothing}
 use Rattle.tx_events.specs.Memory.{can_access, store}
 use Rattle.tx_events.specs.World.{ends}
 use Rattle.tx_memory.specs.View.{layout_of, words_of}
-use Rattle.src_replay.specs.Shown.{world_of, Stand}
+use Rattle.src_replay.specs.Shown.{world_of}
 use Rattle.src_replay.proofs.Arms.{stands_in, took_moved, took_halted, store_does, stored_if, cond_false, store_sized, sized_at, stand_on}
 use Rattle.src_replay.proofs.world.World.store.Goals as goal
 

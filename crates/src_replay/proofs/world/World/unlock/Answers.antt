@@ -1,4 +1,4 @@
-use Rattle.std.proofs.Common.{refl, ap, ◌∙◌, cond, ◌-◌}
+use Rattle.std.proofs.Common.{refl, ap, ◌∙◌, cond}
 use Rattle.std.specs.Prelude.{nat_lt, None}
 use Rattle.std.proofs.lemmas.Result.{IfOk-weaker}
 use Rattle.tx_events.specs.declared.Event.TheVariants.{EndSync}
