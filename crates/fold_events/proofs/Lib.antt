@@ -1,0 +1,15 @@
+pub mod Lagging
+pub mod Types
+pub mod Steady
+pub mod Shown
+pub mod Calls
+pub mod Comes
+pub mod Nodes
+pub mod Threads
+pub mod Costs
+pub mod Fitting
+pub mod Linking
+pub mod Program
+pub mod Clean
+pub mod Safety
+pub mod Bound

@@ -1,0 +1,4 @@
+pub mod Lagging
+pub mod Keeping
+pub mod Declaring
+pub mod Corner

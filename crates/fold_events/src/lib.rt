@@ -1,0 +1,4 @@
+//! Constant folding keeps what a program does.
+#![tactic(auto)]
+
+pub mod laws;
