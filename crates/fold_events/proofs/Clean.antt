@@ -1,7 +1,6 @@
 -- Folding changes neither the calls in a tree nor whether a node in it is unsafe by itself.
 use Rattle.std.proofs.Common.{◌≡◌, ℕ, suc, ◌==◌, Bool, true, false, ◌&&◌, ◌||◌, refl, sym, ap, ap₂, subst, ◌∙◌, List, [], ◌∷◌, ◌++◌, Option, Some, None, cond, not}
 use Rattle.std.specs.Prelude.{unwrap_or, option_map}
-use Rattle.std.proofs.lemmas.Bool.{and_parts}
 use Rattle.std.proofs.lemmas.Option.{cond_some}
 use Rattle.cpp_tree.specs.tx_ints.declared.kinds.IntKind.{IntKind}
 use Rattle.cpp_tree.specs.tx_ints.declared.kinds.BinOp.{BinOp}
@@ -30,7 +29,8 @@ use Rattle.tree_fold.specs.Bare.{is_closure, is_bare_node, is_bare, are_bare}
 use Rattle.tree_fold.specs.Constants.{is_integer, integer_word, both_words, operator_word, comma_word, constant}
 use Rattle.tree_fold.specs.Folding.{stands_for, only_taken, taken_by, taken, literal_or, folded, all_folded}
 use Rattle.fold_events.proofs.Steady.{typ_kept}
-use Rattle.fold_events.proofs.Fitting.{zeros_stay, fits_kids, kid_fits, rest_fits, same_tree}
+use Rattle.fold_events.proofs.Comes.{guarded}
+use Rattle.fold_events.proofs.Fitting.{first_true, last_true, zeros_stay, fits_kids, kid_fits, rest_fits, same_tree}
 use Rattle.fold_events.specs.Declaring.{is_init, is_choice, declares_plainly, all_declare_plainly}
 
 -- Lists
@@ -46,12 +46,6 @@ counted_empty false xs e = refl
 no_calls : {A : Type 0} (b : Bool) (xs : List A) → xs ≡ [] → counted b xs ≡ []
 no_calls true xs e = e
 no_calls false xs e = refl
-
-first_true : (a b : Bool) → (a && b) ≡ true → a ≡ true
-first_true a b e = (and_parts a b e).0
-
-last_true : (a b : Bool) → (a && b) ≡ true → b ≡ true
-last_true a b e = (and_parts a b e).1
 
 false_of : (b : Bool) → not b ≡ true → b ≡ false
 false_of true e = absurd cc
@@ -144,10 +138,6 @@ module _ (v : ℕ → Bool) where
   literal_calls inside (node kind t cat at kids) w e = absurd cc
 
   -- The kids of a node that has a value
-
-  guarded : (b : Bool) (o : Option ℕ) (w : ℕ) → cond b o None ≡ Some w → o ≡ Some w
-  guarded true o w e = e
-  guarded false o w e = absurd cc
 
   -- what is empty and what is called, in kids
   record Nothing (ts : Trees) : Type 0 where

@@ -27,7 +27,7 @@ literal_or_word : (o : Option ℕ) (t : Typ) (place : At) (tree : Tree) (w : ℕ
 literal_or_word None t place tree w n e = absurd cc
 literal_or_word (Some u) t place tree w n e = ap Some (cond_some _ u w e).1
 
-guarded : (b : Bool) (o : Option ℕ) (w : ℕ) → cond b o None ≡ Some w → o ≡ Some w
+pub guarded : (b : Bool) (o : Option ℕ) (w : ℕ) → cond b o None ≡ Some w → o ≡ Some w
 guarded true o w e = e
 guarded false o w e = absurd cc
 

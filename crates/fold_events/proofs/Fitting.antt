@@ -27,10 +27,10 @@ use Rattle.fold_events.proofs.Steady.{is_unmarked, mark, may_replace, replacing,
 
 -- Parts of the tests
 
-last_true : (a b : Bool) → (a && b) ≡ true → b ≡ true
+pub last_true : (a b : Bool) → (a && b) ≡ true → b ≡ true
 last_true a b e = (and_parts a b e).1
 
-first_true : (a b : Bool) → (a && b) ≡ true → a ≡ true
+pub first_true : (a b : Bool) → (a && b) ≡ true → a ≡ true
 first_true a b e = (and_parts a b e).0
 
 -- Kinds
