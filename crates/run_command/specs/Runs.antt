@@ -6,6 +6,7 @@ use Rattle.cpp_tree.specs.declared.program.Program.{Program}
 use Rattle.cpp_tree.specs.Units.{program_of}
 use Rattle.cpp_tree.specs.WellFormed.{WellFormed}
 use Rattle.exec_command.specs.Exec.{DecidesObjects}
+use Rattle.source_runs.specs.Sources.{IsOfSource}
 use Rattle.source_verdict.specs.Verdict.{Accepts, RefusesTexts}
 use Rattle.tx_answers.specs.declared.answer.Answer.{Answer}
 use Rattle.tree_fold.specs.Programs.{folded_program}
@@ -30,11 +31,16 @@ pub record RunsSome (o : RunOptions) (input entries : List ℕ) (a : Answer) (wr
   pub are_objects : All IsObject objects
   pub decides : DecidesObjects o objects input entries a writes
 
+-- A program is run: some objects, and what was run of them is a run of the program's source, in the order that is answered.
+pub record RunsProgram (o : RunOptions) (p : Program) (input entries : List ℕ) (a : Answer) (writes : List Written) : Type 0 where
+  pub some : RunsSome o input entries a writes
+  pub source : IsOfSource p input a
+
 -- a safe program is compiled and run
 pub record CompilesAndRuns (o : RunOptions) (fold : Bool) (p : Program) (input entries : List ℕ) (a : Answer) (writes : List Written) : Type 0 where
   pub program : Program
   pub compiled : Compiled fold p program
-  pub runs : RunsSome o input entries a writes
+  pub runs : RunsProgram o program input entries a writes
 
 -- the first refusal of the texts; or they are a safe program, which is compiled and run
 pub data DecidesTexts (o : RunOptions) (fold : Bool) (names texts : List (List ℕ)) (input entries : List ℕ) (a : Answer) (writes : List Written) : Type 0 where

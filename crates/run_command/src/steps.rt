@@ -9,11 +9,13 @@ ghost use Rattle.tx_code.specs.WellFormed.{IsObject};
 ghost use Rattle.cpp_tree.specs.tx_events.declared.TheConstants.{THREAD_LIMIT};
 ghost use Rattle.cpp_tree.specs.Units.{program_of};
 ghost use Rattle.cpp_tree.specs.WellFormed.{WellFormed};
+ghost use Rattle.source_runs.specs.Sources.{IsOfSource};
 ghost use Rattle.tx_safety.specs.Answers.{checked_in};
 ghost use Rattle.tx_safety.specs.Safe.{IsSafe};
-ghost use Rattle.run_command.specs.Runs.{Compiled, CompilesAndRuns, DecidesTexts, RunsSome};
+ghost use Rattle.run_command.specs.Runs.{Compiled, CompilesAndRuns, DecidesTexts, RunsProgram, RunsSome};
 
 use exec_command::steps::with_objects;
+use source_runs::is_of_source;
 use source_verdict::{Verdict, verdict_of};
 use std::alloc::{AllocError, Global};
 use tx_answers::Decision;
@@ -52,7 +54,24 @@ pub fn folded_if(alloc: Global, fold: bool, safe: SafeProgram) -> Result<SafePro
     tree_fold::fold(alloc, safe)
 }
 
-// The objects of a program are run.
+/// What was decided, where what was run is a run of the program's source. No other run was ever seen; one would count as want of memory, so that
+/// nothing is written of it.
+pub fn held_against_source(
+    alloc: Global,
+    safe: &SafeProgram,
+    input: &[u8],
+    decision: Decision,
+) -> Result<Decision, AllocError>
+    ensures same { IfOk result (λ d. d ≡ decision) }
+    ensures source { IfOk result (λ d. IsOfSource (checked_in safe.now) input.now d.answer) }
+{
+    if !is_of_source(alloc, safe, input, &decision.answer)? {
+        return Err(AllocError);
+    }
+    Ok(decision)
+}
+
+// The objects of a program are run, and the run is held against the source.
 fn run_program(
     alloc: Global,
     options: &RunOptions,
@@ -64,10 +83,12 @@ fn run_program(
 ) -> Result<Decision, AllocError>
     requires options { CanRun options.now }
     requires threads { list_all (λ t. nat_lt t THREAD_LIMIT) entries.now ≡ true }
-    ensures { IfOk result (λ d. RunsSome options.now input.items entries.now d.answer (map written_of d.writes.items)) }
+    ensures { IfOk result (λ d. RunsProgram options.now (checked_in safe.now) input.items entries.now d.answer (map written_of d.writes.items)) }
 {
     let objects = unit_objects(alloc, safe, names, texts)?;
-    with_all(alloc, options, objects.as_slice(), input, entries)
+    let given = Vec::from_slice(alloc, input.as_slice())?;
+    let decision = with_all(alloc, options, objects.as_slice(), given, entries)?;
+    held_against_source(alloc, safe, input.as_slice(), decision)
 }
 
 // A program that is accepted is compiled and run.

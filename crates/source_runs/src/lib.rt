@@ -1,0 +1,99 @@
+//! Whether a run is one of its source: its order, replayed with the threads of the source, has its output and its end.
+#![tactic(auto)]
+
+ghost use Rattle.std.specs.Prelude.{◌≡◌, IfOk, true};
+ghost use Rattle.cpp_tree.specs.Units.{program_of};
+ghost use Rattle.source_runs.specs.Sources.{IsSourceRun, RunsTo, IsOfSource, end_in};
+ghost use Rattle.src_bind.specs.Bounds.{given};
+ghost use Rattle.src_bind.specs.Tables.{CanBind, typed};
+ghost use Rattle.src_replay.specs.Orders.{Answers};
+ghost use Rattle.tx_safety.specs.Answers.{checked_in};
+
+use src_bind::{Bound, bind};
+use src_link::{can_bind, choices};
+use src_replay::{ReplayFault, Replayed, replay};
+use std::alloc::{AllocError, Global};
+use tx_answers::Answer;
+use tx_events::End;
+use tx_safety::SafeProgram;
+
+// The end of a run whose replay ends so.
+fn end_of(end: Option<End>) -> End
+    ensures { result ≡ end_in end }
+{
+    match end {
+        Some(end) => end,
+        None => End::StepsOut,
+    }
+}
+
+// Whether a replay comes to this output and end.
+fn agrees(replayed: &Replayed, out: &[u8], end: End) -> bool
+    ensures out { result ≡ true → out.now ≡ replayed.now.out.items }
+    ensures end { result ≡ true → end ≡ end_in replayed.now.end }
+{
+    replayed.out.as_slice() == out && end_of(replayed.end) == end
+}
+
+// Whether the order of a bound program comes to this output and end.
+fn bound_runs<'a>(
+    alloc: Global,
+    bound: &'a Bound<'a>,
+    input: &'a [u8],
+    order: &[u8],
+    out: &[u8],
+    end: End,
+) -> Result<bool, AllocError>
+    requires { CanBind (typed (given bound.now)) }
+    ensures { IfOk result (λ yes. yes ≡ true → RunsTo bound.now input.now order.now out.now end) }
+{
+    match replay(alloc, bound, input, order, u32::MAX) {
+        Ok(replayed) => Ok(agrees(&replayed, out, end)),
+        Err(ReplayFault::NotARun { .. }) | Err(ReplayFault::Spent { .. }) => Ok(false),
+        Err(ReplayFault::Memory) => Err(AllocError),
+    }
+}
+
+/// Whether the threads of the program's source, run in this order, write this and end so: each entry is one step of the thread of that
+/// number, or one whole outermost atomic block, and `StepsOut` says that the program has not ended. Each step of a thread counts one, and of a
+/// run that takes more than 4,294,967,295 the answer is no, as of one that cannot be bound. The time grows with the steps.
+pub fn is_source_run(
+    alloc: Global,
+    safe: &SafeProgram,
+    input: &[u8],
+    order: &[u8],
+    out: &[u8],
+    end: End,
+) -> Result<bool, AllocError>
+    ensures { IfOk result (λ yes. yes ≡ true → IsSourceRun (checked_in safe.now) input.now order.now out.now end) }
+{
+    let program = safe.program();
+    if !can_bind(alloc, program)? {
+        return Ok(false);
+    }
+    let choices = choices(alloc, safe)?;
+    let bound = bind(alloc, program, &choices)?;
+    bound_runs(alloc, &bound, input, order, out, end)
+}
+
+/// Whether what was run, if anything was, is a run of the program's source: the order of the answer, replayed on the source, has its output and its end.
+pub fn is_of_source(
+    alloc: Global,
+    safe: &SafeProgram,
+    input: &[u8],
+    answer: &Answer,
+) -> Result<bool, AllocError>
+    ensures { IfOk result (λ yes. yes ≡ true → IsOfSource (checked_in safe.now) input.now answer.now) }
+{
+    match &answer.ran {
+        Some(ran) => is_source_run(
+            alloc,
+            safe,
+            input,
+            ran.order.as_slice(),
+            ran.out.as_slice(),
+            ran.end,
+        ),
+        None => Ok(true),
+    }
+}
