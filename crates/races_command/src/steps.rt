@@ -11,13 +11,13 @@ ghost use Rattle.run_command.specs.cpp_tree.Units.{program_of};
 ghost use Rattle.run_command.specs.cpp_tree.WellFormed.{WellFormed};
 ghost use Rattle.run_command.specs.tx_safety.Answers.{checked_in};
 ghost use Rattle.run_command.specs.tx_safety.Safe.{IsSafe};
-ghost use Rattle.races_command.specs.Commands.{CompilesAndRaces, DecidesTexts, RacesSome};
+ghost use Rattle.races_command.specs.Commands.{CompilesAndRaces, DecidesTexts, RacesSome, RacesProgram};
 
 use object_races::with_objects;
 use run_command::below::{
     Decision, Object, RunOptions, SafeProgram, Verdict, unit_objects, verdict_of,
 };
-use run_command::folded_if;
+use run_command::{folded_if, held_against_source};
 use std::alloc::{AllocError, Global};
 
 // Objects are linked, verified and run, and the races of the run are reported.
@@ -37,7 +37,7 @@ fn with_all(
     with_objects(alloc, options, file, objects, input, entries)
 }
 
-// The objects of a program are run, and the races of the run are reported.
+// The objects of a program are run, and the races of the run are reported; the run is held against the source.
 fn run_program(
     alloc: Global,
     options: &RunOptions,
@@ -50,10 +50,12 @@ fn run_program(
 ) -> Result<Decision, AllocError>
     requires options { CanRun options.now }
     requires threads { list_all (λ t. nat_lt t THREAD_LIMIT) entries.now ≡ true }
-    ensures { IfOk result (λ d. RacesSome options.now file.now input.items entries.now d.answer (map written_of d.writes.items)) }
+    ensures { IfOk result (λ d. RacesProgram options.now file.now (checked_in safe.now) input.items entries.now d.answer (map written_of d.writes.items)) }
 {
     let objects = unit_objects(alloc, safe, names, texts)?;
-    with_all(alloc, options, file, objects.as_slice(), input, entries)
+    let given = Vec::from_slice(alloc, input.as_slice())?;
+    let decision = with_all(alloc, options, file, objects.as_slice(), given, entries)?;
+    held_against_source(alloc, safe, input.as_slice(), decision)
 }
 
 // A program that is accepted is compiled, with `fold` the program that it folds to, and run.

@@ -10,4 +10,4 @@ mod steps;
 pub use building::build;
 pub use running::run;
 pub use selftesting::selftest;
-pub use steps::folded_if;
+pub use steps::{folded_if, held_against_source};
