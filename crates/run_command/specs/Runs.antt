@@ -9,6 +9,7 @@ use Rattle.exec_command.specs.Exec.{DecidesObjects}
 use Rattle.source_runs.specs.Sources.{IsOfSource}
 use Rattle.source_verdict.specs.Verdict.{Accepts, RefusesTexts}
 use Rattle.tx_answers.specs.declared.answer.Answer.{Answer}
+use Rattle.tx_answers.specs.declared.ends.Decision.{Decision}
 use Rattle.tree_fold.specs.Programs.{folded_program}
 use Rattle.tx_code.specs.Objects.{ObjectView}
 use Rattle.tx_code.specs.WellFormed.{IsObject}
@@ -30,6 +31,11 @@ pub record RunsSome (o : RunOptions) (input entries : List ℕ) (a : Answer) (wr
   pub objects : List ObjectView
   pub are_objects : All IsObject objects
   pub decides : DecidesObjects o objects input entries a writes
+
+-- A decision stands as it was, and what was run is a run of the program's source.
+pub record IsHeld (p : Program) (input : List ℕ) (old new : Decision) : Type 0 where
+  pub same : new ≡ old
+  pub source : IsOfSource p input new.answer
 
 -- A program is run: some objects, and what was run of them is a run of the program's source, in the order that is answered.
 pub record RunsProgram (o : RunOptions) (p : Program) (input entries : List ℕ) (a : Answer) (writes : List Written) : Type 0 where

@@ -9,10 +9,9 @@ ghost use Rattle.tx_code.specs.WellFormed.{IsObject};
 ghost use Rattle.cpp_tree.specs.tx_events.declared.TheConstants.{THREAD_LIMIT};
 ghost use Rattle.cpp_tree.specs.Units.{program_of};
 ghost use Rattle.cpp_tree.specs.WellFormed.{WellFormed};
-ghost use Rattle.source_runs.specs.Sources.{IsOfSource};
 ghost use Rattle.tx_safety.specs.Answers.{checked_in};
 ghost use Rattle.tx_safety.specs.Safe.{IsSafe};
-ghost use Rattle.run_command.specs.Runs.{Compiled, CompilesAndRuns, DecidesTexts, RunsProgram, RunsSome};
+ghost use Rattle.run_command.specs.Runs.{Compiled, CompilesAndRuns, DecidesTexts, IsHeld, RunsProgram, RunsSome};
 
 use exec_command::steps::with_objects;
 use source_runs::is_of_source;
@@ -62,8 +61,7 @@ pub fn held_against_source(
     input: &[u8],
     decision: Decision,
 ) -> Result<Decision, AllocError>
-    ensures same { IfOk result (λ d. d ≡ decision) }
-    ensures source { IfOk result (λ d. IsOfSource (checked_in safe.now) input.now d.answer) }
+    ensures { IfOk result (IsHeld (checked_in safe.now) input.now decision) }
 {
     if !is_of_source(alloc, safe, input, &decision.answer)? {
         return Err(AllocError);
