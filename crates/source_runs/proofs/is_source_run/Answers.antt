@@ -15,7 +15,7 @@ are_bound : (b : Bound) (p q : Program) (cs : Choices) → given b ≡ record { 
 are_bound b p q cs e is ch can = record {
   program = subst (λ (g : Given). g.program ≡ p) (sym e) is;
   choices = subst (λ (g : Given). AreChoices (program_of p) g.choices) (sym e) (subst (λ (x : Program). AreChoices (program_of x) cs) is ch);
-  can_bind = subst (λ (g : Given). CanBind (typed g)) (sym e) can
+  can_bind = subst (λ (g : Given). CanBind (typed g)) (sym e) can;
 }
 
 pub returns : goal.returns
@@ -23,7 +23,8 @@ returns c = IfOk-weaker c.bound_runs.result _ _
     (λ yes h e. record {
       bound = c.in_ok-bound.bound;
       is_bound = are_bound c.in_ok-bound.bound _ _ c.in_ok-choices.choices c.in_ok-bound.ensures c.program-program.ensures.program
-        (subst (λ x. AreChoices (program_of x) c.in_ok-choices.choices) (sym c.program-program.ensures.program) c.in_ok-choices.ensures)
-        (c.in_ok-can_bind.ensures (search rules));
-      runs = h e })
+          (subst (λ x. AreChoices (program_of x) c.in_ok-choices.choices) (sym c.program-program.ensures.program) c.in_ok-choices.ensures)
+          (c.in_ok-can_bind.ensures (search rules));
+      runs = h e;
+    })
     c.bound_runs.ensures
