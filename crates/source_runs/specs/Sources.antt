@@ -1,49 +1,60 @@
 -- A run of a program's source.
-use Rattle.std.specs.Prelude.{◌≡◌, ℕ, List, Option, Some, None}
+use Rattle.std.specs.Prelude.{◌≡◌, ℕ, ◌+◌, ◌*◌, ◌/◌, List, Option, Some, None}
 use Rattle.cpp_tree.specs.Units.{program_of}
 use Rattle.cpp_tree.specs.declared.program.Program.{Program}
-use Rattle.src_bind.specs.Bounds.{given}
-use Rattle.src_bind.specs.Tables.{CanBind, typed}
-use Rattle.src_bind.specs.declared.bound_program.Bound.{Bound}
+use Rattle.src_bind.specs.Tables.{Given, typed, linked_of}
+use Rattle.src_bind.specs.declared.choices.Choices.{Choices}
 use Rattle.src_link.specs.Slots.{AreChoices}
 use Rattle.src_mean.specs.Frames.{State}
-use Rattle.src_mean.specs.Source.{source}
-use Rattle.src_replay.specs.Orders.{program_in, layout_in, first_in}
+use Rattle.src_mean.specs.Links.{first_cells, globals_size}
+use Rattle.src_mean.specs.Source.{source, main_state}
 use Rattle.tx_answers.specs.declared.answer.Answer.{Answer}
-use Rattle.tx_events.specs.World.{World, Replays}
+use Rattle.tx_events.specs.Memory.{MemoryLayout, no_bytes, with_cells}
+use Rattle.tx_events.specs.World.{World, Replays, first_world}
 use Rattle.tx_events.specs.declared.End.{End}
 use Rattle.tx_events.specs.declared.End.TheVariants.{StepsOut}
+use Rattle.tx_events.specs.declared.TheConstants.{THREAD_LIMIT}
 use Rattle.tx_machine.specs.declared.run.Ran.{Ran}
 use Rattle.vm_thread.specs.declared.thread.Here.{Here}
 
--- the program with its symbols bound: functions that are safe have safe bodies, slots name the final overriders, and thread 0 starts in `main`
-pub record IsBound (p : Program) (b : Bound) : Type 0 where
-  pub program : (given b).program ≡ p
-  pub choices : AreChoices (program_of p) (given b).choices
-  pub can_bind : CanBind (typed (given b))
+-- the globals of a linked program in whole words, and as many stacks as there may be threads
+abbrev pub layout_of : Given → MemoryLayout
+layout_of g = record { globals = (globals_size (typed g) + 7) / 8 * 8; limit = THREAD_LIMIT }
 
--- the end that the world has, or StepsOut where it has none
+-- the world at the start: the first bytes of the globals, this input, and thread 0 at the start of `main`
+abbrev pub first_of : Given → List ℕ → World State
+first_of g input = first_world (with_cells no_bytes (first_cells (typed g) (linked_of g))) input (main_state (linked_of g))
+
+-- the end that a world has, or StepsOut where it has none
 abbrev pub end_in : Option End → End
 end_in None = StepsOut
 end_in (Some end) = end
 
--- Run in this order, the bound program writes this and ends so.
-pub record RunsTo (b : Bound) (input order out : List ℕ) (end : End) : Type 0 where
+-- Run in this order, each entry one step of a thread of the source or one whole outermost atomic block, the linked program writes this and ends so.
+pub record RunsTo (g : Given) (input order out : List ℕ) (end : End) : Type 0 where
   pub world : World State
-  pub replays : Replays (source (program_in b)) (layout_in b) (first_in b input) order world
+  pub replays : Replays (source (linked_of g)) (layout_of g) (first_of g input) order world
   pub out_is : out ≡ world.out
   pub end_is : end ≡ end_in world.end
 
--- Run in this order, each entry one step of a thread of the source or one whole outermost atomic block, the program writes this and ends so.
+-- So does a program, linked by its own choices: its safe functions have safe bodies, slots name the final overriders, and thread 0 starts in `main`.
 pub record IsSourceRun (p : Program) (input order out : List ℕ) (end : End) : Type 0 where
-  pub bound : Bound
-  pub is_bound : IsBound p bound
-  pub runs : RunsTo bound input order out end
+  pub choices : Choices
+  pub are_choices : AreChoices (program_of p) choices
+  pub runs : RunsTo (record { program = p; choices = choices }) input order out end
 
--- What was run, if anything was, is a run of the source in the order that was answered.
+-- What was run, if anything was, is such a run, in the order that is answered.
 abbrev pub OfSource : Program → List ℕ → Option (Ran Here) → Type 0
 OfSource p input None = Unit {0}
 OfSource p input (Some ran) = IsSourceRun p input ran.order.items ran.out.items ran.end
 
 abbrev pub IsOfSource : Program → List ℕ → Answer → Type 0
 IsOfSource p input a = OfSource p input a.ran
+
+-- the same of a program that is linked by choices that are given
+abbrev pub OfLinked : Given → List ℕ → Option (Ran Here) → Type 0
+OfLinked g input None = Unit {0}
+OfLinked g input (Some ran) = RunsTo g input ran.order.items ran.out.items ran.end
+
+abbrev pub IsOfLinked : Given → List ℕ → Answer → Type 0
+IsOfLinked g input a = OfLinked g input a.ran

@@ -2,20 +2,17 @@
 #![tactic(auto)]
 
 ghost use Rattle.std.specs.Prelude.{◌≡◌, IfOk, true};
-ghost use Rattle.cpp_tree.specs.Units.{program_of};
-ghost use Rattle.source_runs.specs.Sources.{IsSourceRun, RunsTo, IsOfSource, end_in};
+ghost use Rattle.source_runs.specs.Sources.{RunsTo, IsOfLinked, end_in};
 ghost use Rattle.src_bind.specs.Bounds.{given};
 ghost use Rattle.src_bind.specs.Tables.{CanBind, typed};
-ghost use Rattle.src_replay.specs.Orders.{Answers};
-ghost use Rattle.tx_safety.specs.Answers.{checked_in};
 
-use src_bind::{Bound, bind};
-use src_link::{can_bind, choices};
+use cpp_tree::Program;
+use src_bind::{Bound, Choices, bind};
+use src_link::can_bind;
 use src_replay::{ReplayFault, Replayed, replay};
 use std::alloc::{AllocError, Global};
 use tx_answers::Answer;
 use tx_events::End;
-use tx_safety::SafeProgram;
 
 // The end of a run whose replay ends so.
 fn end_of(end: Option<End>) -> End
@@ -45,7 +42,7 @@ fn bound_runs<'a>(
     end: End,
 ) -> Result<bool, AllocError>
     requires { CanBind (typed (given bound.now)) }
-    ensures { IfOk result (λ yes. yes ≡ true → RunsTo bound.now input.now order.now out.now end) }
+    ensures { IfOk result (λ yes. yes ≡ true → RunsTo (given bound.now) input.now order.now out.now end) }
 {
     match replay(alloc, bound, input, order, u32::MAX) {
         Ok(replayed) => Ok(agrees(&replayed, out, end)),
@@ -55,40 +52,43 @@ fn bound_runs<'a>(
 }
 
 /// Whether the threads of the program's source, run in this order, write this and end so: each entry is one step of the thread of that
-/// number, or one whole outermost atomic block, and `StepsOut` says that the program has not ended. Each step of a thread counts one, and of a
-/// run that takes more than 4,294,967,295 the answer is no, as of one that cannot be bound. The time grows with the steps.
+/// number, or one whole outermost atomic block, and `StepsOut` says that the program has not ended. The program is linked by these choices.
+/// Each step of a thread counts one, and of a run that takes more than 4,294,967,295 the answer is no, as of a program that cannot be bound.
+/// The time grows with the steps.
 pub fn is_source_run(
     alloc: Global,
-    safe: &SafeProgram,
+    program: &Program,
+    choices: &Choices,
     input: &[u8],
     order: &[u8],
     out: &[u8],
     end: End,
 ) -> Result<bool, AllocError>
-    ensures { IfOk result (λ yes. yes ≡ true → IsSourceRun (checked_in safe.now) input.now order.now out.now end) }
+    ensures { IfOk result (λ yes. yes ≡ true → RunsTo (record { program = program.now; choices = choices.now }) input.now order.now out.now end) }
 {
-    let program = safe.program();
     if !can_bind(alloc, program)? {
         return Ok(false);
     }
-    let choices = choices(alloc, safe)?;
-    let bound = bind(alloc, program, &choices)?;
+    let bound = bind(alloc, program, choices)?;
     bound_runs(alloc, &bound, input, order, out, end)
 }
 
-/// Whether what was run, if anything was, is a run of the program's source: the order of the answer, replayed on the source, has its output and its end.
+/// Whether what was run, if anything was, is a run of the program's source: the order of the answer, replayed on the source, has its output and
+/// its end.
 pub fn is_of_source(
     alloc: Global,
-    safe: &SafeProgram,
+    program: &Program,
+    choices: &Choices,
     input: &[u8],
     answer: &Answer,
 ) -> Result<bool, AllocError>
-    ensures { IfOk result (λ yes. yes ≡ true → IsOfSource (checked_in safe.now) input.now answer.now) }
+    ensures { IfOk result (λ yes. yes ≡ true → IsOfLinked (record { program = program.now; choices = choices.now }) input.now answer.now) }
 {
     match &answer.ran {
         Some(ran) => is_source_run(
             alloc,
-            safe,
+            program,
+            choices,
             input,
             ran.order.as_slice(),
             ran.out.as_slice(),
