@@ -6,7 +6,8 @@ use Rattle.cpp_tree.specs.declared.program.Program.{Program}
 use Rattle.cpp_tree.specs.Units.{program_of}
 use Rattle.cpp_tree.specs.WellFormed.{WellFormed}
 use Rattle.exec_command.specs.Exec.{DecidesObjects}
-use Rattle.source_runs.specs.Sources.{IsOfSource}
+use Rattle.source_runs.specs.Sources.{IsOfLinked, IsOfSource}
+use Rattle.src_bind.specs.Tables.{Given}
 use Rattle.source_verdict.specs.Verdict.{Accepts, RefusesTexts}
 use Rattle.tx_answers.specs.declared.answer.Answer.{Answer}
 use Rattle.tx_answers.specs.declared.ends.Decision.{Decision}
@@ -32,21 +33,22 @@ pub record RunsSome (o : RunOptions) (input entries : List ℕ) (a : Answer) (wr
   pub are_objects : All IsObject objects
   pub decides : DecidesObjects o objects input entries a writes
 
--- A decision stands as it was, and what was run is a run of the program's source.
-pub record IsHeld (p : Program) (input : List ℕ) (old new : Decision) : Type 0 where
+-- A decision stands as it was, and what was run is a run of the linked program.
+pub record IsHeld (g : Given) (input : List ℕ) (old new : Decision) : Type 0 where
   pub same : new ≡ old
-  pub source : IsOfSource p input new.answer
+  pub source : IsOfLinked g input new.answer
 
--- A program is run: some objects, and what was run of them is a run of the program's source, in the order that is answered.
-pub record RunsProgram (o : RunOptions) (p : Program) (input entries : List ℕ) (a : Answer) (writes : List Written) : Type 0 where
+-- A linked program is run: some objects, and what was run of them is a run of its source, in the order that is answered.
+pub record RunsLinked (o : RunOptions) (g : Given) (input entries : List ℕ) (a : Answer) (writes : List Written) : Type 0 where
   pub some : RunsSome o input entries a writes
-  pub source : IsOfSource p input a
+  pub source : IsOfLinked g input a
 
--- a safe program is compiled and run
+-- A safe program is compiled, with `--fold` the program that it folds to, and run; what was run is a run of the program itself, in the order that is answered.
 pub record CompilesAndRuns (o : RunOptions) (fold : Bool) (p : Program) (input entries : List ℕ) (a : Answer) (writes : List Written) : Type 0 where
   pub program : Program
   pub compiled : Compiled fold p program
-  pub runs : RunsProgram o program input entries a writes
+  pub runs : RunsSome o input entries a writes
+  pub source : IsOfSource p input a
 
 -- the first refusal of the texts; or they are a safe program, which is compiled and run
 pub data DecidesTexts (o : RunOptions) (fold : Bool) (names texts : List (List ℕ)) (input entries : List ℕ) (a : Answer) (writes : List Written) : Type 0 where

@@ -3,6 +3,7 @@
 
 pub mod below;
 mod building;
+mod laws;
 mod running;
 mod selftesting;
 mod steps;

@@ -11,11 +11,15 @@ ghost use Rattle.cpp_tree.specs.Units.{program_of};
 ghost use Rattle.cpp_tree.specs.WellFormed.{WellFormed};
 ghost use Rattle.tx_safety.specs.Answers.{checked_in};
 ghost use Rattle.tx_safety.specs.Safe.{IsSafe};
-ghost use Rattle.run_command.specs.Runs.{Compiled, CompilesAndRuns, DecidesTexts, IsHeld, RunsProgram, RunsSome};
+ghost use Rattle.run_command.specs.Runs.{Compiled, CompilesAndRuns, DecidesTexts, IsHeld, RunsLinked, RunsSome};
 
+use crate::laws::runs_of_compiled;
+use cpp_tree::Program;
 use exec_command::steps::with_objects;
 use source_runs::is_of_source;
 use source_verdict::{Verdict, verdict_of};
+use src_bind::Choices;
+use src_link::choices;
 use std::alloc::{AllocError, Global};
 use tx_answers::Decision;
 use tx_code::Object;
@@ -57,23 +61,25 @@ pub fn folded_if(alloc: Global, fold: bool, safe: SafeProgram) -> Result<SafePro
 /// nothing is written of it.
 pub fn held_against_source(
     alloc: Global,
-    safe: &SafeProgram,
+    program: &Program,
+    choices: &Choices,
     input: &[u8],
     decision: Decision,
 ) -> Result<Decision, AllocError>
-    ensures { IfOk result (IsHeld (checked_in safe.now) input.now decision) }
+    ensures { IfOk result (IsHeld (record { program = program.now; choices = choices.now }) input.now decision) }
 {
-    if !is_of_source(alloc, safe, input, &decision.answer)? {
+    if !is_of_source(alloc, program, choices, input, &decision.answer)? {
         return Err(AllocError);
     }
     Ok(decision)
 }
 
-// The objects of a program are run, and the run is held against the source.
+// The objects of a program are run, and the run is held against the source, linked by these choices.
 fn run_program(
     alloc: Global,
     options: &RunOptions,
     safe: &SafeProgram,
+    choices: &Choices,
     names: &[String],
     texts: &[Vec<u8>],
     input: Vec<u8>,
@@ -81,15 +87,15 @@ fn run_program(
 ) -> Result<Decision, AllocError>
     requires options { CanRun options.now }
     requires threads { list_all (λ t. nat_lt t THREAD_LIMIT) entries.now ≡ true }
-    ensures { IfOk result (λ d. RunsProgram options.now (checked_in safe.now) input.items entries.now d.answer (map written_of d.writes.items)) }
+    ensures { IfOk result (λ d. RunsLinked options.now (record { program = checked_in safe.now; choices = choices.now }) input.items entries.now d.answer (map written_of d.writes.items)) }
 {
     let objects = unit_objects(alloc, safe, names, texts)?;
     let given = Vec::from_slice(alloc, input.as_slice())?;
     let decision = with_all(alloc, options, objects.as_slice(), given, entries)?;
-    held_against_source(alloc, safe, input.as_slice(), decision)
+    held_against_source(alloc, safe.program(), choices, input.as_slice(), decision)
 }
 
-// A program that is accepted is compiled and run.
+// A program that is accepted is compiled and run. A folded program is linked by the choices of the program that it was folded from.
 fn compiled(
     alloc: Global,
     options: &RunOptions,
@@ -106,8 +112,12 @@ fn compiled(
     requires safe { IsSafe (program_of (checked_in safe)) }
     ensures { IfOk result (λ d. CompilesAndRuns options.now fold (checked_in safe) input.items entries.now d.answer (map written_of d.writes.items)) }
 {
+    let choices = choices(alloc, &safe)?;
     let program = folded_if(alloc, fold, safe)?;
-    run_program(alloc, options, &program, names, texts, input, entries)
+    runs_of_compiled();
+    run_program(
+        alloc, options, &program, &choices, names, texts, input, entries,
+    )
 }
 
 /// What is decided on texts whose files have these names.

@@ -1,29 +1,19 @@
 -- A run of a program's source.
-use Rattle.std.specs.Prelude.{◌≡◌, ℕ, ◌+◌, ◌*◌, ◌/◌, List, Option, Some, None}
+use Rattle.std.specs.Prelude.{◌≡◌, ℕ, List, Option, Some, None}
 use Rattle.cpp_tree.specs.Units.{program_of}
 use Rattle.cpp_tree.specs.declared.program.Program.{Program}
-use Rattle.src_bind.specs.Tables.{Given, typed, linked_of}
+use Rattle.src_bind.specs.Tables.{Given}
 use Rattle.src_bind.specs.declared.choices.Choices.{Choices}
 use Rattle.src_link.specs.Slots.{AreChoices}
 use Rattle.src_mean.specs.Frames.{State}
-use Rattle.src_mean.specs.Links.{first_cells, globals_size}
-use Rattle.src_mean.specs.Source.{source, main_state}
+use Rattle.src_mean.specs.Source.{source}
+use Rattle.src_replay.specs.Orders.{program_in, layout_in, first_in}
 use Rattle.tx_answers.specs.declared.answer.Answer.{Answer}
-use Rattle.tx_events.specs.Memory.{MemoryLayout, no_bytes, with_cells}
-use Rattle.tx_events.specs.World.{World, Replays, first_world}
+use Rattle.tx_events.specs.World.{World, Replays}
 use Rattle.tx_events.specs.declared.End.{End}
 use Rattle.tx_events.specs.declared.End.TheVariants.{StepsOut}
-use Rattle.tx_events.specs.declared.TheConstants.{THREAD_LIMIT}
 use Rattle.tx_machine.specs.declared.run.Ran.{Ran}
 use Rattle.vm_thread.specs.declared.thread.Here.{Here}
-
--- the globals of a linked program in whole words, and as many stacks as there may be threads
-abbrev pub layout_of : Given → MemoryLayout
-layout_of g = record { globals = (globals_size (typed g) + 7) / 8 * 8; limit = THREAD_LIMIT }
-
--- the world at the start: the first bytes of the globals, this input, and thread 0 at the start of `main`
-abbrev pub first_of : Given → List ℕ → World State
-first_of g input = first_world (with_cells no_bytes (first_cells (typed g) (linked_of g))) input (main_state (linked_of g))
 
 -- the end that a world has, or StepsOut where it has none
 abbrev pub end_in : Option End → End
@@ -33,7 +23,7 @@ end_in (Some end) = end
 -- Run in this order, each entry one step of a thread of the source or one whole outermost atomic block, the linked program writes this and ends so.
 pub record RunsTo (g : Given) (input order out : List ℕ) (end : End) : Type 0 where
   pub world : World State
-  pub replays : Replays (source (linked_of g)) (layout_of g) (first_of g input) order world
+  pub replays : Replays (source (program_in g)) (layout_in g) (first_in g input) order world
   pub out_is : out ≡ world.out
   pub end_is : end ≡ end_in world.end
 
