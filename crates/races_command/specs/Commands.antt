@@ -8,7 +8,8 @@ use Rattle.object_races.specs.ObjectRaces.{DecidesObjects}
 use Rattle.run_command.specs.Commands.{source_files, wants_of, AreTexts, TooMany, no_files}
 use Rattle.run_command.specs.Runs.{Compiled}
 use Rattle.run_command.specs.schedules.Text.{Spells as Says, IsFirstBad, most_entries}
-use Rattle.run_command.specs.source_runs.Sources.{IsOfSource}
+use Rattle.run_command.specs.source_runs.Sources.{IsOfLinked, IsOfSource}
+use Rattle.run_command.specs.src_bind.Tables.{Given}
 use Rattle.run_command.specs.source_verdict.Verdict.{Accepts, RefusesTexts}
 use Rattle.run_command.specs.tx_answers.Ends.{Ends, Refuses}
 use Rattle.run_command.specs.tx_answers.declared.answer.Answer.{Answer}
@@ -25,16 +26,17 @@ pub record RacesSome (o : RunOptions) (file input entries : List ℕ) (a : Answe
   pub are_objects : All IsObject objects
   pub decides : DecidesObjects o file objects input entries a writes
 
--- A program is run and its races are reported: what was run is a run of the program's source, in the order that is answered.
-pub record RacesProgram (o : RunOptions) (file : List ℕ) (p : Program) (input entries : List ℕ) (a : Answer) (writes : List Written) : Type 0 where
+-- A linked program is run, and its races are reported; what was run is a run of its source, in the order that is answered.
+pub record RacesLinked (o : RunOptions) (file : List ℕ) (g : Given) (input entries : List ℕ) (a : Answer) (writes : List Written) : Type 0 where
   pub some : RacesSome o file input entries a writes
-  pub source : IsOfSource p input a
+  pub source : IsOfLinked g input a
 
 -- a safe program, with `fold` one that shows the program that it folds to, is compiled and run, and the races of that run are reported
 pub record CompilesAndRaces (o : RunOptions) (fold : Bool) (file : List ℕ) (p : Program) (input entries : List ℕ) (a : Answer) (writes : List Written) : Type 0 where
   pub program : Program
   pub compiled : Compiled fold p program
-  pub races : RacesProgram o file program input entries a writes
+  pub races : RacesSome o file input entries a writes
+  pub source : IsOfSource p input a
 
 -- the first refusal of the texts; or they are a safe program, which is compiled and run
 pub data DecidesTexts (o : RunOptions) (fold : Bool) (file : List ℕ) (names texts : List (List ℕ)) (input entries : List ℕ) (a : Answer) (writes : List Written) : Type 0 where

@@ -11,13 +11,16 @@ ghost use Rattle.run_command.specs.cpp_tree.Units.{program_of};
 ghost use Rattle.run_command.specs.cpp_tree.WellFormed.{WellFormed};
 ghost use Rattle.run_command.specs.tx_safety.Answers.{checked_in};
 ghost use Rattle.run_command.specs.tx_safety.Safe.{IsSafe};
-ghost use Rattle.races_command.specs.Commands.{CompilesAndRaces, DecidesTexts, RacesSome, RacesProgram};
+ghost use Rattle.races_command.specs.Commands.{CompilesAndRaces, DecidesTexts, RacesLinked, RacesSome};
 
 use object_races::with_objects;
 use run_command::below::{
     Decision, Object, RunOptions, SafeProgram, Verdict, unit_objects, verdict_of,
 };
+use run_command::laws::runs_of_compiled;
 use run_command::{folded_if, held_against_source};
+use src_bind::Choices;
+use src_link::choices;
 use std::alloc::{AllocError, Global};
 
 // Objects are linked, verified and run, and the races of the run are reported.
@@ -37,12 +40,13 @@ fn with_all(
     with_objects(alloc, options, file, objects, input, entries)
 }
 
-// The objects of a program are run, and the races of the run are reported; the run is held against the source.
+// The objects of a program are run, and the races of the run are reported; the run is held against the source, linked by these choices.
 fn run_program(
     alloc: Global,
     options: &RunOptions,
     file: &str,
     safe: &SafeProgram,
+    choices: &Choices,
     names: &[String],
     texts: &[Vec<u8>],
     input: Vec<u8>,
@@ -50,15 +54,16 @@ fn run_program(
 ) -> Result<Decision, AllocError>
     requires options { CanRun options.now }
     requires threads { list_all (λ t. nat_lt t THREAD_LIMIT) entries.now ≡ true }
-    ensures { IfOk result (λ d. RacesProgram options.now file.now (checked_in safe.now) input.items entries.now d.answer (map written_of d.writes.items)) }
+    ensures { IfOk result (λ d. RacesLinked options.now file.now (record { program = checked_in safe.now; choices = choices.now }) input.items entries.now d.answer (map written_of d.writes.items)) }
 {
     let objects = unit_objects(alloc, safe, names, texts)?;
     let given = Vec::from_slice(alloc, input.as_slice())?;
     let decision = with_all(alloc, options, file, objects.as_slice(), given, entries)?;
-    held_against_source(alloc, safe, input.as_slice(), decision)
+    held_against_source(alloc, safe.program(), choices, input.as_slice(), decision)
 }
 
-// A program that is accepted is compiled, with `fold` the program that it folds to, and run.
+// A program that is accepted is compiled, with `fold` the program that it folds to, and run. A folded program is linked by the choices of the
+// program that it was folded from.
 fn compiled(
     alloc: Global,
     options: &RunOptions,
@@ -76,8 +81,12 @@ fn compiled(
     requires safe { IsSafe (program_of (checked_in safe)) }
     ensures { IfOk result (λ d. CompilesAndRaces options.now fold file.now (checked_in safe) input.items entries.now d.answer (map written_of d.writes.items)) }
 {
+    let choices = choices(alloc, &safe)?;
     let program = folded_if(alloc, fold, safe)?;
-    run_program(alloc, options, file, &program, names, texts, input, entries)
+    runs_of_compiled();
+    run_program(
+        alloc, options, file, &program, &choices, names, texts, input, entries,
+    )
 }
 
 /// What is decided on texts whose files have these names; the report is written to `file`.

@@ -4,6 +4,7 @@ pub use Rattle.exec_command.specs as exec_command
 pub use Rattle.schedules.specs as schedules
 pub use Rattle.source_runs.specs as source_runs
 pub use Rattle.source_verdict.specs as source_verdict
+pub use Rattle.src_bind.specs as src_bind
 pub use Rattle.tx_answers.specs as tx_answers
 pub use Rattle.tx_code.specs as tx_code
 pub use Rattle.cpp_tree.specs.tx_events as tx_events

@@ -3,7 +3,7 @@
 
 pub mod below;
 mod building;
-mod laws;
+pub mod laws;
 mod running;
 mod selftesting;
 mod steps;
