@@ -16,7 +16,7 @@ use Rattle.src_mean.specs.Links.{Def, global_at, kept_globals, global_size, glob
 use Rattle.tx_unsafe.specs.Volatile.{has_volatile_part}
 use Rattle.tx_safety.specs.Safe.{is_safe}
 use Rattle.src_bind.specs.Infos.{says}
-use Rattle.src_bind.specs.Tables.{Given, name_in, no_name, slot_in, linked_of}
+use Rattle.src_bind.specs.Tables.{Given, name_in, no_name, slot_in, linked_of, typed}
 use Rattle.src_bind.specs.declared.choices.Choices.{Choices}
 use Rattle.src_link.specs.Slots.{slot_function, is_that, symbol_among, or_else, first_symbol, slot_symbol, safe_row, safe_rows, AreChoices}
 use Rattle.tree_fold.specs.Programs.{folded_func, folded_unit, folded_program}
@@ -135,9 +135,16 @@ module _ (p : Units) (well : WellFormed p) (safe : ℕ → ℕ → Bool) (names 
   pub bound_kept : bound_by (folded_program (program_of p)) ≡ program_shown (has_volatile_part (program_of p).classes) (bound_by (program_of p))
   bound_kept = ap₂ (λ (l : Program) (slot : ℕ → ℕ → ℕ → Option ℕ). record l { slot = slot }) (linked_kept p well safe no_name main) slots_kept
 
+bound_is : (g h : Given) → WellFormed g.program → program_of h.program ≡ folded_program (program_of g.program) → h.choices ≡ g.choices
+    → linked_of h ≡ program_shown (has_volatile_part (program_of g.program).classes) (linked_of g)
+bound_is g h well same choices =
+    let b = λ (t : TypedProgram) (c : Choices). record (linked (says c.safe.items) no_name c.main.items t) { slot = slot_in (name_in c.symbols.items) t } in
+    ap₂ b same choices ∙ bound_kept g.program well (says g.choices.safe.items) (name_in g.choices.symbols.items) g.choices.main.items
+
 pub bound_keeps : (g h : Given) → WellFormed g.program → program_of h.program ≡ folded_program (program_of g.program) → h.choices ≡ g.choices → Keeps (linked_of g) (linked_of h)
 bound_keeps g h well same choices =
-    let b = λ (t : TypedProgram) (c : Choices). record (linked (says c.safe.items) no_name c.main.items t) { slot = slot_in (name_in c.symbols.items) t } in
-    subst (λ (z : Program). Keeps (linked_of g) z)
-    (sym (ap₂ b same choices ∙ bound_kept g.program well (says g.choices.safe.items) (name_in g.choices.symbols.items) g.choices.main.items))
-    (shown_keeps (has_volatile_part (program_of g.program).classes) (linked_of g))
+    subst (λ (z : Program). Keeps (linked_of g) z) (sym (bound_is g h well same choices)) (shown_keeps (has_volatile_part (program_of g.program).classes) (linked_of g))
+
+pub bound_cells : (g h : Given) → WellFormed g.program → program_of h.program ≡ folded_program (program_of g.program) → h.choices ≡ g.choices
+    → first_cells (typed h) (linked_of h) ≡ first_cells (typed g) (linked_of g)
+bound_cells g h well same choices = ap₂ first_cells same (bound_is g h well same choices) ∙ cells_are_kept (typed g) (linked_of g)

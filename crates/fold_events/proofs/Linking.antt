@@ -165,7 +165,7 @@ module _ (p : Units) (well : WellFormed p) (v : ℕ → Bool) where
       let trees = trees_of (y.0).nodes.items in
       let g : slice_get (map (func_of trees) (y.0).funcs.items) n ≡ Some f = ap (λ (z : TypedUnit). slice_get z.funcs n) (y.2) ∙ x.2 in
       let w = found_in (func_of trees) (slice_get (y.0).funcs.items n) f (sym (map_get (func_of trees) (y.0).funcs.items n) ∙ g) in
-      subst (λ (z : UnitFunc). steady v (unwrap_or z.body (literal 0)) ≡ folded v (unwrap_or z.body (literal 0))) (w.2) (body_fits y.0 u w.0 n (w.0).body (y.1) (w.1) refl)
+      subst (λ (z : UnitFunc). steady v (unwrap_or z.body (literal 0)) ≡ folded v (unwrap_or z.body (literal 0))) {x = func_of trees (w.0)} (w.2) (body_fits y.0 u w.0 n (w.0).body (y.1) (w.1) refl)
 
 module _ (p : Units) (well : WellFormed p) (safe : ℕ → ℕ → Bool) (symbol : SlotFunc → Option (List ℕ)) (main : List ℕ) where
   abbrev typed : TypedProgram

@@ -6,7 +6,7 @@ ghost use Rattle.cpp_tree.specs.tx_events.Same.{SameEvents, StepsWithin};
 ghost use Rattle.cpp_tree.specs.declared.program.Program.{Program};
 ghost use Rattle.cpp_tree.specs.Units.{program_of};
 ghost use Rattle.cpp_tree.specs.WellFormed.{WellFormed};
-ghost use Rattle.src_bind.specs.Tables.{Given, linked_of};
+ghost use Rattle.src_bind.specs.Tables.{Given, typed, linked_of};
 ghost use Rattle.src_bind.specs.declared.choices.Choices.{Choices};
 ghost use Rattle.src_link.specs.Slots.{AreChoices};
 ghost use Rattle.src_mean.specs.Links.{first_cells, globals_size};
@@ -54,6 +54,7 @@ pub fn chosen_declaration()
 pub fn same_memory()
     ensures cells { (p : Program) (l : Linking) → WellFormed p → first_cells (folded_program (program_of p)) (linked_by l (folded_program (program_of p))) ≡ first_cells (program_of p) (linked_by l (program_of p)) }
     ensures size { (p : Program) → globals_size (folded_program (program_of p)) ≡ globals_size (program_of p) }
+    ensures bound { (g h : Given) → WellFormed g.program → program_of h.program ≡ folded_program (program_of g.program) → h.choices ≡ g.choices → first_cells (typed h) (linked_of h) ≡ first_cells (typed g) (linked_of g) }
 {}
 
 /// A thread that leaves out silent steps of another one has the same events, and takes up to each of them no more steps: `shown` gives for a
