@@ -21,17 +21,17 @@ use Rattle.tx_machine.specs.declared.run.Ran.{Ran}
 use Rattle.vm_thread.specs.declared.thread.Here.{Here}
 
 -- what the laws of folding say of a program and one that it folds to
-KeepsRuns : Type 0
+abbrev pub KeepsRuns : Type 0
 KeepsRuns = (g h : Given) → WellFormed g.program → program_of h.program ≡ folded_program (program_of g.program) → h.choices ≡ g.choices → Keeps (linked_of g) (linked_of h)
 
-KeepsSize : Type 0
+abbrev pub KeepsSize : Type 0
 KeepsSize = (p : Program) → globals_size (folded_program (program_of p)) ≡ globals_size (program_of p)
 
-KeepsCells : Type 0
+abbrev pub KeepsCells : Type 0
 KeepsCells = (g h : Given) → WellFormed g.program → program_of h.program ≡ folded_program (program_of g.program) → h.choices ≡ g.choices
     → first_cells (typed h) (linked_of h) ≡ first_cells (typed g) (linked_of g)
 
-memory_of : Given → ℕ → ℕ
+abbrev memory_of : Given → ℕ → ℕ
 memory_of g = with_cells no_bytes (first_cells (typed g) (linked_of g))
 
 runs_kept : KeepsRuns → KeepsSize → KeepsCells → (g h : Given) → WellFormed g.program → program_of h.program ≡ folded_program (program_of g.program) → h.choices ≡ g.choices
