@@ -1,8 +1,17 @@
 // Initialisers of members in the class (C++14 9.2 p5): elaborated as wholes, in a function of their own that has only
 // `this`.
 
-ghost use Rattle.std.specs.Prelude.{◌<◌, length};
-ghost use Rattle.elab_implicit.specs.elab_scopes.States.{made};
+ghost use Rattle.std.specs.Prelude.{◌≡◌, ◌<◌, ℕ, List, length, map, drop, true, IfOk, OnOk};
+ghost use Rattle.elab_entry.specs.cpp_types.Typ.{typ_of};
+ghost use Rattle.elab_entry.specs.cpp_lex.Tokens.{Lexeme, lexemes_of};
+ghost use Rattle.elab_entry.specs.cpp_ast.declared.arena.At.{At as SyntaxAt};
+ghost use Rattle.elab_entry.specs.cpp_ast.Trees.{node as syntax_node, Trees as SyntaxTrees};
+ghost use Rattle.elab_entry.specs.cpp_tree.Arena.{trees_of, tree_at as typed_at};
+ghost use Rattle.elab_entry.specs.elab_ctx.Ctx.{Ctx, ctx_of};
+ghost use Rattle.elab_entry.specs.elab_types.Syntax.{syntax_of, tree_at};
+ghost use Rattle.elab_entry.specs.elab_scopes.States.{state_of, made, full_in};
+ghost use Rattle.elab_entry.specs.elab_scopes.Says.{Changes, Does};
+ghost use Rattle.elab_members.specs.Initialisers.{value_made as value_made_of, value_by as value_by_of, default_from, default_added, default_made as default_made_of, member_declared, member_by_token, default_of as default_of_of, are_known};
 
 use crate::syntax::{initialiser_in, kids_in};
 use elab_implicit::below::{
@@ -18,6 +27,7 @@ use std::alloc::{AllocError, Global};
 // By a value that was read.
 fn value_made(alloc: Global, st: &mut State, ty: &Ty, o: Operand) -> Result<TNodeId, ElabFault>
     requires { o.id.0 < length (made st.old) }
+    ensures { Does st.old st.new result (value_made_of (typ_of ty.now) (full_in st.old o)) }
 {
     let init = copy_initialised(alloc, &st.env, &mut st.work, ty, o)?;
     let made = full(alloc, &mut st.work.nodes, o.at, init)?;
@@ -36,6 +46,7 @@ fn by_value<L: MakeLambdas>(
     id: NodeId,
 ) -> Result<TNodeId, ElabFault>
     requires { id.0 < length nodes.now }
+    ensures { Does st.old st.new result (value_by_of (L.lambdas lams.now) (lexemes_of tokens.now) (state_of st.old) (typ_of ty.now) (tree_at (syntax_of nodes.now) id)) }
 {
     let o = full_operand(alloc, lams, tokens, nodes, id, st)?;
     value_made(alloc, st, ty, o)
@@ -52,6 +63,7 @@ fn default_value<L: MakeLambdas>(
     id: NodeId,
 ) -> Result<TNodeId, ElabFault>
     requires { id.0 < length nodes.now }
+    ensures { Does st.old st.new result (default_from (L.lambdas lams.now) (lexemes_of tokens.now) (state_of st.old) (typ_of ty.now) (tree_at (syntax_of nodes.now) id)) }
 {
     if !is_char_array(ty) {
         return by_value(alloc, lams, tokens, nodes, st, ty, id);
@@ -66,12 +78,26 @@ fn default_value<L: MakeLambdas>(
 }
 
 // The items of a frame behind `this`.
-fn behind_this(frame: Vec<Ty>) -> Vec<Ty> {
+fn behind_this(frame: Vec<Ty>) -> Vec<Ty>
+    ensures { map typ_of result.items ≡ drop 1 (map typ_of frame.items) }
+{
     let mut items = frame;
     if !items.is_empty() {
         let _this = items.remove(0);
     }
     items
+}
+
+/// Tests that initialisers stand among the first nodes; one that does not counts as want of memory.
+pub fn are_first(list: &[DefaultInit], count: usize) -> Result<(), AllocError>
+    ensures { OnOk result (are_known count list.now ≡ true) }
+{
+    for found in list {
+        if found.init.0 as usize >= count {
+            return Err(AllocError);
+        }
+    }
+    Ok(())
 }
 
 // Keeps the initialiser of a member.
@@ -82,7 +108,10 @@ fn keep_default(
     member: u32,
     inside: Inside,
     tree: TNodeId,
-) -> Result<(), AllocError> {
+) -> Result<(), AllocError>
+    ensures { OnOk result (ctx_of env.new ≡ default_added (ctx_of env.old) class member (typed_at (trees_of inside.nodes.items) tree) (drop 1 (map typ_of inside.frame.items))) }
+{
+    are_first(&env.defaults, env.default_nodes.len())?;
     stands(&inside.nodes, tree)?;
     let init = copy_tree(alloc, &inside.nodes, tree, &mut env.default_nodes)?;
     let frame = behind_this(inside.frame);
@@ -95,8 +124,8 @@ fn keep_default(
     Ok(())
 }
 
-// The initialiser of a member.
-fn default_made<L: MakeLambdas>(
+// The initialiser of a member of a type.
+fn default_typed<L: MakeLambdas>(
     alloc: Global,
     lams: &L,
     tokens: &Tokens,
@@ -104,16 +133,30 @@ fn default_made<L: MakeLambdas>(
     st: &mut State,
     class: u32,
     member: u32,
+    ty: &Ty,
     id: NodeId,
 ) -> Result<(), ElabFault>
     requires { id.0 < length nodes.now }
+    ensures { Changes st.old st.new result (default_made_of (L.lambdas lams.now) (lexemes_of tokens.now) (state_of st.old) class member (typ_of ty.now) (tree_at (syntax_of nodes.now) id)) }
 {
-    let ty = member_type(alloc, &st.env, class, member)?;
     let around = enter_object(alloc, st, class)?;
-    let made = default_value(alloc, lams, tokens, nodes, st, &ty, id);
+    let made = default_value(alloc, lams, tokens, nodes, st, ty, id);
     let inside = leave_function(st, around);
     keep_default(alloc, &mut st.env, class, member, inside, made?)?;
     Ok(())
+}
+
+// The token of a declarator of a member.
+fn member_token(kind: NodeKind, token: Option<u32>) -> Option<u32>
+    ensures { (s : List Lexeme) (c : Ctx) (n : ℕ) (at : SyntaxAt) (kids : SyntaxTrees) → member_declared s c n (syntax_node kind at token kids) ≡ member_by_token s c n result }
+{
+    match kind {
+        NodeKind::MemberDeclarator => match token {
+            Some(found) => Some(found),
+            None => None,
+        },
+        _ => None,
+    }
 }
 
 /// The data member that a declarator declares, if it declares one.
@@ -125,13 +168,12 @@ pub fn declared_member(
     id: NodeId,
 ) -> Result<Option<u32>, AllocError>
     requires { id.0 < length nodes.now }
+    ensures { IfOk result (λ o. o ≡ member_declared (lexemes_of tokens.now) (ctx_of env.now) class (tree_at (syntax_of nodes.now) id)) }
 {
     let node = node_at(nodes, id);
-    match (node.kind, node.token) {
-        (NodeKind::MemberDeclarator, Some(token)) => {
-            member_of_class(env, class, spelling(tokens, token))
-        }
-        _ => Ok(None),
+    match member_token(node.kind, node.token) {
+        Some(token) => member_of_class(env, class, spelling(tokens, token)),
+        None => Ok(None),
     }
 }
 
@@ -146,12 +188,18 @@ pub fn default_of<L: MakeLambdas>(
     id: NodeId,
 ) -> Result<(), ElabFault>
     requires { id.0 < length nodes.now }
+    ensures { Changes st.old st.new result (default_of_of (L.lambdas lams.now) (lexemes_of tokens.now) class (state_of st.old) (tree_at (syntax_of nodes.now) id)) }
 {
     let Some(member) = declared_member(tokens, nodes, &st.env, class, id)? else {
         return Ok(());
     };
     match initialiser_in(nodes, kids_in(nodes, id)) {
-        Some(value) => default_made(alloc, lams, tokens, nodes, st, class, member, value),
+        Some(value) => {
+            let ty = member_type(alloc, &st.env, class, member)?;
+            default_typed(
+                alloc, lams, tokens, nodes, st, class, member, &ty, value,
+            )
+        }
         None => Ok(()),
     }
 }

@@ -1,14 +1,20 @@
 // All initialisers of members are made before the bodies, which use them; a fault in one is found in the order of the
 // text, so one that has a fault stands here as nothing.
 
-ghost use Rattle.std.specs.Prelude.{◌≡◌, ◌<◌, length, true};
-ghost use Rattle.elab_implicit.specs.cpp_ast.Orders.{are_below};
+ghost use Rattle.std.specs.Prelude.{◌≡◌, ◌<◌, length, true, IfOk};
+ghost use Rattle.elab_entry.specs.cpp_ast.Orders.{are_below};
+ghost use Rattle.elab_entry.specs.cpp_lex.Tokens.{lexemes_of};
+ghost use Rattle.elab_entry.specs.elab_ctx.Steps.{each_of};
+ghost use Rattle.elab_entry.specs.elab_types.Syntax.{syntax_of, tree_at, trees_at};
+ghost use Rattle.elab_entry.specs.elab_scopes.States.{state_of};
+ghost use Rattle.elab_members.specs.Initialisers.{default_of as default_of_of, defaults_of as defaults_of_of, all_defaults, Finds, first_fault};
 
 use crate::defaults::{declared_member, default_of};
+use crate::declarations::is_declaration;
 use crate::syntax::kids_in;
 use elab_implicit::below::{
-    At, Cat, DefaultInit, ElabFault, Env, MakeLambdas, NodeId, NodeKind, Nodes, Shape, State,
-    TKind, Tokens, add_leaf, checkpoint_here, elab_types_node_at as node_at, plain_type, undo,
+    At, Cat, DefaultInit, ElabFault, Env, MakeLambdas, NodeId, Nodes, Shape, State, TKind, Tokens,
+    add_leaf, checkpoint_here, elab_types_node_at as node_at, plain_type, undo,
 };
 use std::alloc::{AllocError, Global};
 
@@ -44,7 +50,7 @@ fn keep_nothing(
     Ok(())
 }
 
-// The initialiser of a declarator, or nothing where it has a fault.
+// The initialiser of a declarator, or nothing where it has a fault, which is answered.
 fn early_declarator<L: MakeLambdas>(
     alloc: Global,
     lams: &L,
@@ -53,23 +59,34 @@ fn early_declarator<L: MakeLambdas>(
     st: &mut State,
     class: u32,
     id: NodeId,
-) -> Result<(), ElabFault>
+) -> Result<Option<ElabFault>, AllocError>
     requires { id.0 < length nodes.now }
+    ensures { IfOk result (λ o. Finds st.old st.new o (default_of_of (L.lambdas lams.now) (lexemes_of tokens.now) class (state_of st.old) (tree_at (syntax_of nodes.now) id))) }
 {
     let mark = checkpoint_here(st);
     match default_of(alloc, lams, tokens, nodes, st, class, id) {
-        Ok(()) => Ok(()),
-        Err(ElabFault::Memory) => Err(ElabFault::Memory),
-        Err(_) => {
+        Ok(()) => Ok(None),
+        Err(ElabFault::Memory) => Err(AllocError),
+        Err(fault) => {
             undo(st, mark)?;
             let member = declared_member(tokens, nodes, &st.env, class, id)?;
             keep_nothing(alloc, &mut st.env, class, member)?;
-            Ok(())
+            Ok(Some(fault))
         }
     }
 }
 
-// The initialisers of the declarators of a declaration.
+// The first of two faults.
+fn first_of(first: Option<ElabFault>, next: Option<ElabFault>) -> Option<ElabFault>
+    ensures { result ≡ first_fault first next }
+{
+    match first {
+        Some(fault) => Some(fault),
+        None => next,
+    }
+}
+
+// The initialisers of the declarators of a declaration. The first fault is answered.
 fn early_declarators<L: MakeLambdas>(
     alloc: Global,
     lams: &L,
@@ -78,20 +95,19 @@ fn early_declarators<L: MakeLambdas>(
     st: &mut State,
     class: u32,
     ids: &[NodeId],
-) -> Result<(), ElabFault>
+) -> Result<Option<ElabFault>, AllocError>
     requires { are_below (length nodes.now) ids.now ≡ true }
+    ensures { IfOk result (λ o. Finds st.old st.new o (each_of (default_of_of (L.lambdas lams.now) (lexemes_of tokens.now) class) (state_of st.old) (trees_at (syntax_of nodes.now) ids.now))) }
 {
+    let mut first = None;
     for id in ids {
-        early_declarator(alloc, lams, tokens, nodes, st, class, *id)?;
+        let found = early_declarator(alloc, lams, tokens, nodes, st, class, *id)?;
+        first = first_of(first, found);
     }
-    Ok(())
+    Ok(first)
 }
 
-fn is_declaration(kind: NodeKind) -> bool {
-    matches!(kind, NodeKind::MemberDeclaration)
-}
-
-// The initialisers of a declaration.
+// The initialisers of a declaration. The first fault is answered.
 fn early_of<L: MakeLambdas>(
     alloc: Global,
     lams: &L,
@@ -100,16 +116,17 @@ fn early_of<L: MakeLambdas>(
     st: &mut State,
     class: u32,
     id: NodeId,
-) -> Result<(), ElabFault>
+) -> Result<Option<ElabFault>, AllocError>
     requires { id.0 < length nodes.now }
+    ensures { IfOk result (λ o. Finds st.old st.new o (defaults_of_of (L.lambdas lams.now) (lexemes_of tokens.now) class (state_of st.old) (tree_at (syntax_of nodes.now) id))) }
 {
     if !is_declaration(node_at(nodes, id).kind) {
-        return Ok(());
+        return Ok(None);
     }
     early_declarators(alloc, lams, tokens, nodes, st, class, kids_in(nodes, id))
 }
 
-/// The initialisers of the members of a class.
+/// The initialisers of the members of a class, each that has a fault as nothing. The first fault is answered.
 pub fn all_early<L: MakeLambdas>(
     alloc: Global,
     lams: &L,
@@ -118,65 +135,14 @@ pub fn all_early<L: MakeLambdas>(
     st: &mut State,
     class: u32,
     ids: &[NodeId],
-) -> Result<(), ElabFault>
+) -> Result<Option<ElabFault>, AllocError>
     requires { are_below (length nodes.now) ids.now ≡ true }
+    ensures { IfOk result (λ o. Finds st.old st.new o (all_defaults (L.lambdas lams.now) (lexemes_of tokens.now) class (state_of st.old) (trees_at (syntax_of nodes.now) ids.now))) }
 {
+    let mut first = None;
     for id in ids {
-        early_of(alloc, lams, tokens, nodes, st, class, *id)?;
+        let found = early_of(alloc, lams, tokens, nodes, st, class, *id)?;
+        first = first_of(first, found);
     }
-    Ok(())
-}
-
-// The initialisers of the declarators of a declaration once more.
-fn defaults_among<L: MakeLambdas>(
-    alloc: Global,
-    lams: &L,
-    tokens: &Tokens,
-    nodes: &Nodes,
-    st: &mut State,
-    class: u32,
-    ids: &[NodeId],
-) -> Result<(), ElabFault>
-    requires { are_below (length nodes.now) ids.now ≡ true }
-{
-    for id in ids {
-        default_of(alloc, lams, tokens, nodes, st, class, *id)?;
-    }
-    Ok(())
-}
-
-// The initialisers of a declaration once more, for their faults.
-fn defaults_of<L: MakeLambdas>(
-    alloc: Global,
-    lams: &L,
-    tokens: &Tokens,
-    nodes: &Nodes,
-    st: &mut State,
-    class: u32,
-    id: NodeId,
-) -> Result<(), ElabFault>
-    requires { id.0 < length nodes.now }
-{
-    if !is_declaration(node_at(nodes, id).kind) {
-        return Ok(());
-    }
-    defaults_among(alloc, lams, tokens, nodes, st, class, kids_in(nodes, id))
-}
-
-/// Of an initialiser, which was made before, only its fault counts.
-pub fn late_defaults<L: MakeLambdas>(
-    alloc: Global,
-    lams: &L,
-    tokens: &Tokens,
-    nodes: &Nodes,
-    st: &mut State,
-    class: u32,
-    id: NodeId,
-) -> Result<(), ElabFault>
-    requires { id.0 < length nodes.now }
-{
-    let mark = checkpoint_here(st);
-    defaults_of(alloc, lams, tokens, nodes, st, class, id)?;
-    undo(st, mark)?;
-    Ok(())
+    Ok(first)
 }

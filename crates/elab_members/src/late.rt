@@ -1,23 +1,36 @@
 // Bodies of members that stand in their class: they are read behind the brace (C++14 9.2 p2).
 
-ghost use Rattle.std.specs.Prelude.{◌≡◌, ◌<◌, length, true};
-ghost use Rattle.elab_implicit.specs.cpp_ast.Orders.{are_below};
+ghost use Rattle.std.specs.Prelude.{◌≡◌, ◌<◌, ◌≤◌, length, true};
+ghost use Rattle.elab_entry.specs.cpp_ast.Orders.{are_below};
+ghost use Rattle.elab_entry.specs.cpp_lex.Tokens.{lexemes_of};
+ghost use Rattle.elab_entry.specs.elab_ctx.Ctx.{ctx_of};
+ghost use Rattle.elab_entry.specs.elab_ctx.Says.{Tells};
+ghost use Rattle.elab_entry.specs.elab_rules.Members.{place_of_header as place_of_header_of};
+ghost use Rattle.elab_entry.specs.elab_types.Syntax.{syntax_of, tree_at, trees_at};
+ghost use Rattle.elab_entry.specs.elab_scopes.States.{state_of};
+ghost use Rattle.elab_entry.specs.elab_scopes.Says.{Changes};
+ghost use Rattle.class_members.specs.Shown.{header_of};
+ghost use Rattle.class_table.specs.Written.{method_shown};
+ghost use Rattle.elab_members.specs.Whole.{late_with, late_function as late_function_of, late_kind as late_kind_of, late_of as late_of_of, all_late as all_late_of};
 
-use crate::early::late_defaults;
+use crate::declarations::late_defaults;
 use crate::methods::method_body;
 use crate::syntax::kids_in;
 use class_table::kids::rest_from;
+use class_table::methods::Method;
 use class_table::method_of;
 use class_table::texts::body_in;
 use elab_decls::first_same;
 use elab_implicit::below::{
-    ElabFault, Env, FuncKind, Header, Home, IllRule, MakeLambdas, NodeId, NodeKind, Nodes, State,
-    Tokens, elab_types_node_at as node_at, ill, place,
+    At, ElabFault, Env, FuncKind, Header, Home, IllRule, MakeLambdas, NodeId, NodeKind, Nodes,
+    State, Tokens, elab_types_node_at as node_at, ill, place,
 };
 use std::alloc::Global;
 
 // The function of the class that a header declares.
-fn place_of_header(env: &Env, header: &Header) -> Result<u32, ElabFault> {
+fn place_of_header(env: &Env, header: &Header) -> Result<u32, ElabFault>
+    ensures { Tells result (place_of_header_of (ctx_of env.now) (header_of header.now)) }
+{
     match first_same(&env.funcs, header)? {
         Some(func) => Ok(func),
         None => Err(ill(header.at, IllRule::NoMember)),
@@ -25,6 +38,40 @@ fn place_of_header(env: &Env, header: &Header) -> Result<u32, ElabFault> {
 }
 
 // A member function with its body.
+fn late_method<L: MakeLambdas>(
+    alloc: Global,
+    lams: &L,
+    tokens: &Tokens,
+    nodes: &Nodes,
+    st: &mut State,
+    class: u32,
+    kind: FuncKind,
+    method: &Method,
+    kids: &[NodeId],
+    body: NodeId,
+) -> Result<(), ElabFault>
+    requires kids { are_below (length nodes.now) kids.now ≡ true }
+    requires body { body.0 < length nodes.now }
+    requires count { method.now.count ≤ length kids.now }
+    ensures { Changes st.old st.new result (late_with (L.lambdas lams.now) (lexemes_of tokens.now) (state_of st.old) class kind (method_shown (syntax_of nodes.now) kids.now method.now) (tree_at (syntax_of nodes.now) body)) }
+{
+    let func = place_of_header(&st.env, &method.header)?;
+    method_body(
+        alloc,
+        lams,
+        tokens,
+        nodes,
+        st,
+        class,
+        func,
+        kind,
+        &method.header,
+        rest_from(kids, method.count),
+        body,
+    )
+}
+
+// A member function by the kids of its node, with its body if it has one.
 fn late_function<L: MakeLambdas>(
     alloc: Global,
     lams: &L,
@@ -33,12 +80,12 @@ fn late_function<L: MakeLambdas>(
     st: &mut State,
     home: &Home,
     kind: FuncKind,
-    id: NodeId,
+    at: At,
+    kids: &[NodeId],
 ) -> Result<(), ElabFault>
-    requires { id.0 < length nodes.now }
+    requires { are_below (length nodes.now) kids.now ≡ true }
+    ensures { Changes st.old st.new result (late_function_of (L.lambdas lams.now) (lexemes_of tokens.now) (state_of st.old) home.now.number home.now.name.items at kind (trees_at (syntax_of nodes.now) kids.now)) }
 {
-    let at = place(node_at(nodes, id).at);
-    let kids = kids_in(nodes, id);
     let method = method_of(
         alloc,
         &st.env,
@@ -54,20 +101,30 @@ fn late_function<L: MakeLambdas>(
     let Some(body) = body_in(nodes, kids) else {
         return Ok(());
     };
-    let func = place_of_header(&st.env, &method.header)?;
-    method_body(
+    late_method(
         alloc,
         lams,
         tokens,
         nodes,
         st,
         home.number,
-        func,
         kind,
-        &method.header,
-        rest_from(kids, method.count),
+        &method,
+        kids,
         body,
     )
+}
+
+// Which function a node defines, if it defines one.
+fn late_kind(kind: NodeKind) -> Option<FuncKind>
+    ensures { result ≡ late_kind_of kind }
+{
+    match kind {
+        NodeKind::FunctionDefinition => Some(FuncKind::Plain),
+        NodeKind::ConstructorDefinition => Some(FuncKind::Constructor),
+        NodeKind::DestructorDefinition => Some(FuncKind::Destructor),
+        _ => None,
+    }
 }
 
 // A member's body or initialiser.
@@ -81,14 +138,26 @@ fn late_of<L: MakeLambdas>(
     id: NodeId,
 ) -> Result<(), ElabFault>
     requires { id.0 < length nodes.now }
+    ensures { Changes st.old st.new result (late_of_of (L.lambdas lams.now) (lexemes_of tokens.now) home.now.number home.now.name.items (state_of st.old) (tree_at (syntax_of nodes.now) id)) }
 {
-    let kind = match node_at(nodes, id).kind {
-        NodeKind::FunctionDefinition => FuncKind::Plain,
-        NodeKind::ConstructorDefinition => FuncKind::Constructor,
-        NodeKind::DestructorDefinition => FuncKind::Destructor,
-        _ => return late_defaults(alloc, lams, tokens, nodes, st, home.number, id),
-    };
-    late_function(alloc, lams, tokens, nodes, st, home, kind, id)
+    let node = node_at(nodes, id);
+    match late_kind(node.kind) {
+        Some(kind) => {
+            let at = place(node.at);
+            late_function(
+                alloc,
+                lams,
+                tokens,
+                nodes,
+                st,
+                home,
+                kind,
+                at,
+                kids_in(nodes, id),
+            )
+        }
+        None => late_defaults(alloc, lams, tokens, nodes, st, home.number, id),
+    }
 }
 
 /// The bodies and initialisers of the members of a class, in the order of the text.
@@ -102,6 +171,7 @@ pub fn all_late<L: MakeLambdas>(
     ids: &[NodeId],
 ) -> Result<(), ElabFault>
     requires { are_below (length nodes.now) ids.now ≡ true }
+    ensures { Changes st.old st.new result (all_late_of (L.lambdas lams.now) (lexemes_of tokens.now) home.now.number home.now.name.items (state_of st.old) (trees_at (syntax_of nodes.now) ids.now)) }
 {
     for id in ids {
         late_of(alloc, lams, tokens, nodes, st, home, *id)?;

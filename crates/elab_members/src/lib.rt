@@ -2,15 +2,19 @@
 //! class (C++14 9.3, 12.1, 12.4, 12.6.2).
 #![tactic(auto)]
 
+pub mod blocks;
 pub mod classes;
 pub mod constructors;
+pub mod declarations;
 pub mod defaults;
+pub mod defining;
 pub mod destructors;
 pub mod early;
 pub mod late;
 pub mod methods;
 pub mod outside;
 pub mod owners;
+pub mod parts;
 pub mod syntax;
 pub mod written;
 

@@ -1,7 +1,15 @@
 // The bodies of members (C++14 9.3, 12.1, 12.4).
 
 ghost use Rattle.std.specs.Prelude.{◌≡◌, ◌<◌, length, true};
-ghost use Rattle.elab_implicit.specs.cpp_ast.Orders.{are_below};
+ghost use Rattle.elab_entry.specs.cpp_ast.Orders.{are_below};
+ghost use Rattle.elab_entry.specs.cpp_lex.Tokens.{lexemes_of};
+ghost use Rattle.elab_entry.specs.cpp_types.Typ.{typ_of};
+ghost use Rattle.elab_entry.specs.elab_rules.Members.{this_type as this_type_of};
+ghost use Rattle.elab_entry.specs.elab_types.Syntax.{syntax_of, tree_at, trees_at};
+ghost use Rattle.elab_entry.specs.elab_scopes.States.{state_of};
+ghost use Rattle.elab_entry.specs.elab_scopes.Says.{Changes};
+ghost use Rattle.class_members.specs.Shown.{header_of};
+ghost use Rattle.elab_members.specs.Bodies.{method_body as method_body_of};
 
 use crate::constructors::constructor_body;
 use crate::destructors::destructor_body;
@@ -12,7 +20,9 @@ use elab_implicit::below::{
 use std::alloc::Global;
 
 /// The type of the object of a member function.
-fn this_type(class: u32, header: &Header) -> Ty {
+fn this_type(class: u32, header: &Header) -> Ty
+    ensures { typ_of result ≡ this_type_of class (header_of header.now) }
+{
     Ty {
         shape: Shape::Class(class),
         is_const: header.qualifiers.is_const,
@@ -36,6 +46,7 @@ pub fn method_body<L: MakeLambdas>(
 ) -> Result<(), ElabFault>
     requires rest { are_below (length nodes.now) rest.now ≡ true }
     requires body { body.0 < length nodes.now }
+    ensures { Changes st.old st.new result (method_body_of (L.lambdas lams.now) (lexemes_of tokens.now) (state_of st.old) class func kind (header_of header.now) (trees_at (syntax_of nodes.now) rest.now) (tree_at (syntax_of nodes.now) body)) }
 {
     match kind {
         FuncKind::Constructor => constructor_body(

@@ -1,20 +1,32 @@
 // Members that are defined outside their class (C++14 9.3 p2, 12.1, 12.4).
 
-ghost use Rattle.std.specs.Prelude.{◌≡◌, ◌<◌, ◌≤◌, length, true, IfOk};
-ghost use Rattle.elab_implicit.specs.cpp_ast.Orders.{are_below};
+ghost use Rattle.std.specs.Prelude.{◌≡◌, ◌<◌, ◌≤◌, List, length, drop, true, false, IfOk};
+ghost use Rattle.elab_entry.specs.cpp_tree.declared.program.FuncKind.TheVariants.{Plain};
+ghost use Rattle.elab_entry.specs.cpp_ast.Orders.{are_below};
+ghost use Rattle.elab_entry.specs.cpp_lex.Tokens.{lexemes_of};
+ghost use Rattle.elab_entry.specs.elab_ctx.Ctx.{ctx_of, work_of};
+ghost use Rattle.elab_entry.specs.elab_rules.Statements.{Body};
+ghost use Rattle.elab_entry.specs.elab_rules.Members.{outside_method as outside_method_of};
+ghost use Rattle.elab_entry.specs.elab_types.Shown.{Says};
+ghost use Rattle.elab_entry.specs.elab_types.Syntax.{syntax_of, tree_at, trees_at};
+ghost use Rattle.elab_entry.specs.elab_scopes.States.{state_of};
+ghost use Rattle.elab_entry.specs.elab_scopes.Says.{Changes};
+ghost use Rattle.class_members.specs.Shown.{header_of, storage_of};
+ghost use Rattle.class_table.specs.Written.{method_shown, at_hand, is_plain_kind};
+ghost use Rattle.elab_members.specs.Outside.{outside_plain as outside_plain_of, outside_special as outside_special_of, outside_body as outside_body_of, member_defined as member_defined_of};
 
+use crate::defining::outside_declared;
 use crate::methods::method_body;
 use crate::owners::{class_name, owner_named};
 use class_table::kids::{kid_at, rest_from};
 use class_table::methods::{Method, declared_written, type_written};
-use class_table::texts::{body_end, body_in, text_between, token_end};
-use class_table::{Started, header_in, name_of, special_header, started_from};
-use elab_decls::{agrees, define_function, first_same};
+use class_table::texts::{body_end, body_in};
+use class_table::{header_in, name_of, special_header, started_from};
 use elab_implicit::below::{
-    At, ElabFault, Env, FuncKind, Header, IllRule, Linkage, MakeLambdas, NodeId, Nodes, Shape,
-    State, Storage, Tokens, Work, has_function, ill, is_destructor_name, plain_type, text_sized,
+    At, ElabFault, Env, FuncKind, Header, IllRule, MakeLambdas, NodeId, Nodes, Shape, State,
+    Storage, Tokens, Work, ill, plain_type,
 };
-use std::alloc::{AllocError, Global};
+use std::alloc::Global;
 
 // The header of a member function that is no constructor and no destructor.
 fn outside_plain(
@@ -30,6 +42,7 @@ fn outside_plain(
 ) -> Result<Header, ElabFault>
     requires base { base.0 < length nodes.now }
     requires declarator { declarator.0 < length nodes.now }
+    ensures { Says header_of result (outside_plain_of (lexemes_of tokens.now) (ctx_of env.now) (work_of work.now) at (storage_of storage) (tree_at (syntax_of nodes.now) base) (tree_at (syntax_of nodes.now) declarator)) }
 {
     let ty = type_written(alloc, env, tokens, nodes, base, work)?;
     let found = declared_written(alloc, env, tokens, nodes, at, &ty, declarator, work)?;
@@ -51,6 +64,7 @@ fn outside_special(
     work: &Work,
 ) -> Result<Header, ElabFault>
     requires { declarator.0 < length nodes.now }
+    ensures { Says header_of result (outside_special_of (lexemes_of tokens.now) (ctx_of env.now) (work_of work.now) at (storage_of storage) kind (tree_at (syntax_of nodes.now) declarator)) }
 {
     let void = plain_type(Shape::Void);
     let found = declared_written(alloc, env, tokens, nodes, at, &void, declarator, work)?;
@@ -68,102 +82,100 @@ fn outside_special(
     )
 }
 
-// The function that is defined, and what stands behind its declarator.
+// A function from its type and its declarator, which stand from a place on.
+fn plain_method(
+    alloc: Global,
+    env: &Env,
+    tokens: &Tokens,
+    nodes: &Nodes,
+    at: At,
+    storage: Storage,
+    kids: &[NodeId],
+    start: usize,
+    work: &Work,
+) -> Result<Method, ElabFault>
+    requires { are_below (length nodes.now) kids.now ≡ true }
+    ensures method { (bodies : List Body) → Says (method_shown (syntax_of nodes.now) kids.now) result (outside_method_of (lexemes_of tokens.now) (at_hand (ctx_of env.now) (work_of work.now) bodies) at (storage_of storage) Plain (trees_at (syntax_of nodes.now) (drop start kids.now))) }
+    ensures within { IfOk result (λ m. m.count ≤ length kids.now) }
+{
+    let Some(base) = kid_at(kids, start) else {
+        return Err(ill(at, IllRule::OutOfProfile));
+    };
+    let Some(declarator) = kid_at(kids, start + 1) else {
+        return Err(ill(at, IllRule::OutOfProfile));
+    };
+    let header = outside_plain(
+        alloc, env, tokens, nodes, at, storage, base, declarator, work,
+    )?;
+    Ok(Method {
+        header,
+        count: start + 2,
+    })
+}
+
+// A constructor or a destructor from its declarator, which stands at a place.
+fn special_method(
+    alloc: Global,
+    env: &Env,
+    tokens: &Tokens,
+    nodes: &Nodes,
+    at: At,
+    storage: Storage,
+    kind: FuncKind,
+    kids: &[NodeId],
+    start: usize,
+    work: &Work,
+) -> Result<Method, ElabFault>
+    requires below { are_below (length nodes.now) kids.now ≡ true }
+    requires special { is_plain_kind kind ≡ false }
+    ensures method { (bodies : List Body) → Says (method_shown (syntax_of nodes.now) kids.now) result (outside_method_of (lexemes_of tokens.now) (at_hand (ctx_of env.now) (work_of work.now) bodies) at (storage_of storage) kind (trees_at (syntax_of nodes.now) (drop start kids.now))) }
+    ensures within { IfOk result (λ m. m.count ≤ length kids.now) }
+{
+    let Some(declarator) = kid_at(kids, start) else {
+        return Err(ill(at, IllRule::OutOfProfile));
+    };
+    let header = outside_special(
+        alloc, env, tokens, nodes, at, storage, kind, declarator, work,
+    )?;
+    Ok(Method {
+        header,
+        count: start + 1,
+    })
+}
+
+// Whether it is neither a constructor nor a destructor.
+fn is_plain(kind: FuncKind) -> bool
+    ensures { result ≡ is_plain_kind kind }
+{
+    match kind {
+        FuncKind::Plain => true,
+        FuncKind::Constructor | FuncKind::Destructor | FuncKind::ClosureCall => false,
+    }
+}
+
+// The function that is defined, and what stands behind its declarator, from a place on.
 fn outside_method(
     alloc: Global,
     env: &Env,
     tokens: &Tokens,
     nodes: &Nodes,
     at: At,
+    storage: Storage,
     kind: FuncKind,
-    started: Started,
     kids: &[NodeId],
+    start: usize,
     work: &Work,
 ) -> Result<Method, ElabFault>
     requires { are_below (length nodes.now) kids.now ≡ true }
-    ensures { IfOk result (λ m. m.count ≤ length kids.now) }
+    ensures method { (bodies : List Body) → Says (method_shown (syntax_of nodes.now) kids.now) result (outside_method_of (lexemes_of tokens.now) (at_hand (ctx_of env.now) (work_of work.now) bodies) at (storage_of storage) kind (trees_at (syntax_of nodes.now) (drop start kids.now))) }
+    ensures within { IfOk result (λ m. m.count ≤ length kids.now) }
 {
-    let start = started.count;
-    let storage = started.storage;
-    let Some(first) = kid_at(kids, start) else {
-        return Err(ill(at, IllRule::OutOfProfile));
-    };
-    match kind {
-        FuncKind::Plain => {
-            let Some(second) = kid_at(kids, start + 1) else {
-                return Err(ill(at, IllRule::OutOfProfile));
-            };
-            let header = outside_plain(
-                alloc, env, tokens, nodes, at, storage, first, second, work,
-            )?;
-            Ok(Method {
-                header,
-                count: start + 2,
-            })
-        }
-        FuncKind::Constructor | FuncKind::Destructor | FuncKind::ClosureCall => {
-            let header = outside_special(
-                alloc, env, tokens, nodes, at, storage, kind, first, work,
-            )?;
-            Ok(Method {
-                header,
-                count: start + 1,
-            })
-        }
+    if is_plain(kind) {
+        return plain_method(alloc, env, tokens, nodes, at, storage, kids, start, work);
     }
-}
-
-// Tests what stands before the type of a member that is defined outside: it may be inline.
-fn outside_words(header: &Header) -> Result<bool, ElabFault> {
-    let storage = header.storage;
-    if storage.is_c {
-        return Err(ill(header.at, IllRule::OutOfProfile));
-    }
-    if storage.is_virtual || storage.is_static || storage.is_extern {
-        return Err(ill(header.at, IllRule::BadDeclaration));
-    }
-    Ok(true)
-}
-
-// The text of a definition, where it is inline.
-fn outside_text(
-    alloc: Global,
-    tokens: &Tokens,
-    storage: Storage,
-    first: u32,
-    last: u32,
-) -> Result<Vec<u8>, AllocError> {
-    if !storage.is_inline {
-        return Ok(Vec::new(alloc));
-    }
-    text_between(alloc, tokens, first, last)
-}
-
-// The function of the class that is defined; its declaration agrees.
-fn outside_place(env: &Env, class: u32, header: &Header) -> Result<u32, ElabFault> {
-    outside_words(header)?;
-    if !has_function(env, class, &header.name) {
-        return Err(ill(header.at, IllRule::NoMember));
-    }
-    let Some(func) = first_same(&env.funcs, header)? else {
-        return Err(ill(header.at, IllRule::TypeDiffers));
-    };
-    // It stands there.
-    let Some(found) = env.funcs.get(func as usize) else {
-        return Err(ElabFault::Memory);
-    };
-    let no_except = header.qualifiers.no_except || is_destructor_name(&header.name);
-    agrees(header, no_except, found, true)?;
-    Ok(func)
-}
-
-// A function whose definition says so is inline.
-fn link_inline(env: &mut Env, func: u32, storage: Storage) {
-    if storage.is_inline
-        && let Some(found) = env.funcs.get_mut(func as usize)
-    {
-        found.linkage = Linkage::Inline;
-    }
+    special_method(
+        alloc, env, tokens, nodes, at, storage, kind, kids, start, work,
+    )
 }
 
 // A member with its body.
@@ -176,34 +188,18 @@ fn outside_body<L: MakeLambdas>(
     class: u32,
     kind: FuncKind,
     first: u32,
-    method: &Method,
-    kids: &[NodeId],
+    last: u32,
+    header: &Header,
+    rest: &[NodeId],
     body: NodeId,
 ) -> Result<(), ElabFault>
-    requires kids { are_below (length nodes.now) kids.now ≡ true }
+    requires rest { are_below (length nodes.now) rest.now ≡ true }
     requires body { body.0 < length nodes.now }
-    requires count { method.now.count ≤ length kids.now }
+    ensures { Changes st.old st.new result (outside_body_of (L.lambdas lams.now) (lexemes_of tokens.now) (state_of st.old) class kind first last (header_of header.now) (trees_at (syntax_of nodes.now) rest.now) (tree_at (syntax_of nodes.now) body)) }
 {
-    let header = &method.header;
-    let last = body_end(nodes, kids);
-    let text = outside_text(alloc, tokens, header.storage, first, last)?;
-    text_sized(header.at, &text)?;
-    let func = outside_place(&st.env, class, header)?;
-    let closed = token_end(tokens, last);
-    define_function(alloc, &mut st.env, func, header, text, closed)?;
-    link_inline(&mut st.env, func, header.storage);
+    let func = outside_declared(alloc, tokens, &mut st.env, class, first, last, header)?;
     method_body(
-        alloc,
-        lams,
-        tokens,
-        nodes,
-        st,
-        class,
-        func,
-        kind,
-        header,
-        rest_from(kids, method.count),
-        body,
+        alloc, lams, tokens, nodes, st, class, func, kind, header, rest, body,
     )
 }
 
@@ -222,10 +218,20 @@ pub fn member_defined<L: MakeLambdas>(
     kids: &[NodeId],
 ) -> Result<(), ElabFault>
     requires { are_below (length nodes.now) kids.now ≡ true }
+    ensures { Changes st.old st.new result (member_defined_of (L.lambdas lams.now) (lexemes_of tokens.now) (storage_of storage) (state_of st.old) at kind first (trees_at (syntax_of nodes.now) kids.now)) }
 {
     let started = started_from(tokens, nodes, storage, kids);
     let method = outside_method(
-        alloc, &st.env, tokens, nodes, at, kind, started, kids, &st.work,
+        alloc,
+        &st.env,
+        tokens,
+        nodes,
+        at,
+        started.storage,
+        kind,
+        kids,
+        started.count,
+        &st.work,
     )?;
     let Some(body) = body_in(nodes, kids) else {
         return Err(ill(at, IllRule::BadDeclaration));
@@ -234,6 +240,17 @@ pub fn member_defined<L: MakeLambdas>(
         return Err(ill(at, IllRule::BadDeclaration));
     };
     outside_body(
-        alloc, lams, tokens, nodes, st, class, kind, first, &method, kids, body,
+        alloc,
+        lams,
+        tokens,
+        nodes,
+        st,
+        class,
+        kind,
+        first,
+        body_end(nodes, kids),
+        &method.header,
+        rest_from(kids, method.count),
+        body,
     )
 }
