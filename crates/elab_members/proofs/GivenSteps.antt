@@ -1,7 +1,7 @@
 -- What is written for the parts of an object, one part behind the other.
 use Rattle.std.proofs.Common.{◌≡◌, ◌∙◌, ◌<◌, ◌≤◌, ◌+◌, ◌++◌, ◌∷◌, ◌&&◌, ℕ, nat_lt, lt-ltb, Bool, true, false, not, List, [], length, map, drop, get_or, slice_get, Vec, Global, Option, Some, None, is_none, option_map, Result, Ok, Err, refl, sym, ap, subst}
 use Rattle.std.proofs.lemmas.List.{map_push}
-use Rattle.std.proofs.lemmas.Bool.{and_parts, ltb-true}
+use Rattle.std.proofs.lemmas.Bool.{and_parts}
 use Rattle.elab_entry.specs.cpp_types.Typ.{Typ}
 use Rattle.elab_entry.specs.cpp_types.Class.{Member}
 use Rattle.elab_entry.specs.cpp_types.declared.classes.At.{At}
@@ -14,22 +14,19 @@ use Rattle.elab_entry.specs.cpp_ast.declared.kinds.NodeKind.TheVariants as k
 use Rattle.elab_entry.specs.cpp_tree.declared.faults.ElabFault.{ElabFault}
 use Rattle.elab_entry.specs.cpp_tree.declared.faults.ElabFault.TheVariants.{Ill}
 use Rattle.elab_entry.specs.cpp_tree.declared.faults.IllRule.TheVariants.{UnknownName, Redeclared, NoMember, OutOfProfile}
-use Rattle.elab_entry.specs.cpp_tree.declared.arena.TNodeId.{TNodeId}
 use Rattle.elab_entry.specs.cpp_tree.Trees.{Tree, one}
 use Rattle.elab_entry.specs.cpp_tree.Typing.{unqualified}
-use Rattle.elab_entry.specs.cpp_tree.Arena.{tree_at, Grows}
-use Rattle.elab_entry.specs.elab_ctx.Ctx.{Ctx}
+use Rattle.elab_entry.specs.cpp_tree.Arena.{tree_at}
 use Rattle.elab_entry.specs.elab_ctx.Steps.{and_then, expect, check, each_of, at_of, spelling, Made, TypedAll}
 use Rattle.elab_entry.specs.elab_ctx.Says.{Faults}
-use Rattle.elab_entry.proofs.elab_ctx.Looks.{within_grown}
 use Rattle.elab_entry.proofs.elab_ctx.Making.{faults_in, faults_same}
 use Rattle.elab_entry.proofs.elab_init.Listing.{drop_step, drop_past}
 use Rattle.elab_entry.specs.elab_rules.Names.{members_in}
 use Rattle.elab_entry.specs.elab_rules.Calls.{base_of_class}
 use Rattle.elab_entry.specs.elab_rules.Types.{type_named}
 use Rattle.elab_entry.specs.elab_rules.Expressions.{operands_of}
-use Rattle.elab_entry.specs.elab_rules.Statements.{State, Done, done, Lambdas, the_tree, full, with_work, all_lambdas, directly_initialised, values_place}
-use Rattle.elab_entry.specs.elab_rules.Members.{Given, Giving, given_for, giving_more, for_part, given_values, given_part, given_base, given_member, given_by, all_given, member_index, member_type, is_named_class, is_base_type}
+use Rattle.elab_entry.specs.elab_rules.Statements.{State, Done, done, Lambdas, full, with_work, all_lambdas, directly_initialised, values_place}
+use Rattle.elab_entry.specs.elab_rules.Members.{Given, Giving, given_for, giving_more, for_part, given_values, given_part, given_base, given_member, given_by, member_index, member_type, is_named_class, is_base_type}
 use Rattle.elab_entry.specs.elab_types.Syntax.{tree_at as syntax_at, trees_at as syntaxes_at}
 use Rattle.elab_entry.specs.elab_scopes.declared.state.State.{State as StateRec}
 use Rattle.elab_entry.specs.elab_scopes.States.{state_of, made, Grown}
@@ -44,18 +41,18 @@ use Rattle.elab_members.specs.Giving.{part_made, part_values, part_given, given_
 -- The steps are those of elab_rules
 
 module _ (lams : Lambdas) (s : List Lexeme) (n : ℕ) (g : Giving) (i : Option ℕ) (at : At) (t : Typ) (es : syntax.Trees) where
-  keep : Done → Result Giving ElabFault
-  keep d = Ok (given_with g i at d)
-
-  values_is : (st : State) → and_then (part_values s st n i t at es) keep ≡ given_values lams s n g st i at t es
+  values_is : (st : State) → and_then (part_values s st n i t at es) (λ (d : Done). Ok (given_with g i at d)) ≡ given_values lams s n g st i at t es
   values_is st =
+      let keep : Done → Result Giving ElabFault = λ (d : Done). Ok (given_with g i at d) in
       let whole : TypedAll → Made → Result Done ElabFault = λ (xs : TypedAll) (m : Made). done (one (full (values_place t at xs.operands) m.tree)) (with_work st m.work) in
       both_steps (operands_of s st.ctx st.work es) (λ (xs : TypedAll). part_made (record st { work = xs.work }) n i t at xs.operands) keep
       ∙ same_then (operands_of s st.ctx st.work es) (λ (xs : TypedAll). and_then (part_made (record st { work = xs.work }) n i t at xs.operands) keep) (λ (xs : TypedAll). and_then (directly_initialised (for_part st.ctx n i) xs.work t at xs.operands) (λ (m : Made). Ok (giving_more g st i at (values_place t at xs.operands) m)))
         (λ xs. both_steps (directly_initialised (for_part st.ctx n i) xs.work t at xs.operands) (whole xs) keep)
 
   pub part_is : part_more lams s n g i at t es ≡ given_part lams s n g i at t es
-  part_is = same_then (check at Redeclared (is_none (given_for i g.given))) (λ (y : Bool). and_then (part_given lams s g.state n i t at es) keep) (λ (y : Bool). and_then (all_lambdas lams s g.state es) (λ (st : State). given_values lams s n g st i at t es))
+  part_is =
+      let keep : Done → Result Giving ElabFault = λ (d : Done). Ok (given_with g i at d) in
+      same_then (check at Redeclared (is_none (given_for i g.given))) (λ (y : Bool). and_then (part_given lams s g.state n i t at es) keep) (λ (y : Bool). and_then (all_lambdas lams s g.state es) (λ (st : State). given_values lams s n g st i at t es))
       (λ y. both_steps (all_lambdas lams s g.state es) (λ (x : State). part_values s x n i t at es) keep ∙ same_then (all_lambdas lams s g.state es) (λ (x : State). and_then (part_values s x n i t at es) keep) (λ (st : State). given_values lams s n g st i at t es) values_is)
 
 pub member_is : (lams : Lambdas) (s : List Lexeme) (n : ℕ) (g : Giving) (p : SyntaxAt) (t : ℕ) (es : syntax.Trees) → member_by lams s n g (at_of p) t es ≡ given_by lams s n g (syntax.node k.MemberInitializer p (Some t) es)

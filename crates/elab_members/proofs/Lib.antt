@@ -1,0 +1,8 @@
+pub mod ClassSteps
+pub mod FoundFaults
+pub mod GivenSteps
+pub mod InitialiserSteps
+pub mod ObjectBodies
+pub mod OutsideSteps
+pub mod PartSteps
+pub mod SyntaxSteps

@@ -1,5 +1,5 @@
 -- Bodies of constructors and destructors, step by step.
-use Rattle.std.proofs.Common.{◌≡◌, ◌∙◌, ℕ, true, List, [], length, Result, Ok, Err, refl, sym, ap, subst}
+use Rattle.std.proofs.Common.{◌≡◌, ◌∙◌, ℕ, true, List, [], length, Result, Err, refl, sym, ap, subst}
 use Rattle.elab_entry.specs.cpp_types.Typ.{Typ}
 use Rattle.elab_entry.specs.cpp_types.declared.classes.At.{At}
 use Rattle.elab_entry.specs.cpp_lex.Tokens.{Lexeme}
@@ -17,7 +17,7 @@ use Rattle.elab_entry.proofs.elab_ctx.Looks.{grows_refl}
 use Rattle.elab_entry.proofs.elab_ctx.Making.{faults_in, faults_same}
 use Rattle.elab_entry.proofs.elab_init.Listing.{trees_grown}
 use Rattle.elab_entry.specs.elab_rules.Braces.{syntax_place}
-use Rattle.elab_entry.specs.elab_rules.Statements.{State, Done, done, Lambdas, the_tree}
+use Rattle.elab_entry.specs.elab_rules.Statements.{State, Done, done, Lambdas}
 use Rattle.elab_entry.specs.elab_rules.Functions.{Header, with_parameters}
 use Rattle.elab_entry.specs.elab_rules.Types.{Parameter}
 use Rattle.elab_entry.specs.elab_rules.Members.{constructor_tree, destructor_tree, Giving, all_given, parts_built}
@@ -44,13 +44,16 @@ does_fail a c r e x h f = subst (λ (z : Result TNodeId ElabFault). Does a c z x
 pub changes_fail : (a c : StateRec) (r : Result (Unit {0}) ElabFault) (e : ElabFault) (x : Result State ElabFault) → r ≡ Err e → Faults e x → Changes a c r x
 changes_fail a c r e x h f = subst (λ (z : Result (Unit {0}) ElabFault). Changes a c z x) (sym h) f
 
+pub then_fails : {A B : Type 0} (e : ElabFault) (x : Result A ElabFault) (f : A → Result B ElabFault) → Faults e x → Faults e (and_then x f)
+then_fails {A} {B} e x f h = faults_in (λ (z : Result A ElabFault). and_then z f) e x (λ d. refl) h
+
 pub done_fails : {A : Type 0} (e : ElabFault) (x : Result A ElabFault) (f : A → Result Done ElabFault) → Faults e x → Faults e (and_then x f)
 done_fails {A} e x f h = faults_in (λ (z : Result A ElabFault). and_then z f) e x (λ d. refl) h
 
 pub state_fails : {A : Type 0} (e : ElabFault) (x : Result A ElabFault) (f : A → Result State ElabFault) → Faults e x → Faults e (and_then x f)
 state_fails {A} e x f h = faults_in (λ (z : Result A ElabFault). and_then z f) e x (λ d. refl) h
 
-same_trees : (old new : List Tree) → new ≡ old → Grows old new
+pub same_trees : (old new : List Tree) → new ≡ old → Grows old new
 same_trees old new e = subst (λ (z : List Tree). Grows old z) (sym e) (grows_refl old)
 
 -- what stood round a function stands behind it

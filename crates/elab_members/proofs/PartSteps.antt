@@ -1,5 +1,5 @@
 -- One part of an object, step by step.
-use Rattle.std.proofs.Common.{◌≡◌, ◌∙◌, ℕ, Bool, true, false, List, [], length, Option, Some, None, Result, Ok, Err, refl, sym, ap, subst}
+use Rattle.std.proofs.Common.{◌≡◌, ◌∙◌, ℕ, Bool, false, List, Option, Some, None, Result, refl, sym, ap, subst}
 use Rattle.elab_entry.specs.cpp_types.Typ.{Typ}
 use Rattle.elab_entry.specs.cpp_types.declared.classes.At.{At}
 use Rattle.elab_entry.specs.cpp_lex.Tokens.{Lexeme}
@@ -12,22 +12,19 @@ use Rattle.elab_entry.specs.elab_ctx.Ctx.{Ctx, Work, ctx_of, work_of}
 use Rattle.elab_entry.specs.elab_ctx.Steps.{and_then, Made, Operand, TypedAll}
 use Rattle.elab_entry.specs.elab_ctx.Operands.{operands_in}
 use Rattle.elab_entry.specs.elab_ctx.declared.operand.Operand.{Operand as OperandRec}
-use Rattle.elab_entry.specs.elab_ctx.Says.{Faults, Makes, MadeAt}
+use Rattle.elab_entry.specs.elab_ctx.Says.{Makes, MadeAt}
 use Rattle.elab_entry.proofs.elab_ctx.Looks.{grows_trans}
-use Rattle.elab_entry.proofs.elab_ctx.Making.{faults_in, faults_same}
-use Rattle.elab_entry.specs.elab_rules.Calls.{base_of_class}
 use Rattle.elab_entry.specs.elab_rules.Expressions.{operands_of}
 use Rattle.elab_entry.specs.elab_rows.Typed.{AllTyped}
-use Rattle.elab_entry.specs.elab_rules.Statements.{State, Done, done, Lambdas, full, with_work, all_lambdas, directly_initialised, values_place}
+use Rattle.elab_entry.specs.elab_rules.Statements.{State, done, Lambdas, full, with_work, all_lambdas, directly_initialised, values_place}
 use Rattle.elab_entry.specs.elab_rules.Members.{for_base, for_part}
 use Rattle.elab_entry.specs.elab_scopes.declared.state.State.{State as StateRec}
-use Rattle.elab_entry.specs.elab_scopes.States.{state_of, made, Grown}
+use Rattle.elab_entry.specs.elab_scopes.States.{state_of, made}
 use Rattle.elab_entry.specs.elab_scopes.Says.{Changed, OneDone, Does}
 use Rattle.elab_entry.proofs.elab_scopes.Standing.{grown_by, does_after}
 use Rattle.elab_implicit.specs.Written.{was_abstract, with_abstract}
 use Rattle.elab_implicit.proofs.GivenParts.{abstract_back}
 use Rattle.elab_members.specs.Giving.{made_base, part_made, part_values, part_given}
-use Rattle.elab_members.proofs.ObjectBodies.{done_fails}
 
 -- The base while it is made
 

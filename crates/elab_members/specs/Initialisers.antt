@@ -1,5 +1,5 @@
 -- Initialisers of members in the class, as the code makes them: with `left_by` of elab_entry where elab_rules says `leaving`, and read again for their faults with what that made cut away.
-use Rattle.std.specs.Prelude.{ℕ, nat_lt, Bool, true, false, List, ◌∷◌, [], ◌++◌, length, take, drop, Option, Some, None, Result, Ok, slice_get}
+use Rattle.std.specs.Prelude.{◌≡◌, ℕ, nat_lt, Bool, true, false, List, ◌∷◌, [], ◌++◌, length, take, drop, Option, Some, None, Result, Ok, Err, slice_get}
 use Rattle.std.specs.List.{list_all}
 use Rattle.elab_entry.specs.cpp_types.Typ.{Typ}
 use Rattle.elab_entry.specs.cpp_lex.Tokens.{Lexeme}
@@ -7,11 +7,11 @@ use Rattle.elab_entry.specs.cpp_ast.Trees as syntax
 use Rattle.elab_entry.specs.cpp_ast.declared.kinds.NodeKind.{NodeKind}
 use Rattle.elab_entry.specs.cpp_ast.declared.kinds.NodeKind.TheVariants as k
 use Rattle.elab_entry.specs.cpp_tree.declared.faults.ElabFault.{ElabFault}
+use Rattle.elab_entry.specs.cpp_tree.declared.faults.ElabFault.TheVariants.{Memory}
 use Rattle.elab_entry.specs.cpp_tree.Trees.{Tree, one}
 use Rattle.elab_entry.specs.elab_ctx.Ctx.{Ctx}
 use Rattle.elab_entry.specs.elab_ctx.declared.env.DefaultInit.{DefaultInit}
 use Rattle.elab_entry.specs.elab_ctx.Steps.{and_then, each_of, Made, spelling}
-use Rattle.elab_entry.specs.elab_ctx.Says.{Faults}
 use Rattle.elab_entry.specs.elab_rules.Names.{members_in}
 use Rattle.elab_entry.specs.elab_rules.Lambdas.{kids_of}
 use Rattle.elab_entry.specs.elab_rules.Braces.{is_char_array, string_token, syntax_place}
@@ -99,7 +99,11 @@ all_defaults lams s n = each_of (defaults_of lams s n)
 -- the initialisers were made, or the first fault of one was found
 abbrev pub Finds : StateRec → StateRec → Option ElabFault → Result State ElabFault → Type 0
 Finds old new None x = Changed old new x
-Finds old new (Some e) x = Faults e x
+Finds old new (Some e) x = x ≡ Err e
+
+abbrev pub is_memory : ElabFault → Bool
+is_memory Memory = true
+is_memory e = false
 
 -- the first of two faults
 abbrev pub first_fault : Option ElabFault → Option ElabFault → Option ElabFault

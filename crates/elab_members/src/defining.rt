@@ -1,6 +1,6 @@
 // What is known of a member function behind its definition outside the class (C++14 9.3 p2).
 
-ghost use Rattle.std.specs.Prelude.{◌≡◌, IfOk};
+ghost use Rattle.std.specs.Prelude.{◌≡◌, IfOk, OnOk};
 ghost use Rattle.elab_entry.specs.cpp_lex.Tokens.{lexemes_of};
 ghost use Rattle.elab_entry.specs.elab_ctx.Ctx.{ctx_of};
 ghost use Rattle.elab_entry.specs.elab_ctx.Says.{Tells};
@@ -96,7 +96,8 @@ pub fn outside_declared(
     last: u32,
     header: &Header,
 ) -> Result<u32, ElabFault>
-    ensures { Says (placed_at env.new) result (outside_declared_of (lexemes_of tokens.now) (ctx_of env.old) class first last (header_of header.now)) }
+    ensures labels { OnOk result ((ctx_of env.new).labels ≡ (ctx_of env.old).labels) }
+    ensures is { Says (placed_at env.new) result (outside_declared_of (lexemes_of tokens.now) (ctx_of env.old) class first last (header_of header.now)) }
 {
     let text = outside_text(alloc, tokens, header.storage, first, last)?;
     text_sized(header.at, &text)?;

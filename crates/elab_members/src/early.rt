@@ -1,17 +1,18 @@
 // All initialisers of members are made before the bodies, which use them; a fault in one is found in the order of the
 // text, so one that has a fault stands here as nothing.
 
-ghost use Rattle.std.specs.Prelude.{◌≡◌, ◌<◌, length, true, IfOk};
+ghost use Rattle.std.specs.Prelude.{◌≡◌, ◌<◌, length, true, false, Some, IfOk, OnOk};
 ghost use Rattle.elab_entry.specs.cpp_ast.Orders.{are_below};
 ghost use Rattle.elab_entry.specs.cpp_lex.Tokens.{lexemes_of};
 ghost use Rattle.elab_entry.specs.elab_ctx.Steps.{each_of};
 ghost use Rattle.elab_entry.specs.elab_types.Syntax.{syntax_of, tree_at, trees_at};
 ghost use Rattle.elab_entry.specs.elab_scopes.States.{state_of};
-ghost use Rattle.elab_members.specs.Initialisers.{default_of as default_of_of, defaults_of as defaults_of_of, all_defaults, Finds, first_fault};
+ghost use Rattle.elab_members.specs.Initialisers.{default_of as default_of_of, defaults_of as defaults_of_of, all_defaults, Finds, first_fault, is_memory as is_memory_of};
 
 use crate::defaults::{declared_member, default_of};
 use crate::declarations::is_declaration;
 use crate::syntax::kids_in;
+use elab_entry::Checkpoint;
 use elab_implicit::below::{
     At, Cat, DefaultInit, ElabFault, Env, MakeLambdas, NodeId, Nodes, Shape, State, TKind, Tokens,
     add_leaf, checkpoint_here, elab_types_node_at as node_at, plain_type, undo,
@@ -50,6 +51,42 @@ fn keep_nothing(
     Ok(())
 }
 
+fn is_memory(fault: ElabFault) -> bool
+    ensures { result ≡ is_memory_of fault }
+{
+    match fault {
+        ElabFault::Memory => true,
+        ElabFault::Ill { .. }
+        | ElabFault::Override { .. }
+        | ElabFault::JumpIntoBlock { .. }
+        | ElabFault::Limit { .. } => false,
+    }
+}
+
+// What was made of an initialiser that has a fault is taken away, and it stands as nothing. The fault is answered.
+fn early_fault(
+    alloc: Global,
+    tokens: &Tokens,
+    nodes: &Nodes,
+    st: &mut State,
+    class: u32,
+    id: NodeId,
+    mark: Checkpoint,
+    fault: ElabFault,
+) -> Result<Option<ElabFault>, AllocError>
+    requires { id.0 < length nodes.now }
+    ensures some { IfOk result (λ o. o ≡ Some fault) }
+    ensures told { OnOk result (is_memory_of fault ≡ false) }
+{
+    if is_memory(fault) {
+        return Err(AllocError);
+    }
+    undo(st, mark)?;
+    let member = declared_member(tokens, nodes, &st.env, class, id)?;
+    keep_nothing(alloc, &mut st.env, class, member)?;
+    Ok(Some(fault))
+}
+
 // The initialiser of a declarator, or nothing where it has a fault, which is answered.
 fn early_declarator<L: MakeLambdas>(
     alloc: Global,
@@ -66,13 +103,7 @@ fn early_declarator<L: MakeLambdas>(
     let mark = checkpoint_here(st);
     match default_of(alloc, lams, tokens, nodes, st, class, id) {
         Ok(()) => Ok(None),
-        Err(ElabFault::Memory) => Err(AllocError),
-        Err(fault) => {
-            undo(st, mark)?;
-            let member = declared_member(tokens, nodes, &st.env, class, id)?;
-            keep_nothing(alloc, &mut st.env, class, member)?;
-            Ok(Some(fault))
-        }
+        Err(fault) => early_fault(alloc, tokens, nodes, st, class, id, mark, fault),
     }
 }
 

@@ -1,4 +1,4 @@
-use Rattle.std.proofs.Common.{◌≡◌, ◌+◌, Err, drop, get_or, rules}
+use Rattle.std.proofs.Common.{◌≡◌, ◌+◌, Err, drop, rules}
 use Rattle.elab_entry.specs.cpp_lex.Tokens.{lexemes_of}
 use Rattle.elab_entry.specs.elab_ctx.Steps.{each_of}
 use Rattle.elab_entry.specs.elab_rules.Members.{Giving, given_by}
