@@ -1,5 +1,5 @@
 -- The class as a whole, and bodies behind its brace.
-use Rattle.std.proofs.Common.{◌≡◌, ◌∙◌, ℕ, List, Option, Some, None, Result, Ok, Err, refl, sym, ap, subst}
+use Rattle.std.proofs.Common.{◌≡◌, ◌∙◌, ℕ, false, List, Option, Some, None, Result, Ok, Err, refl, sym, ap, subst}
 use Rattle.elab_entry.specs.cpp_types.declared.classes.At.{At}
 use Rattle.elab_entry.specs.cpp_lex.Tokens.{Lexeme}
 use Rattle.elab_entry.specs.cpp_ast.Trees as syntax

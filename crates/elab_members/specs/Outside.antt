@@ -8,10 +8,11 @@ use Rattle.elab_entry.specs.cpp_tree.Notation.{plain}
 use Rattle.elab_entry.specs.cpp_tree.Typing.{form_in}
 use Rattle.elab_entry.specs.cpp_tree.declared.program.FuncKind.{FuncKind}
 use Rattle.elab_entry.specs.cpp_tree.declared.program.FuncKind.TheVariants.{Plain}
+use Rattle.elab_entry.specs.cpp_tree.declared.program.Linkage.TheVariants.{Inline}
 use Rattle.elab_entry.specs.cpp_tree.declared.faults.ElabFault.{ElabFault}
 use Rattle.elab_entry.specs.cpp_tree.declared.faults.ElabFault.TheVariants.{Ill}
 use Rattle.elab_entry.specs.cpp_tree.declared.faults.IllRule.TheVariants.{TypeDiffers, BadDeclaration, NoMember}
-use Rattle.elab_entry.specs.elab_ctx.Ctx.{Ctx, Work}
+use Rattle.elab_entry.specs.elab_ctx.Ctx.{Ctx, Work, Func}
 use Rattle.elab_entry.specs.elab_ctx.Steps.{and_then, expect, check}
 use Rattle.elab_entry.specs.elab_rules.Initialising.{func_at}
 use Rattle.elab_entry.specs.elab_rules.Types.{Declared}
@@ -39,6 +40,10 @@ outside_found c h place = and_then (outside_agrees h (func_at c.funcs place)) (�
 
 abbrev pub outside_place : Ctx → ℕ → Header → Result ℕ ElabFault
 outside_place c n h = and_then (outside_words h) (λ w. and_then (check h.at NoMember (has_function n h.name c.funcs)) (λ x. and_then (expect h.at TypeDiffers (first_from (is_same_function h) 0 c.funcs)) (λ place. outside_found c h place)))
+
+-- a function that is inline
+abbrev pub inline_at : List Func → ℕ → Func
+inline_at fs i = record (func_at fs i) { linkage = Inline }
 
 -- it is defined, with its text where it is inline
 abbrev pub outside_declared : List Lexeme → Ctx → ℕ → ℕ → ℕ → Header → Result Placed ElabFault

@@ -13,8 +13,8 @@ ghost use Rattle.elab_members.specs.Whole.{late_defaults as late_defaults_of};
 use crate::defaults::{are_first, default_of};
 use crate::syntax::kids_in;
 use elab_implicit::below::{
-    DefaultInit, ElabFault, Env, MakeLambdas, NodeId, NodeKind, Nodes, State, Tokens, checkpoint_here,
-    elab_types_node_at as node_at, undo,
+    DefaultInit, ElabFault, Env, MakeLambdas, NodeId, NodeKind, Nodes, State, Tokens,
+    checkpoint_here, elab_types_node_at as node_at, undo,
 };
 use std::alloc::{AllocError, Global};
 

@@ -196,9 +196,7 @@ pub fn default_of<L: MakeLambdas>(
     match initialiser_in(nodes, kids_in(nodes, id)) {
         Some(value) => {
             let ty = member_type(alloc, &st.env, class, member)?;
-            default_typed(
-                alloc, lams, tokens, nodes, st, class, member, &ty, value,
-            )
+            default_typed(alloc, lams, tokens, nodes, st, class, member, &ty, value)
         }
         None => Ok(()),
     }

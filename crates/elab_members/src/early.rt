@@ -9,8 +9,8 @@ ghost use Rattle.elab_entry.specs.elab_types.Syntax.{syntax_of, tree_at, trees_a
 ghost use Rattle.elab_entry.specs.elab_scopes.States.{state_of};
 ghost use Rattle.elab_members.specs.Initialisers.{default_of as default_of_of, defaults_of as defaults_of_of, all_defaults, Finds, first_fault, is_memory as is_memory_of};
 
-use crate::defaults::{declared_member, default_of};
 use crate::declarations::is_declaration;
+use crate::defaults::{declared_member, default_of};
 use crate::syntax::kids_in;
 use elab_entry::Checkpoint;
 use elab_implicit::below::{

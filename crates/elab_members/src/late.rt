@@ -17,8 +17,8 @@ use crate::declarations::late_defaults;
 use crate::methods::method_body;
 use crate::syntax::kids_in;
 use class_table::kids::rest_from;
-use class_table::methods::Method;
 use class_table::method_of;
+use class_table::methods::Method;
 use class_table::texts::body_in;
 use elab_decls::first_same;
 use elab_implicit::below::{

@@ -27,12 +27,7 @@ fn owner_class(env: &Env, at: At, ty: &Ty) -> Result<u32, ElabFault>
 }
 
 /// The class that a token names.
-pub fn owner_named(
-    env: &Env,
-    tokens: &Tokens,
-    at: At,
-    owner: Option<u32>,
-) -> Result<u32, ElabFault>
+pub fn owner_named(env: &Env, tokens: &Tokens, at: At, owner: Option<u32>) -> Result<u32, ElabFault>
     ensures { Tells result (owner_named_of (lexemes_of tokens.now) (ctx_of env.now) at owner) }
 {
     let Some(token) = owner else {
