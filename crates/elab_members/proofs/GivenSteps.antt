@@ -47,7 +47,7 @@ module _ (lams : Lambdas) (s : List Lexeme) (n : ℕ) (g : Giving) (i : Option �
       let whole : TypedAll → Made → Result Done ElabFault = λ (xs : TypedAll) (m : Made). done (one (full (values_place t at xs.operands) m.tree)) (with_work st m.work) in
       both_steps (operands_of s st.ctx st.work es) (λ (xs : TypedAll). part_made (record st { work = xs.work }) n i t at xs.operands) keep
       ∙ same_then (operands_of s st.ctx st.work es) (λ (xs : TypedAll). and_then (part_made (record st { work = xs.work }) n i t at xs.operands) keep) (λ (xs : TypedAll). and_then (directly_initialised (for_part st.ctx n i) xs.work t at xs.operands) (λ (m : Made). Ok (giving_more g st i at (values_place t at xs.operands) m)))
-        (λ xs. both_steps (directly_initialised (for_part st.ctx n i) xs.work t at xs.operands) (whole xs) keep)
+      (λ xs. both_steps (directly_initialised (for_part st.ctx n i) xs.work t at xs.operands) (whole xs) keep)
 
   pub part_is : part_more lams s n g i at t es ≡ given_part lams s n g i at t es
   part_is =
@@ -67,11 +67,11 @@ base_is lams s n g p t es =
     let second : Typ → Result Typ ElabFault = λ (u : Typ). and_then (check at NoMember (is_base_type (base_of_class (slice_get g.state.ctx.classes n)) u)) (λ (y : Bool). Ok (unqualified u)) in
     let rest : Typ → Result Giving ElabFault = λ (u : Typ). and_then (check at NoMember (is_base_type (base_of_class (slice_get g.state.ctx.classes n)) u)) (λ (y : Bool). given_part lams s n g None at (unqualified u) es) in
     let behind : (u : Typ) → and_then (second u) more ≡ rest u = λ u.
-        both_steps (check at NoMember (is_base_type (base_of_class (slice_get g.state.ctx.classes n)) u)) (λ (y : Bool). Ok (unqualified u)) more
-        ∙ same_then (check at NoMember (is_base_type (base_of_class (slice_get g.state.ctx.classes n)) u)) (λ (y : Bool). more (unqualified u)) (λ (y : Bool). given_part lams s n g None at (unqualified u) es) (λ y. part_is lams s n g None at (unqualified u) es) in
+    both_steps (check at NoMember (is_base_type (base_of_class (slice_get g.state.ctx.classes n)) u)) (λ (y : Bool). Ok (unqualified u)) more
+    ∙ same_then (check at NoMember (is_base_type (base_of_class (slice_get g.state.ctx.classes n)) u)) (λ (y : Bool). more (unqualified u)) (λ (y : Bool). given_part lams s n g None at (unqualified u) es) (λ y. part_is lams s n g None at (unqualified u) es) in
     let typed : (u : Typ) → and_then (base_type g.state.ctx n at u) more ≡ given_base lams s n g at u es = λ u.
-        both_steps (check at OutOfProfile (not (is_named_class n u))) (λ (x : Bool). second u) more
-        ∙ same_then (check at OutOfProfile (not (is_named_class n u))) (λ (x : Bool). and_then (second u) more) (λ (x : Bool). rest u) (λ x. behind u) in
+    both_steps (check at OutOfProfile (not (is_named_class n u))) (λ (x : Bool). second u) more
+    ∙ same_then (check at OutOfProfile (not (is_named_class n u))) (λ (x : Bool). and_then (second u) more) (λ (x : Bool). rest u) (λ x. behind u) in
     both_steps (expect at UnknownName (type_named (spelling s t) g.state.ctx.types)) (base_type g.state.ctx n at) more
     ∙ same_then (expect at UnknownName (type_named (spelling s t) g.state.ctx.types)) (λ (u : Typ). and_then (base_type g.state.ctx n at u) more) (λ (u : Typ). given_base lams s n g at u es) typed
 

@@ -79,8 +79,8 @@ pub more_known : (c : Ctx) (old new : List Tree) (ds next : List DefaultInit) (d
 more_known c old new ds next d n i count t frame m w q e f =
     let known : are_known (length old) ds ≡ true = subst (λ (z : ℕ). are_known z ds ≡ true) q w in
     let all : map (shown_default new) next ≡ map (shown_default old) ds ++ record { class = n; member = i; init = t; frame = frame } ∷ [] =
-        ap (map (shown_default new)) e ∙ map_push (shown_default new) ds d ∙ ap (λ (z : List Default). z ++ shown_default new d ∷ []) (known_grown old new ds m.grows known)
-        ∙ ap (λ (z : Default). map (shown_default old) ds ++ z ∷ []) (f ∙ ap (λ (z : Tree). record { class = n; member = i; init = z; frame = frame }) m.is) in
+    ap (map (shown_default new)) e ∙ map_push (shown_default new) ds d ∙ ap (λ (z : List Default). z ++ shown_default new d ∷ []) (known_grown old new ds m.grows known)
+    ∙ ap (λ (z : Default). map (shown_default old) ds ++ z ∷ []) (f ∙ ap (λ (z : Tree). record { class = n; member = i; init = z; frame = frame }) m.is) in
     ap (λ (z : List Default). record c { defaults = z }) all
 
 pub default_done : (lams : Lambdas) (s : List Lexeme) (a b c d e : StateRec) (n i : ℕ) (t : Typ) (tree : syntax.Tree) (around : Round) (id : TNodeId) (x : Tree) (frame : List Typ) → state_of b ≡ in_object (state_of a) n → around ≡ round_function (state_of a) → OneDone b c id (default_from lams s (state_of b) t tree) → state_of d ≡ left_by around (state_of c) → made d ≡ made a → x ≡ tree_at (made c) id → frame ≡ (state_of c).work.frame → made e ≡ made d → state_of e ≡ record (state_of d) { ctx = default_added (state_of d).ctx n i x (drop 1 frame) } → Changed a e (default_made lams s (state_of a) n i t tree)
@@ -125,7 +125,7 @@ no_initialiser lams s a n tree v e f = record { grown = grown_refl a; is = ap (d
 pub of_member : (lams : Lambdas) (s : List Lexeme) (a c : StateRec) (n i : ℕ) (tree x : syntax.Tree) (o : Option ℕ) (v : Option syntax.Tree) (u : Typ) (r : Result (Unit {0}) ElabFault) → o ≡ member_declared s (state_of a).ctx n tree → o ≡ Some i → v ≡ initialiser_in (kids_of tree) → v ≡ Some x → u ≡ member_type (slice_get (members_in (slice_get (state_of a).ctx.classes n)) i) → Changes a c r (default_made lams s (state_of a) n i u x) → Changes a c r (default_of lams s n (state_of a) tree)
 of_member lams s a c n i tree x o v u r e f g h q m =
     let is : default_of lams s n (state_of a) tree ≡ default_made lams s (state_of a) n i u x =
-        ap (λ (z : Option ℕ). default_for lams s (state_of a) n z (initialiser_in (kids_of tree))) (sym e ∙ f)
-        ∙ ap (default_for lams s (state_of a) n (Some i)) (sym g ∙ h)
-        ∙ ap (λ (z : Typ). default_made lams s (state_of a) n i z x) (sym q) in
+    ap (λ (z : Option ℕ). default_for lams s (state_of a) n z (initialiser_in (kids_of tree))) (sym e ∙ f)
+    ∙ ap (default_for lams s (state_of a) n (Some i)) (sym g ∙ h)
+    ∙ ap (λ (z : Typ). default_made lams s (state_of a) n i z x) (sym q) in
     subst (λ (z : Result State ElabFault). Changes a c r z) (sym is) m

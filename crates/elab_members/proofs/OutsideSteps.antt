@@ -54,7 +54,7 @@ module _ (s : List Lexeme) (c : Ctx) (w : Work) (bodies : List Body) (at : At) (
       let owned_is : (r : Declared) → and_then (owned r) last ≡ and_then (owner_named s c at r.owner) (λ n. and_then (head r n) last) = λ r. both_steps (owner_named s c at r.owner) (head r) last in
       sym (both_steps (type_of_specifiers s c w base) found last
       ∙ same_then (type_of_specifiers s c w base) (λ (t : Typ). and_then (found t) last) (λ (t : Typ). and_then (declared_by s c w at t d) (λ (r : Declared). and_then (owner_named s c at r.owner) (λ n. and_then (head r n) last)))
-        (λ t. both_steps (declared_by s c w at t d) owned last ∙ same_then (declared_by s c w at t d) (λ (r : Declared). and_then (owned r) last) (λ (r : Declared). and_then (owner_named s c at r.owner) (λ n. and_then (head r n) last)) owned_is))
+      (λ t. both_steps (declared_by s c w at t d) owned last ∙ same_then (declared_by s c w at t d) (λ (r : Declared). and_then (owned r) last) (λ (r : Declared). and_then (owner_named s c at r.owner) (λ n. and_then (head r n) last)) owned_is))
 
   special_steps : (kind : FuncKind) (d : Tree) (rest : Trees) → and_then (declared_by s c w at (plain void) d) (λ (r : Declared). and_then (owner_named s c at r.owner) (λ n. and_then (special_header n (name_of_class (slice_get c.classes n)) at x kind r (name_of s r.name)) (λ (h : Header). Ok (method_with h rest)))) ≡ and_then (outside_special s c w at x kind d) (λ (h : Header). Ok (method_with h rest))
   special_steps kind d rest =
