@@ -1,1 +1,4 @@
+pub mod Bodied
+pub mod Joins
+pub mod KidSteps
 pub mod Reading

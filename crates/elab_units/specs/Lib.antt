@@ -1,1 +1,4 @@
+pub mod Begun
+pub mod Joined
+pub mod Made
 pub mod Readable

@@ -1,46 +1,62 @@
 // What every unit knows (profile).
 
+ghost use Rattle.std.specs.Prelude.{◌≡◌, ◌∷◌, [], length, map, option_map, codes, true, false, Some, None, IfOk, OnOk};
+ghost use Rattle.elab_entry.specs.cpp_types.Typ.{typ_of, typs_of, signature_of, signature, void};
+ghost use Rattle.elab_entry.specs.cpp_types.Class.{classes_of};
+ghost use Rattle.elab_entry.specs.elab_ctx.cpp_names.Names.{with_name};
+ghost use Rattle.elab_entry.specs.elab_ctx.cpp_names.declared.entity.EntityKind.TheVariants as entities;
+ghost use Rattle.elab_entry.specs.cpp_tree.Notation.{plain};
+ghost use Rattle.elab_entry.specs.elab_ctx.Ctx.{func_of, labels_of};
+ghost use Rattle.elab_entry.specs.elab_rules.Statements.{no_labels as no_labels_of};
+ghost use Rattle.elab_entry.specs.elab_rules.Units.{int_typ, thread_function, builtin as builtin_of, builtins as builtins_of, start};
+ghost use Rattle.elab_entry.specs.elab_scopes.States.{state_of, made};
+ghost use Rattle.elab_units.specs.Begun.{one_or_two, long_typ, program_with, traits_known, begun_behind};
+
+pub use crate::known::Classes;
 use elab_entry::below::{
-    At, Builtin, ClassRec, Entity, EntityKind, Env, FnTy, FuncDecl, FuncKind, FuncRec, IntKind,
-    Label, Labels, Linkage, Returns, Safety, Scopes, Shape, SlotRec, State, Traits, Ty, Work,
-    plain_type,
+    At, Builtin, Entity, EntityKind, Env, FnTy, FuncDecl, FuncKind, FuncRec, IntKind, Label,
+    Labels, Linkage, Returns, Safety, Scopes, Shape, State, Ty, Work, plain_type, pointer_to,
 };
 use std::alloc::{AllocError, Global};
 
-/// The classes of all units so far.
-#[derive(Drop)]
-pub struct Classes {
-    pub classes: Vec<ClassRec>,
-    pub traits: Vec<Traits>,
-    pub slots: Vec<Vec<SlotRec>>,
-    /// They are in order, so that their objects have sizes.
-    pub ghost in_order: { all_consistent (classes_of classes.items) ≡ true },
-}
-
-ghost use Rattle.std.specs.Prelude.{◌≡◌, true};
-ghost use Rattle.elab_entry.specs.cpp_types.Class.{classes_of};
-ghost use Rattle.elab_entry.specs.cpp_types.Order.{all_consistent};
-
-fn int_type() -> Ty {
+fn int_type() -> Ty
+    ensures { typ_of result ≡ int_typ }
+{
     plain_type(Shape::Int(IntKind::Int))
 }
 
-fn long_type() -> Ty {
+fn long_type() -> Ty
+    ensures { typ_of result ≡ long_typ }
+{
     plain_type(Shape::Int(IntKind::Long))
 }
 
-fn void_type() -> Ty {
+fn void_type() -> Ty
+    ensures { typ_of result ≡ plain void }
+{
     plain_type(Shape::Void)
 }
 
 // A list of one type, or of two.
-fn types_of(alloc: Global, first: Ty, second: Option<Ty>) -> Result<Vec<Ty>, AllocError> {
+fn types_of(alloc: Global, first: Ty, second: Option<Ty>) -> Result<Vec<Ty>, AllocError>
+    ensures { IfOk result (λ v. typs_of v.items ≡ one_or_two (typ_of first) (option_map typ_of second)) }
+{
     let mut list = Vec::new(alloc);
     list.push(first)?;
     if let Some(ty) = second {
         list.push(ty)?;
     }
     Ok(list)
+}
+
+fn function_type(params: Vec<Ty>, ret: Ty) -> FnTy
+    ensures { signature_of result ≡ signature (typs_of params.items) (typ_of ret) false }
+{
+    FnTy {
+        params,
+        ret,
+        safe: false,
+    }
 }
 
 // A function that every unit knows.
@@ -50,15 +66,13 @@ fn builtin(
     name: &[u8],
     params: Vec<Ty>,
     ret: Ty,
-) -> Result<FuncDecl, AllocError> {
+) -> Result<FuncDecl, AllocError>
+    ensures { IfOk result (λ f. func_of f ≡ builtin_of which name.now (typs_of params.items) (typ_of ret)) }
+{
     let name = Vec::from_slice(alloc, name)?;
     let rec = FuncRec {
         name,
-        ty: FnTy {
-            params,
-            ret,
-            safe: false,
-        },
+        ty: function_type(params, ret),
         is_const: false,
         is_virtual: false,
         is_override: false,
@@ -87,22 +101,18 @@ fn builtin(
 }
 
 // The type of pointers to functions that threads run.
-fn thread_type(alloc: Global) -> Result<Ty, AllocError> {
+fn thread_type(alloc: Global) -> Result<Ty, AllocError>
+    ensures { IfOk result (λ t. typ_of t ≡ thread_function) }
+{
     let params = types_of(alloc, long_type(), None)?;
-    let function = Box::new(
-        alloc,
-        FnTy {
-            params,
-            ret: void_type(),
-            safe: false,
-        },
-    )?;
-    let target = Box::new(alloc, plain_type(Shape::Func(function)))?;
-    Ok(plain_type(Shape::Ptr(target)))
+    let function = Box::new(alloc, function_type(params, void_type()))?;
+    pointer_to(alloc, plain_type(Shape::Func(function)))
 }
 
 // The functions that every unit knows.
-fn builtins(alloc: Global) -> Result<Vec<FuncDecl>, AllocError> {
+fn builtins(alloc: Global) -> Result<Vec<FuncDecl>, AllocError>
+    ensures { IfOk result (λ v. map func_of v.items ≡ builtins_of) }
+{
     let one_int = types_of(alloc, int_type(), None)?;
     let again = types_of(alloc, int_type(), None)?;
     let spawned = types_of(alloc, thread_type(alloc)?, Some(long_type()))?;
@@ -120,7 +130,9 @@ fn builtins(alloc: Global) -> Result<Vec<FuncDecl>, AllocError> {
 }
 
 // Gives the name of a function that every unit knows its meaning.
-fn name_builtin(scopes: &mut Scopes, name: &[u8], id: u32) -> Result<(), AllocError> {
+fn name_builtin(scopes: &mut Scopes, name: &[u8], id: u32) -> Result<(), AllocError>
+    ensures { OnOk result (scopes.new ≡ with_name scopes.old name.now (record { kind = entities.Funcs; id = id })) }
+{
     if scopes.is_empty() {
         return Err(AllocError);
     }
@@ -136,18 +148,23 @@ fn name_builtin(scopes: &mut Scopes, name: &[u8], id: u32) -> Result<(), AllocEr
 }
 
 // The scope of a unit, with the names of these functions.
-fn unit_scopes(alloc: Global) -> Result<Scopes, AllocError> {
+fn unit_scopes(alloc: Global) -> Result<Scopes, AllocError>
+    ensures { IfOk result (λ s. s ≡ (start 0).ctx.scopes) }
+{
     let mut scopes = Scopes::new(alloc);
     scopes.push()?;
-    name_builtin(&mut scopes, b"__txcc_join", 3)?;
-    name_builtin(&mut scopes, b"__txcc_spawn", 2)?;
-    name_builtin(&mut scopes, b"getchar", 1)?;
     name_builtin(&mut scopes, b"putchar", 0)?;
+    name_builtin(&mut scopes, b"getchar", 1)?;
+    name_builtin(&mut scopes, b"__txcc_spawn", 2)?;
+    name_builtin(&mut scopes, b"__txcc_join", 3)?;
     Ok(scopes)
 }
 
 /// No classes yet.
-pub fn no_classes(alloc: Global) -> Classes {
+pub fn no_classes(alloc: Global) -> Classes
+    ensures known { program_with [] result ≡ record { units = []; classes = []; slots = [] } }
+    ensures traits { traits_known result ≡ [] }
+{
     Classes {
         classes: Vec::new(alloc),
         traits: Vec::new(alloc),
@@ -155,7 +172,9 @@ pub fn no_classes(alloc: Global) -> Classes {
     }
 }
 
-fn no_labels(alloc: Global) -> Labels {
+fn no_labels(alloc: Global) -> Labels
+    ensures { labels_of result ≡ no_labels_of (plain void) }
+{
     Labels {
         ty: void_type(),
         words: Vec::new(alloc),
@@ -165,7 +184,10 @@ fn no_labels(alloc: Global) -> Labels {
 }
 
 /// The beginning of a unit behind others: their classes stay, their names are gone.
-pub fn start_behind(alloc: Global, source: u32, known: Classes) -> Result<State, AllocError> {
+pub fn start_behind(alloc: Global, source: u32, known: Classes) -> Result<State, AllocError>
+    ensures state { IfOk result (λ st. state_of st ≡ begun_behind source known) }
+    ensures nodes { IfOk result (λ st. made st ≡ []) }
+{
     let scopes = unit_scopes(alloc)?;
     let funcs = builtins(alloc)?;
     let env = Env {

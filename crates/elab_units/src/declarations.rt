@@ -2,6 +2,11 @@
 
 ghost use Rattle.std.specs.Prelude.{◌≡◌, ◌<◌, length, true};
 ghost use Rattle.elab_entry.specs.cpp_ast.Orders.{are_below};
+ghost use Rattle.elab_entry.specs.cpp_ast.Trees.{node};
+ghost use Rattle.elab_entry.specs.cpp_types.Typ.{typ_of};
+ghost use Rattle.elab_entry.specs.cpp_tree.Typing.{form_in};
+ghost use Rattle.elab_entry.specs.elab_types.Syntax.{syntax_of, tree_at, trees_at};
+ghost use Rattle.class_table.specs.Written.{is_function_form};
 
 use crate::definitions::function_defined;
 use crate::lambdas::UnitLambdas;
@@ -21,6 +26,7 @@ use std::alloc::Global;
 /// The node with an id. Its kids stand in the list, and below it.
 pub fn node_in(nodes: &Nodes, id: NodeId) -> &Node
     requires { id.0 < length nodes.now }
+    ensures node { tree_at (syntax_of nodes.now) id ≡ node result.now.kind result.now.at result.now.token (trees_at (syntax_of nodes.now) result.now.kids.items) }
     ensures within { are_below (length nodes.now) result.now.kids.items ≡ true }
     ensures lower { are_below id.0 result.now.kids.items ≡ true }
 {
@@ -51,8 +57,13 @@ pub fn header_of(
 }
 
 /// Whether a type is that of a function.
-pub fn is_function(ty: &Ty) -> bool {
-    matches!(&ty.shape, Shape::Func(_))
+pub fn is_function(ty: &Ty) -> bool
+    ensures { result ≡ is_function_form (form_in (typ_of ty.now)) }
+{
+    match &ty.shape {
+        Shape::Func(_) => true,
+        _ => false,
+    }
 }
 
 // A variable that a declarator declares.

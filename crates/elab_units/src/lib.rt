@@ -6,6 +6,7 @@ pub mod beginning;
 pub mod declarations;
 pub mod definitions;
 pub mod joining;
+pub mod known;
 mod lambdas;
 pub mod programs;
 pub mod readable;

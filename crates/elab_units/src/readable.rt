@@ -70,7 +70,8 @@ fn have_roots(count: usize, funcs: &[TFunc]) -> bool
 /// The unit, whose nodes stand behind their kids and whose bodies stand in the list. Another one is not made; it would
 /// count as want of memory.
 pub fn readable_unit(unit: UnitTree) -> Result<UnitTree, AllocError>
-    ensures { IfOk result (λ u. IsReadable u) }
+    ensures readable { IfOk result (λ u. IsReadable u) }
+    ensures same { IfOk result (λ u. u ≡ unit) }
 {
     let nodes = unit.nodes.as_slice();
     let funcs = unit.funcs.as_slice();

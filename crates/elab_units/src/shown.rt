@@ -1,7 +1,24 @@
 // The typed form of a unit.
 
-ghost use Rattle.std.specs.Prelude.{◌≡◌, ◌<◌, ◌≤◌, length, true, IfOk};
+ghost use Rattle.std.specs.Prelude.{◌≡◌, ◌<◌, ◌≤◌, ◌∷◌, ◌++◌, [], List, length, map, true, None, Some, is_some, IfOk, OnOk, MatchOption};
 ghost use Rattle.elab_entry.specs.cpp_ast.Orders.{are_below};
+ghost use Rattle.elab_entry.specs.cpp_types.Typ.{typ_of};
+ghost use Rattle.elab_entry.specs.cpp_types.Class.{classes_of};
+ghost use Rattle.elab_entry.specs.cpp_lex.Tokens.{Lexeme, lexemes_of};
+ghost use Rattle.elab_entry.specs.cpp_ast.Trees.{node, Trees};
+ghost use Rattle.elab_entry.specs.cpp_ast.declared.arena.At.{At as SyntaxAt};
+ghost use Rattle.elab_entry.specs.elab_ctx.Steps.{spelling as spelling_of};
+ghost use Rattle.elab_entry.specs.cpp_tree.Trees.{Tree};
+ghost use Rattle.elab_entry.specs.cpp_tree.Units.{func_of as typed_func_of, definition_of, unit_of};
+ghost use Rattle.elab_entry.specs.elab_ctx.Ctx.{Ctx, func_of, named_of};
+ghost use Rattle.elab_entry.specs.cpp_tree.Typing.{is_class_typ};
+ghost use Rattle.elab_entry.specs.elab_rules.Initialising.{signature_result};
+ghost use Rattle.elab_entry.specs.elab_rules.Types.{type_named as type_named_of};
+ghost use Rattle.elab_entry.specs.elab_rules.Statements.{State as StateOf, Body as BodyOf};
+ghost use Rattle.elab_entry.specs.elab_rules.Programs.{one_if as one_if_of, words_of as words_of_of, typed_func as typed_func_of_rules, typed_funcs as typed_funcs_of, definition_in as definition_in_of, definition_if, definitions_in as definitions_in_of, unit_shown as unit_shown_of};
+ghost use Rattle.elab_entry.specs.elab_types.Syntax.{syntax_of, tree_at, trees_at};
+ghost use Rattle.elab_units.specs.Joined.{placed_in};
+ghost use Rattle.elab_units.specs.Made.{with_body, with_bodies, state_with, class_of_typ, class_called, definition_by};
 ghost use Rattle.elab_units.specs.Readable.{IsReadable};
 
 use crate::declarations::node_in;
@@ -14,20 +31,37 @@ use elab_entry::below::{
 };
 use elab_globals::symbol_of;
 use std::alloc::{AllocError, Global};
-use std::mem;
 
 fn one_if(holds: bool) -> u32
-    ensures { result ≤ 1 }
+    ensures is { result ≡ one_if_of holds }
+    ensures small { result ≤ 1 }
 {
     if holds { 1 } else { 0 }
 }
 
+// The address of a result of class type.
+fn result_words(found: &FuncDecl) -> u32
+    ensures is { result ≡ one_if_of (is_class_typ (signature_result (func_of found.now).declared.signature)) }
+    ensures small { result ≤ 1 }
+{
+    one_if(is_class_type(&found.rec.ty.ret))
+}
+
+fn object_words(found: &FuncDecl) -> u32
+    ensures is { result ≡ one_if_of (is_some (func_of found.now).class) }
+    ensures small { result ≤ 1 }
+{
+    one_if(found.class.is_some())
+}
+
 // How many words a call passes: the address of a result of class type, the object, the parameters.
-fn words_of(found: &FuncDecl) -> Result<u32, AllocError> {
+fn words_of(found: &FuncDecl) -> Result<u32, AllocError>
+    ensures { IfOk result (λ n. n ≡ words_of_of (func_of found.now)) }
+{
     let Ok(count) = u32::try_from(found.params.len()) else {
         return Err(AllocError);
     };
-    let first = one_if(is_class_type(&found.rec.ty.ret)) + one_if(found.class.is_some());
+    let first = result_words(found) + object_words(found);
     match count.checked_add(first) {
         Some(words) => Ok(words),
         None => Err(AllocError),
@@ -35,7 +69,9 @@ fn words_of(found: &FuncDecl) -> Result<u32, AllocError> {
 }
 
 // A function without a body.
-fn typed_func(alloc: Global, found: FuncDecl, classes: &[ClassRec]) -> Result<TFunc, AllocError> {
+fn typed_func(alloc: Global, found: FuncDecl, classes: &[ClassRec]) -> Result<TFunc, AllocError>
+    ensures { (trees : List Tree) → IfOk result (λ f. typed_func_of trees f ≡ typed_func_of_rules (classes_of classes.now) (func_of found) None) }
+{
     let symbol = symbol_of(alloc, &found, classes)?;
     let words = words_of(&found)?;
     Ok(TFunc {
@@ -59,7 +95,9 @@ fn typed_funcs(
     alloc: Global,
     funcs: Vec<FuncDecl>,
     classes: &[ClassRec],
-) -> Result<Vec<TFunc>, AllocError> {
+) -> Result<Vec<TFunc>, AllocError>
+    ensures { (trees : List Tree) → IfOk result (λ v. map (typed_func_of trees) v.items ≡ map (λ f. typed_func_of_rules (classes_of classes.now) (func_of f) None) funcs.items) }
+{
     let mut list = Vec::new(alloc);
     for found in funcs {
         let made = typed_func(alloc, found, classes)?;
@@ -69,32 +107,117 @@ fn typed_funcs(
 }
 
 // Gives a function its body, unless it has one.
-fn put_body(func: &mut TFunc, body: Placed) {
-    if func.body.is_none() {
-        func.body = Some(body.tree);
-        func.frame = body.frame;
-    }
-}
-
-// Gives functions their bodies.
-fn put_bodies(funcs: &mut Vec<TFunc>, bodies: Vec<Placed>) {
-    for body in bodies {
-        if let Some(func) = funcs.get_mut(body.func as usize) {
-            put_body(func, body);
+fn put_body(func: &mut TFunc, body: Placed)
+    ensures { (trees : List Tree) → typed_func_of trees func.new ≡ with_body (typed_func_of trees func.old) (Some (placed_in trees body)) }
+{
+    match func.body {
+        Some(_) => {}
+        None => {
+            func.body = Some(body.tree);
+            func.frame = body.frame;
         }
     }
 }
 
-fn class_in(ty: &Ty) -> Option<u32> {
+// Gives a body to its function.
+fn put_one(funcs: &mut Vec<TFunc>, body: Placed)
+    ensures { (trees : List Tree) (rest : List BodyOf) → with_bodies 0 (map (typed_func_of trees) funcs.new.items) rest ≡ with_bodies 0 (map (typed_func_of trees) funcs.old.items) (placed_in trees body ∷ rest) }
+{
+    match funcs.get_mut(body.func as usize) {
+        Some(func) => put_body(func, body),
+        None => {}
+    }
+}
+
+// Gives functions their bodies.
+fn put_bodies(funcs: &mut Vec<TFunc>, bodies: Vec<Placed>)
+    ensures { (trees : List Tree) → map (typed_func_of trees) funcs.new.items ≡ with_bodies 0 (map (typed_func_of trees) funcs.old.items) (map (placed_in trees) bodies.items) }
+{
+    for body in bodies {
+        put_one(funcs, body);
+    }
+}
+
+// The functions of a unit with their bodies.
+fn funcs_shown(
+    alloc: Global,
+    funcs: Vec<FuncDecl>,
+    bodies: Vec<Placed>,
+    classes: &[ClassRec],
+) -> Result<Vec<TFunc>, AllocError>
+    ensures { (trees : List Tree) (st : StateOf) → st.ctx.classes ≡ classes_of classes.now → st.bodies ≡ map (placed_in trees) bodies.items → IfOk result (λ v. map (typed_func_of trees) v.items ≡ typed_funcs_of st 0 (map func_of funcs.items)) }
+{
+    let mut list = typed_funcs(alloc, funcs, classes)?;
+    put_bodies(&mut list, bodies);
+    Ok(list)
+}
+
+fn class_in(ty: &Ty) -> Option<u32>
+    ensures { result ≡ class_of_typ (typ_of ty.now) }
+{
     match &ty.shape {
         Shape::Class(class) => Some(*class),
-        _ => None,
+        Shape::Void
+        | Shape::Int(_)
+        | Shape::Enum { .. }
+        | Shape::Null
+        | Shape::Ptr(_)
+        | Shape::Ref(_)
+        | Shape::Array(_, _)
+        | Shape::Func(_)
+        | Shape::Closure(_)
+        | Shape::TxEx(_) => None,
     }
 }
 
 // The class that a name stands for.
-fn class_named(types: &[TypeName], name: &[u8]) -> Option<u32> {
-    class_in(type_named(types, name)?)
+fn class_named(types: &[TypeName], name: &[u8]) -> Option<u32>
+    ensures { result ≡ class_called (type_named_of name.now (map named_of types.now)) }
+{
+    match type_named(types, name) {
+        Some(ty) => class_in(ty),
+        None => None,
+    }
+}
+
+// The token of a class that is defined.
+fn class_token(kind: NodeKind, token: Option<u32>) -> Option<u32>
+    ensures { (s : List Lexeme) (c : Ctx) (at : SyntaxAt) (kids : Trees) → MatchOption result (definition_in_of s c (node kind at token kids) ≡ []) (λ t. definition_in_of s c (node kind at token kids) ≡ definition_if s (type_named_of (spelling_of s t) c.types) kids) }
+{
+    match kind {
+        NodeKind::ClassSpecifier => token,
+        _ => None,
+    }
+}
+
+// Puts a definition behind others, if there is one.
+fn keep_class(list: &mut Vec<ClassDef>, class: u32, text: Vec<u8>) -> Result<(), AllocError>
+    ensures { OnOk result (map definition_of list.new.items ≡ map definition_of list.old.items ++ definition_by (Some class) text.items) }
+{
+    list.push(ClassDef { class, text })?;
+    Ok(())
+}
+
+// The class with the name that a token spells.
+fn keep_named(
+    alloc: Global,
+    tokens: &Tokens,
+    nodes: &Nodes,
+    types: &[TypeName],
+    token: u32,
+    kids: &[NodeId],
+    list: &mut Vec<ClassDef>,
+) -> Result<(), AllocError>
+    requires { are_below (length nodes.now) kids.now ≡ true }
+    ensures { OnOk result (map definition_of list.new.items ≡ map definition_of list.old.items ++ definition_if (lexemes_of tokens.now) (type_named_of (spelling_of (lexemes_of tokens.now) token) (map named_of types.now)) (trees_at (syntax_of nodes.now) kids.now)) }
+{
+    match class_named(types, spelling(tokens, token)) {
+        Some(class) => {
+            let text = class_text(alloc, tokens, nodes, kids)?;
+            keep_class(list, class, text)
+        }
+        None => Ok(()),
+    }
 }
 
 // The class that a declaration defines.
@@ -107,20 +230,13 @@ fn keep_definition(
     list: &mut Vec<ClassDef>,
 ) -> Result<(), AllocError>
     requires { id.0 < length nodes.now }
+    ensures { (c : Ctx) → OnOk result (map definition_of list.new.items ≡ map definition_of list.old.items ++ definition_in_of (lexemes_of tokens.now) (record c { types = map named_of types.now }) (tree_at (syntax_of nodes.now) id)) }
 {
     let node = node_in(nodes, id);
-    if !matches!(node.kind, NodeKind::ClassSpecifier) {
-        return Ok(());
+    match class_token(node.kind, node.token) {
+        Some(token) => keep_named(alloc, tokens, nodes, types, token, &node.kids, list),
+        None => Ok(()),
     }
-    let Some(token) = node.token else {
-        return Ok(());
-    };
-    let Some(class) = class_named(types, spelling(tokens, token)) else {
-        return Ok(());
-    };
-    let text = class_text(alloc, tokens, nodes, &node.kids)?;
-    list.push(ClassDef { class, text })?;
-    Ok(())
 }
 
 // The classes that declarations define.
@@ -132,6 +248,7 @@ fn definitions_in(
     ids: &[NodeId],
 ) -> Result<Vec<ClassDef>, AllocError>
     requires { are_below (length nodes.now) ids.now ≡ true }
+    ensures { (c : Ctx) → IfOk result (λ v. map definition_of v.items ≡ definitions_in_of (lexemes_of tokens.now) (record c { types = map named_of types.now }) (trees_at (syntax_of nodes.now) ids.now)) }
 {
     let mut list = Vec::new(alloc);
     for id in ids {
@@ -159,15 +276,12 @@ pub fn unit_shown(
     classes: &[ClassRec],
 ) -> Result<UnitTree, AllocError>
     requires { are_below (length nodes.now) ids.now ≡ true }
-    ensures { IfOk result (λ u. IsReadable u) }
+    ensures readable { IfOk result (λ u. IsReadable u) }
+    ensures shown { (st : StateOf) → IfOk result (λ u. unit_of u ≡ unit_shown_of (lexemes_of tokens.now) (trees_at (syntax_of nodes.now) ids.now) (state_with st made (classes_of classes.now))) }
 {
     let defined = definitions_in(alloc, tokens, nodes, &made.types, ids)?;
-    let mut funcs = typed_funcs(alloc, made.funcs, classes)?;
-    let mut joined = joined_bodies(alloc, made.bodies)?;
-    put_bodies(
-        &mut funcs,
-        mem::replace(&mut joined.bodies, Vec::new(alloc)),
-    );
+    let joined = joined_bodies(alloc, made.bodies)?;
+    let funcs = funcs_shown(alloc, made.funcs, joined.bodies, classes)?;
     readable_unit(UnitTree {
         nodes: joined.nodes,
         funcs,
