@@ -1,20 +1,22 @@
 //! For each thread, what is ordered before its next item by its own items and its start.
-ghost use Rattle.std.specs.Prelude.{◌≡◌, ℕ, ◌<◌, ◌≤◌, ◌+◌, IfOk, List, Some, length, slice_get, slice_index};
+ghost use Rattle.std.specs.Prelude.{◌≡◌, ℕ, ◌<◌, ◌≤◌, ◌+◌, ◌^◌, ◌⊎◌, IfOk, true, false, List, Some, length, slice_get, slice_index, slice_index_or};
 ghost use Rattle.tx_events.specs.declared.Item.{Item};
-ghost use Rattle.tx_events.specs.declared.What.TheVariants.{Spawned};
-ghost use Rattle.race_check.specs.Clocks.{Clocked, row_in};
+ghost use Rattle.tx_events.specs.declared.What.TheVariants.{Enter, Joined, Spawned};
+ghost use Rattle.race_check.specs.Blocks.{Blocked};
+ghost use Rattle.race_check.specs.Clocks.{Clocked, Reached, row_at, row_in};
 ghost use Rattle.race_check.specs.Regular.{Regular};
 ghost use Rattle.race_check.specs.Rows.{Down, Greater};
 
-use crate::rows::{Row, THREADS, empty_row};
+use crate::blocks::Blocks;
+use crate::rows::{Row, THREADS, add_item, empty_row};
 use std::alloc::{AllocError, Global};
 use tx_events::{Item, What};
 
-/// For each thread, the row of its items so far, and the row of what starts it.
+/// For each thread, the row of its items so far and of what starts it, and whether it has items so far.
 #[derive(Drop)]
 pub(crate) struct Clocks {
-    pub(crate) done: Vec<Row>,
-    pub(crate) starts: Vec<Row>,
+    pub(crate) rows: Vec<Row>,
+    pub(crate) begun: Vec<bool>,
 }
 
 // A row for each thread that counts nothing.
@@ -27,48 +29,55 @@ fn empty_rows(alloc: Global) -> Result<Vec<Row>, AllocError>
     Ok(rows)
 }
 
-// What row `t` counts is counted too.
-fn add_from(row: &mut Row, rows: &[Row], t: usize)
-    requires { t < length rows.now }
-    ensures { Greater (slice_index row.old.latest) (row_in rows.now t) (slice_index row.new.latest) }
+// No thread has items.
+fn none_begun(alloc: Global) -> Result<Vec<bool>, AllocError>
+    ensures size { IfOk result (λ begun. length begun.items ≡ 64) }
+    ensures none { IfOk result (λ begun. (t : ℕ) → slice_index_or begun.items t false ≡ false) }
 {
-    row.add(&rows[t]);
+    let begun = vec![in alloc; false; THREADS]?;
+    Ok(begun)
 }
 
-// Row `t` becomes this row.
-fn set_at(rows: &mut Vec<Row>, t: usize, row: &Row)
-    requires { t < length rows.old.items }
+// Row `t` counts what row `other` counts too.
+fn add_at(rows: &mut Vec<Row>, t: u8, other: u8)
+    requires within { t < length rows.old.items }
+    requires other { other < length rows.old.items }
     ensures size { length rows.new.items ≡ length rows.old.items }
-    ensures there { (s : ℕ) → row_in rows.new.items t s ≡ slice_index row.now.latest s }
+    ensures there { Greater (row_in rows.old.items t) (row_in rows.old.items other) (row_in rows.new.items t) }
     ensures others { (u s : ℕ) → (u ≡ t → ⊥) → row_in rows.new.items u s ≡ row_in rows.old.items u s }
 {
-    rows[t] = *row;
+    let more = rows[usize::from(other)];
+    let row = &mut rows[usize::from(t)];
+    row.add(&more);
 }
 
-// Row `t` counts what this row counts too.
-fn add_at(rows: &mut Vec<Row>, t: usize, row: &Row)
-    requires { t < length rows.old.items }
+// Row `t` counts item `p` of thread `t` too.
+fn count_at(rows: &mut Vec<Row>, t: u8, p: usize)
+    requires within { t < length rows.old.items }
+    requires thread { t < 64 }
+    requires fits { p + 1 < 2 ^ 64 }
     ensures size { length rows.new.items ≡ length rows.old.items }
-    ensures there { Greater (row_in rows.old.items t) (slice_index row.now.latest) (row_in rows.new.items t) }
+    ensures kept { (s : ℕ) → row_in rows.old.items t s ≤ row_in rows.new.items t s }
+    ensures gained { p < row_in rows.new.items t t }
+    ensures only { (s : ℕ) → (row_in rows.new.items t s ≡ row_in rows.old.items t s) ⊎ ((s ≡ t) × (row_in rows.new.items t s ≡ p + 1)) }
     ensures others { (u s : ℕ) → (u ≡ t → ⊥) → row_in rows.new.items u s ≡ row_in rows.old.items u s }
 {
-    let mut more = rows[t];
-    more.add(row);
-    rows[t] = more;
+    let row = &mut rows[usize::from(t)];
+    add_item(&mut row.latest, usize::from(t), p);
 }
 
-// A thread is started by the item that `whole` counts last.
-fn put_start(starts: &mut Vec<Row>, what: What, whole: &Row)
-    requires { length starts.old.items ≡ 64 }
-    ensures size { length starts.new.items ≡ 64 }
-    ensures there { (child : ℕ) → what ≡ Spawned child → child < 64 → Greater (row_in starts.old.items child) (slice_index whole.now.latest) (row_in starts.new.items child) }
-    ensures others { (u s : ℕ) → (what ≡ Spawned u → ⊥) → row_in starts.new.items u s ≡ row_in starts.old.items u s }
+// If it starts a thread, that thread's row counts what row `t` counts too.
+fn put_start(rows: &mut Vec<Row>, what: What, t: u8)
+    requires size { length rows.old.items ≡ 64 }
+    requires within { t < 64 }
+    ensures size { length rows.new.items ≡ 64 }
+    ensures there { (child : ℕ) → what ≡ Spawned child → child < 64 → Greater (row_in rows.old.items child) (row_in rows.old.items t) (row_in rows.new.items child) }
+    ensures others { (u s : ℕ) → (what ≡ Spawned u → ⊥) → row_in rows.new.items u s ≡ row_in rows.old.items u s }
 {
     match what {
         What::Spawned { child } => {
-            let t = usize::from(child);
-            if t < THREADS {
-                add_at(starts, t, whole);
+            if usize::from(child) < THREADS {
+                add_at(rows, child, t);
             }
         }
         What::Read { .. } | What::Write { .. } | What::Enter | What::Leave | What::Joined { .. } =>
@@ -76,48 +85,84 @@ fn put_start(starts: &mut Vec<Row>, what: What, whole: &Row)
     }
 }
 
+// The thread has an item.
+fn begin(begun: &mut Vec<bool>, t: u8)
+    requires { t < length begun.old.items }
+    ensures size { length begun.new.items ≡ length begun.old.items }
+    ensures there { slice_index_or begun.new.items t false ≡ true }
+    ensures others { (u : ℕ) → (u ≡ t → ⊥) → slice_index_or begun.new.items u false ≡ slice_index_or begun.old.items u false }
+{
+    begun[usize::from(t)] = true;
+}
+
 impl Clocks {
     pub(crate) fn new(alloc: Global) -> Result<Clocks, AllocError>
         ensures { IfOk result (λ clocks. (items : List Item) → Clocked items clocks 0) }
     {
-        let done = empty_rows(alloc)?;
-        let starts = empty_rows(alloc)?;
-        Ok(Clocks { done, starts })
+        let rows = empty_rows(alloc)?;
+        let begun = none_begun(alloc)?;
+        Ok(Clocks { rows, begun })
     }
 
-    /// What is ordered before the thread's next item by its own items and its start.
-    pub(crate) fn own(&self, t: usize) -> Row
-        requires within { t < 64 }
-        requires done { length self.now.done.items ≡ 64 }
-        requires starts { length self.now.starts.items ≡ 64 }
-        ensures { Greater (row_in self.now.done.items t) (row_in self.now.starts.items t) (slice_index result.latest) }
+    // The thread has items so far.
+    fn is_begun(&self, t: u8) -> bool
+        requires { t < length self.now.begun.items }
+        ensures { result ≡ slice_index_or self.now.begun.items t false }
     {
-        let mut row = self.done[t];
-        add_from(&mut row, self.starts.as_slice(), t);
-        row
+        self.begun[usize::from(t)]
     }
 
-    /// The items of a thread that is joined, if there are any, are counted too.
-    pub(crate) fn add_child(&self, row: &mut Row, child: u8)
-        requires { length self.now.done.items ≡ 64 }
-        ensures { Greater (slice_index row.old.latest) (row_in self.now.done.items child) (slice_index row.new.latest) }
+    /// The row of a thread.
+    pub(crate) fn row(&self, t: u8) -> &Row
+        requires { t < length self.now.rows.items }
+        ensures { result.now.latest ≡ row_at self.now.rows.items t }
+    {
+        &self.rows[usize::from(t)]
+    }
+
+    /// At a join, the items of the child are counted too, if there are any.
+    pub(crate) fn join(&mut self, items: &[Item], item: Item, j: usize, child: u8)
+        requires regular { Regular items.now }
+        requires there { slice_get items.now j ≡ Some item }
+        requires joins { item.what ≡ Joined child }
+        requires so_far { Clocked items.now self.old j }
+        ensures { Reached items.now self.new j item.t }
     {
         let t = usize::from(child);
         if t >= THREADS {
             return;
         }
-        add_from(row, self.done.as_slice(), t);
+        if !self.is_begun(child) {
+            return;
+        }
+        add_at(&mut self.rows, item.t, child);
     }
 
-    /// The item `j` is done; `whole` counts it and what is ordered before it.
-    pub(crate) fn put(&mut self, items: &[Item], item: Item, j: usize, whole: &Row)
+    /// At an Enter, the blocks that conflict with the block are counted too.
+    pub(crate) fn enter(&mut self, items: &[Item], item: Item, j: usize, blocks: &Blocks)
         requires regular { Regular items.now }
         requires there { slice_get items.now j ≡ Some item }
+        requires within { j < length items.now }
+        requires enters { item.what ≡ Enter }
         requires so_far { Clocked items.now self.old j }
-        requires whole { Down items.now (slice_index whole.now.latest) (λ p. p ≡ j) }
-        ensures { Clocked items.now self.new (j + 1) }
+        requires blocked { Blocked items.now blocks.now j }
+        ensures { Reached items.now self.new j item.t }
     {
-        set_at(&mut self.done, usize::from(item.t), whole);
-        put_start(&mut self.starts, item.what, whole);
+        let row = &mut self.rows[usize::from(item.t)];
+        blocks.gather_ahead(items, item.t, j, row);
+    }
+
+    /// The item `j` is done. The row of its thread counts it and what is ordered before it.
+    pub(crate) fn put(&mut self, items: &[Item], item: Item, j: usize)
+        requires regular { Regular items.now }
+        requires there { slice_get items.now j ≡ Some item }
+        requires within { j < length items.now }
+        requires reached { Reached items.now self.old j item.t }
+        ensures clocked { Clocked items.now self.new (j + 1) }
+        ensures whole { Down items.now (row_in self.new.rows.items item.t) (λ p. p ≡ j) }
+    {
+        count_at(&mut self.rows, item.t, j);
+        begin(&mut self.begun, item.t);
+        put_start(&mut self.rows, item.what, item.t);
     }
 }

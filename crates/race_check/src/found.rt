@@ -5,15 +5,14 @@ ghost use Rattle.race_check.specs.Races.{Ascending, Races};
 ghost use Rattle.race_check.specs.Regular.{Regular, end_of};
 ghost use Rattle.race_check.specs.Words.{WordsOf};
 ghost use Rattle.race_check.specs.Blocks.{Blocked};
-ghost use Rattle.race_check.specs.Clocks.{Clocked};
-ghost use Rattle.race_check.specs.Rows.{Right};
+ghost use Rattle.race_check.specs.Clocks.{Clocked, Reached};
 
 use crate::blocks::Blocks;
 use crate::clocks::Clocks;
 use crate::items::{bytes_of, is_write, item_at};
 use crate::marks::{Marks, Seen};
 use crate::pieces::piece_end;
-use crate::rows::{Row, with_item};
+use crate::rows::Row;
 use crate::words::add_word;
 use std::alloc::{AllocError, Global};
 use tx_events::{Item, What};
@@ -74,26 +73,19 @@ fn add_races(words: &mut Vec<u64>, seen: &Seen, row: &Row, item: Item) -> Result
     Ok(())
 }
 
-// The row of item `j`, by what the items before it leave.
-fn row_of(items: &[Item], clocks: &Clocks, blocks: &Blocks, item: Item, j: usize) -> Row
+// The row of the thread of item `j` becomes that of the item, by what the items before it leave.
+fn reach(items: &[Item], clocks: &mut Clocks, blocks: &Blocks, item: Item, j: usize)
     requires regular { Regular items.now }
     requires there { slice_get items.now j ≡ Some item }
     requires within { j < length items.now }
-    requires clocked { Clocked items.now clocks.now j }
+    requires clocked { Clocked items.now clocks.old j }
     requires blocked { Blocked items.now blocks.now j }
-    ensures { Right items.now result.latest j }
+    ensures { Reached items.now clocks.new j item.t }
 {
-    let mut row = clocks.own(usize::from(item.t));
     match item.what {
-        What::Joined { child } => {
-            clocks.add_child(&mut row, child);
-            row
-        }
-        What::Enter => {
-            blocks.gather_ahead(items, item.t, j, &mut row);
-            row
-        }
-        What::Read { .. } | What::Write { .. } | What::Leave | What::Spawned { .. } => row,
+        What::Joined { child } => clocks.join(items, item, j, child),
+        What::Enter => clocks.enter(items, item, j, blocks),
+        What::Read { .. } | What::Write { .. } | What::Leave | What::Spawned { .. } => {}
     }
 }
 
@@ -108,12 +100,11 @@ pub fn races(alloc: Global, items: &[Item]) -> Result<Vec<u64>, AllocError>
     let mut words = Vec::new(alloc);
     'items: for j in 0..items.len() {
         let item = item_at(items, j);
-        let row = row_of(items, &clocks, &blocks, item, j);
-        add_races(&mut words, &seen, &row, item)?;
+        reach(items, &mut clocks, &blocks, item, j);
+        add_races(&mut words, &seen, clocks.row(item.t), item)?;
         seen.put(items, item, j)?;
-        let whole = with_item(items, item, j, &row);
-        clocks.put(items, item, j, &whole);
-        blocks.put(items, item, j, &whole)?;
+        clocks.put(items, item, j);
+        blocks.put(items, item, j, clocks.row(item.t))?;
     }
     Ok(words)
 }

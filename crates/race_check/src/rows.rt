@@ -1,9 +1,6 @@
 //! Rows: for each thread, a counter above its items that are counted.
-ghost use Rattle.std.specs.Prelude.{◌≡◌, ℕ, ◌<◌, ◌≤◌, ◌+◌, ◌⊎◌, ◌^◌, Some, length, slice_get, slice_index};
-ghost use Rattle.race_check.specs.Regular.{Regular};
-ghost use Rattle.race_check.specs.Rows.{Down, Greater, Right};
-
-use tx_events::Item;
+ghost use Rattle.std.specs.Prelude.{◌≡◌, ℕ, ◌<◌, ◌≤◌, ◌+◌, ◌⊎◌, ◌^◌, length, slice_index};
+ghost use Rattle.race_check.specs.Rows.{Greater};
 
 /// How many threads a trace can have.
 pub(crate) const THREADS: usize = 64;
@@ -38,8 +35,8 @@ fn add_row(row: &mut [usize], other: &[usize])
     }
 }
 
-// The item p of thread t too.
-fn add_item(row: &mut [usize], t: usize, p: usize)
+/// The item `p` of thread `t` is counted too.
+pub(crate) fn add_item(row: &mut [usize], t: usize, p: usize)
     requires within { t < length row.old }
     requires fits { p + 1 < 2 ^ 64 }
     ensures size { length row.new ≡ length row.old }
@@ -59,17 +56,4 @@ impl Row {
     {
         add_row(&mut self.latest, &other.latest);
     }
-}
-
-/// The row of item `j`, and the item itself.
-pub(crate) fn with_item(items: &[Item], item: Item, j: usize, row: &Row) -> Row
-    requires regular { Regular items.now }
-    requires there { slice_get items.now j ≡ Some item }
-    requires within { j < length items.now }
-    requires right { Right items.now row.now.latest j }
-    ensures { Down items.now (slice_index result.latest) (λ p. p ≡ j) }
-{
-    let mut whole = *row;
-    add_item(&mut whole.latest, usize::from(item.t), j);
-    whole
 }

@@ -1,5 +1,7 @@
 //! Rows by numbers.
-ghost use Rattle.std.specs.Prelude.{◌≡◌, ℕ, ◌<◌, true, false, OnOk, length, slice_index};
+ghost use Rattle.std.specs.Prelude.{◌≡◌, ℕ, ◌<◌, true, false, None, OnOk, length, slice_index};
+ghost use Rattle.std.specs.BTreeMap.{get};
+ghost use Rattle.std.specs.Ordering.{nat_cmp};
 ghost use Rattle.race_check.specs.Marks.{Late, Raised, cell};
 ghost use Rattle.race_check.specs.Rows.{Greater};
 
@@ -20,10 +22,10 @@ fn is_above(marks: &[usize], row: &[usize], t: usize) -> bool
     ensures no { result ≡ false → Late (slice_index marks.now) row.now t → ⊥ }
 {
     'threads: for s in 0..row.len() {
-        if s == t {
+        if marks[s] <= row[s] {
             continue;
         }
-        if row[s] < marks[s] {
+        if s != t {
             return true;
         }
     }
@@ -59,6 +61,15 @@ impl Table {
             there.add(row);
             return Ok(());
         }
+        self.copy(key, row)
+    }
+
+    // The number gets a row that counts what this one counts.
+    fn copy(&mut self, key: u64, row: &Row) -> Result<(), AllocError>
+        requires { get nat_cmp self.old.rows key ≡ None }
+        ensures there { OnOk result (Greater (cell self.old key) (slice_index row.now.latest) (cell self.new key)) }
+        ensures others { OnOk result ((k s : ℕ) → (k ≡ key → ⊥) → cell self.new k s ≡ cell self.old k s) }
+    {
         self.rows.insert(key, *row)?;
         Ok(())
     }
@@ -73,6 +84,16 @@ impl Table {
             raise_in(&mut there.latest, t, value);
             return Ok(());
         }
+        self.begin(key, t, value)
+    }
+
+    // The number gets a row, with this value for a thread.
+    fn begin(&mut self, key: u64, t: usize, value: usize) -> Result<(), AllocError>
+        requires thread { t < 64 }
+        requires absent { get nat_cmp self.old.rows key ≡ None }
+        ensures there { OnOk result (Raised t value (cell self.old key) (cell self.new key)) }
+        ensures others { OnOk result ((k s : ℕ) → (k ≡ key → ⊥) → cell self.new k s ≡ cell self.old k s) }
+    {
         let mut row = empty_row();
         raise_in(&mut row.latest, t, value);
         self.rows.insert(key, row)?;

@@ -1,4 +1,5 @@
 use Rattle.std.proofs.Common.{◌≡◌, [], sym, subst, rules}
+use Rattle.race_check.specs.Rows.{Right}
 use Rattle.race_check.specs.Words.{Listed}
 use Rattle.race_check.proofs.FoundSteps.{all_listed, more_listed, none_listed, none_marked}
 use Rattle.race_check.proofs.found.races.Goals as goal
@@ -15,11 +16,11 @@ items-init c =
 
 pub items-preserved : goal.items-preserved
 items-preserved c = record {
-  clocked = c.put-in-items.ensures;
+  clocked = c.put-in-items.ensures.clocked;
   blocked = c.in_ok-put-2.ensures;
   marked = c.in_ok-put.ensures;
-  listed = more_listed c.args.items.now c.requires c.items.words.items c.add_races.new.words.items c.row_of-row.result.latest c.items.seen c.items.j
-      c.item_at-item.result c.item_at-item.ensures c.row_of-row.ensures c.items.invariant.marked c.in_ok-add_races.ensures c.items.invariant.listed;
+  listed = more_listed c.args.items.now c.requires c.items.words.items c.add_races.new.words.items c.row.result.now.latest c.items.seen c.items.j
+      c.item_at-item.result c.item_at-item.ensures (subst (λ row. Right c.args.items.now row c.items.j) (sym c.row.ensures) c.reach.ensures.right) c.items.invariant.marked c.in_ok-add_races.ensures c.items.invariant.listed;
 }
 
 pub returns : goal.returns

@@ -1,17 +1,19 @@
-use Rattle.std.proofs.Common.{ℕ, ◌≡◌, ◌<◌, subst, ◌∙◌}
-use Rattle.std.specs.Prelude.{slice_index}
-use Rattle.race_check.specs.Clocks.{row_in}
-use Rattle.race_check.proofs.ClockSteps.{clocked_more}
+use Rattle.std.proofs.Common.{◌∙◌}
+use Rattle.race_check.proofs.ClockSteps.{clocked_more, counted, still_counted}
 use Rattle.race_check.proofs.clocks.Clocks.put.Goals as goal
 
-pub returns : goal.returns
-returns c =
-    let same : c.from.result ≡ c.args.item.t = c.from.ensures in
-    let fits : c.args.item.t < 64 = c.requires.regular.threads c.args.j c.args.item c.requires.there in
-    let whole = slice_index c.args.whole.now.latest in
-    let a = c.set_at.ensures in
+pub returns-clause-clocked : goal.returns-clause-clocked
+returns-clause-clocked c =
+    let a = c.count_at.ensures in
     let b = c.put_start.ensures in
-    clocked_more c.args.items.now c.args.j c.args.item c.requires.there c.args.self.now (record { done = c.set_at.new.rows; starts = c.put_start.new.starts }) whole
-    c.requires.so_far c.requires.whole fits (a.size ∙ c.requires.so_far.done_size)
-    (subst (λ z. (s : ℕ) → row_in c.set_at.new.rows.items z s ≡ whole s) same a.there)
-    (λ u s d. a.others u s (λ e. d (e ∙ same))) b.size b.there b.others
+    let g = c.begin.ensures in
+    clocked_more c.args.items.now c.args.j c.args.item c.requires.there c.args.self.now (record { rows = c.put_start.new.rows; begun = c.begin.new.begun }) c.count_at.new.rows.items
+    c.requires.regular c.requires.reached
+    (counted c.args.items.now c.args.j c.args.item c.requires.there c.args.self.now c.count_at.new.rows.items c.requires.reached a.kept a.gained a.only) a.others b.size
+    (g.size ∙ c.requires.reached.begun_size) b.there b.others g.there g.others
+
+pub returns-clause-whole : goal.returns-clause-whole
+returns-clause-whole c =
+    let a = c.count_at.ensures in
+    still_counted c.args.items.now c.args.j c.args.item c.requires.there c.requires.regular c.count_at.new.rows.items c.put_start.new.rows.items
+    (counted c.args.items.now c.args.j c.args.item c.requires.there c.args.self.now c.count_at.new.rows.items c.requires.reached a.kept a.gained a.only) c.put_start.ensures.others
