@@ -6,6 +6,7 @@ ghost use Rattle.elab_types.specs.Syntax.{syntax_of, tree_at, trees_at};
 ghost use Rattle.unit_syntax.specs.Whole.{IsWhole};
 ghost use Rattle.unit_syntax.specs.Copies.{body_in, IsNotedIn, IsCopied, AreCopied, Keeps};
 
+use cpp_ast::arena::MAX_NODES;
 use cpp_ast::{LamBody, Node, NodeId, Nodes, Unit};
 use std::alloc::{AllocError, Global};
 
@@ -64,7 +65,7 @@ fn add(nodes: &mut Nodes, node: Node) -> Result<NodeId, AllocError>
     requires { are_below (length nodes.old) node.kids.items ≡ true }
     ensures { IfOk result (λ id. (id.0 ≡ length nodes.old) × (nodes.new ≡ nodes.old ++ node ∷ [])) }
 {
-    if nodes.is_full() {
+    if nodes.len() == MAX_NODES {
         return Err(AllocError);
     }
     nodes.add(node)

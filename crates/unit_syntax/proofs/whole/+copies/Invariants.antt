@@ -9,4 +9,4 @@ abbrev pub decreases-copied : goal.decreases-copied
 decreases-copied l = l.most
 
 abbrev pub invariant-all_copied-ids : goal.invariant-all_copied-ids
-invariant-all_copied-ids l = ?
+invariant-all_copied-ids l = AreCopied l.unit l.initial.to l.to (take l.id-index l.ids) l.copies.items
