@@ -1,15 +1,14 @@
 -- Copies of trees of a unit show the whole trees.
-use Rattle.std.proofs.Common.{◌≡◌, ℕ, zero, suc, ◌+◌, ◌<◌, ◌≤◌, true, ◌&&◌, nat_lt, List, [], ◌∷◌, ◌++◌, length, slice_get, Option, Some, refl, sym, ◌∙◌, ap, subst, arith, length-append, take, get_or}
-use Rattle.std.proofs.lemmas.List.{take_more}
+use Rattle.std.proofs.Common.{◌≡◌, ◌+◌, ◌<◌, true, nat_lt, List, [], ◌∷◌, ◌++◌, length, slice_get, Some, refl, sym, ◌∙◌, ap, subst, arith, length-append}
 use Rattle.std.proofs.lemmas.List.Folds.{list_all-append}
 use Rattle.cpp_ast.specs.declared.arena.NodeId.{NodeId}
 use Rattle.cpp_ast.specs.declared.arena.Node.{Node}
 use Rattle.cpp_ast.specs.declared.units.LamBody.{LamBody}
 use Rattle.cpp_ast.specs.declared.units.Unit.{Unit as UnitRecord}
 use Rattle.cpp_ast.specs.Orders.{are_below}
-use Rattle.cpp_ast.specs.Trees.{Tree, node, Trees, none, more, ShowsWith, ShowsAllWith, kids_with}
+use Rattle.cpp_ast.specs.Trees.{Tree, Trees, ShowsWith, ShowsAllWith, kids_with}
 use Rattle.elab_types.specs.Syntax.{tree_at, trees_at, tree_of, syntax_of}
-use Rattle.unit_syntax.specs.Copies.{body_in, IsNotedIn, Keeps, IsCopied, AreCopied}
+use Rattle.unit_syntax.specs.Copies.{Keeps, IsCopied, AreCopied}
 use Rattle.unit_syntax.proofs.GrownSyntax.{tree_pushed, keeps_all, keeps_both, keeps_one, trees_kept, below_kept}
 
 pub none_copied : (unit : UnitRecord) (nodes : List Node) → AreCopied unit nodes nodes [] []

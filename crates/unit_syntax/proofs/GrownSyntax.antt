@@ -1,12 +1,12 @@
 -- The trees of nodes are the same when nodes are added.
-use Rattle.std.proofs.Common.{◌≡◌, ℕ, zero, suc, ◌+◌, ◌<◌, ◌≤◌, true, ◌&&◌, nat_lt, List, [], ◌∷◌, ◌++◌, length, refl, sym, ◌∙◌, ap, subst, arith, length-append, get_or, fold}
+use Rattle.std.proofs.Common.{◌≡◌, ℕ, ◌+◌, ◌<◌, ◌≤◌, true, nat_lt, List, [], ◌∷◌, ◌++◌, length, refl, ◌∙◌, ap, arith, length-append, fold}
 use Rattle.std.proofs.lemmas.List.{get_or_append_left, get_or_push}
 use Rattle.std.proofs.lemmas.List.Sums.{fold-append}
 use Rattle.std.proofs.lemmas.Bool.{and_parts, ltb-true}
 use Rattle.cpp_ast.specs.declared.arena.NodeId.{NodeId}
 use Rattle.cpp_ast.specs.declared.arena.Node.{Node}
 use Rattle.cpp_ast.specs.Orders.{are_below}
-use Rattle.cpp_ast.specs.Trees.{Tree, Trees, more}
+use Rattle.cpp_ast.specs.Trees.{Tree}
 use Rattle.elab_types.specs.Syntax.{nothing, tree_at, trees_at, tree_of, with_node, syntax_of}
 use Rattle.unit_syntax.specs.Copies.{Keeps}
 

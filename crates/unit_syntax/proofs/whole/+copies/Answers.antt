@@ -20,8 +20,8 @@ all_copied-ids-preserved t c =
     let id : NodeId = get_or c.args.ids.now c.ids.id-index no_id in
     let one : IsCopied c.args.unit.now c.ids.to c.copied.new.to id c.in_ok-copy.copy = c.in_ok-copy.ensures in
     rw (take_more c.args.ids.now c.ids.id-index no_id c.ids-test.true, c.in_ok-put.ensures)
-        (one_more_copied c.args.unit.now c.args.to.now c.ids.to c.copied.new.to (take c.ids.id-index c.args.ids.now) c.ids.copies.items id
-        c.in_ok-copy.copy c.ids.invariant one)
+    (one_more_copied c.args.unit.now c.args.to.now c.ids.to c.copied.new.to (take c.ids.id-index c.args.ids.now) c.ids.copies.items id
+    c.in_ok-copy.copy c.ids.invariant one)
 
 pub all_copied-returns : goal.all_copied-returns
 all_copied-returns t c =
