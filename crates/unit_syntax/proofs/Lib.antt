@@ -1,0 +1,3 @@
+pub mod GrownSyntax
+pub mod CopiedTrees
+pub mod BodyTables
