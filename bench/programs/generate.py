@@ -1,6 +1,9 @@
-"""Writes a program of the subset whose behaviour C++14 defines, made from a number. Usage: generate.py SEED [DEPTH]
+"""Makes programs of the subset whose behaviour C++14 defines, each from a number: the same with each Python.
 
-DEPTH, 4 where it is not given, is how deep statements nest; with 2 a program has about 5,000 bytes, with 4 about 12,000.
+Usage: generate.py FOLDER NUMBER..   writes each program as FOLDER/NUMBER.cc
+       generate.py NUMBER            prints it
+
+Statements of the programs 1 to 40 nest four deep (about 12,000 bytes a program), those of 41 to 100 two (5,000), the others one (4,000).
 
 What C++14 leaves to the compiler is not in it: of the operands of an operator, and of the arguments of a call, at most one has an effect;
 no named local of class type is returned; every scalar has an initialiser. Signed overflow is avoided by small values, and not excluded:
@@ -487,5 +490,13 @@ class Program:
         return "\n".join(self.lines) + "\n"
 
 
+def program(number):
+    return Program(number, 4 if number <= 40 else 2 if number <= 100 else 1).text()
+
+
 if __name__ == "__main__":
-    print(Program(int(sys.argv[1]), int(sys.argv[2]) if len(sys.argv) > 2 else 4).text(), end="")
+    if len(sys.argv) == 2:
+        print(program(int(sys.argv[1])), end="")
+    for number in sys.argv[2:]:
+        with open(f"{sys.argv[1]}/{number}.cc", "w", encoding="ascii") as file:
+            file.write(program(int(number)))
