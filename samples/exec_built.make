@@ -1,0 +1,1 @@
+"$program" build --to "$room/built.o" lost_update_mended.cc
