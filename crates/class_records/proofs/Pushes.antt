@@ -1,5 +1,5 @@
 -- One more class in the list, or none where there is no memory.
-use Rattle.std.proofs.Common.{◌≡◌, ◌∙◌, ℕ, Bool, true, false, cond, List, [], ◌∷◌, ◌++◌, None, refl, ap}
+use Rattle.std.proofs.Common.{◌≡◌, ◌∙◌, ℕ, Bool, true, false, cond, List, [], ◌∷◌, ◌++◌, None, ap}
 use Rattle.std.proofs.lemmas.List.{map-append}
 use Rattle.cpp_types.specs.Class.{Class, class_of, classes_of}
 use Rattle.cpp_types.specs.declared.classes.ClassRec.{ClassRec}

@@ -1,5 +1,5 @@
 -- A class that may stand, complete, in the place of one that is only declared, and one that may stand behind the others.
-use Rattle.std.specs.Prelude.{ℕ, ◌+◌, Bool, ◌&&◌, nat_lt, List, Option, Some, is_none, length}
+use Rattle.std.specs.Prelude.{ℕ, ◌+◌, Bool, ◌&&◌, nat_lt, List, is_none, length}
 use Rattle.cpp_types.specs.Class.{Class, completion_of}
 use Rattle.cpp_types.specs.Order.{each_passes, class_below, holds_earlier}
 
