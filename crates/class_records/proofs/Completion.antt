@@ -1,5 +1,5 @@
 -- A class is completed step by step.
-use Rattle.std.proofs.Common.{◌≡◌, ◌∙◌, ℕ, Bool, List, Option, Some, refl, sym, ap, count_by, slice_set}
+use Rattle.std.proofs.Common.{◌≡◌, ◌∙◌, ℕ, Bool, List, Option, Some, sym, ap, count_by, slice_set}
 use Rattle.cpp_types.specs.Class.{Class, Member, Function}
 use Rattle.elab_init.specs.cpp_tree.Units.{SlotFunc}
 use Rattle.cpp_types.specs.declared.classes.At.{At}

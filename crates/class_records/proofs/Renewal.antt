@@ -1,5 +1,5 @@
 -- The list of classes stays in order where a class is begun, and where one is completed.
-use Rattle.std.proofs.Common.{◌≡◌, ◌∙◌, ℕ, zero, suc, ◌+◌, ◌<◌, ◌≤◌, Bool, true, false, ◌&&◌, length, List, [], ◌∷◌, ◌++◌, set, Option, Some, None, is_none, slice_get, refl, sym, ap, arith, lt-ltb, ◌⊎◌, inl, inr}
+use Rattle.std.proofs.Common.{◌≡◌, ◌∙◌, ℕ, zero, suc, ◌+◌, ◌≤◌, Bool, true, false, ◌&&◌, length, List, [], ◌∷◌, ◌++◌, set, Option, Some, None, is_none, slice_get, refl, sym, ap, arith, length-append, lt-ltb, ◌⊎◌, inl, inr}
 use Rattle.std.specs.Prelude.{nat_lt, option_and_then}
 use Rattle.std.specs.List.{list_all}
 use Rattle.std.proofs.lemmas.Bool.{and_parts, ltb-true}
@@ -8,7 +8,7 @@ use Rattle.cpp_types.specs.Typ.{Typ, typ, Form, void, int, enum, null, ptr, ref,
 use Rattle.cpp_types.specs.Class.{Class, Member, Function, completion_of, held, typ_below, form_below, signature_below, typs_below}
 use Rattle.cpp_types.specs.Order.{each_passes, one_passes, is_below, members_below, functions_below, class_below, is_complete_below, members_earlier, holds_earlier, is_consistent, all_consistent}
 use Rattle.elab_init.specs.elab_rules.Classes.{class_named}
-use Rattle.class_records.specs.Within.{may_stand}
+use Rattle.class_records.specs.Within.{may_stand, may_follow}
 
 both : (a b : Bool) → a ≡ true → b ≡ true → (a && b) ≡ true
 both true true h g = refl
@@ -145,3 +145,15 @@ one_more classes name h =
     both (class_below (length others) x) (each_passes (holds_earlier others x) x.complete) (class_more (length classes) (length others) x (longer classes _) p.0)
     (complete_more classes others x x.complete (λ limit m. kept_by (is_below limit) classes _ m) p.1))
     refl
+
+pub follows : (classes : List Class) (c : Class) → all_consistent classes ≡ true → may_follow classes c ≡ true → all_consistent (classes ++ c ∷ []) ≡ true
+follows classes c h s =
+    let others = classes ++ c ∷ [] in
+    let long : length classes + 1 ≤ length others = simp length-append (omega arith) in
+    let a = and_parts (class_below (length classes + 1) c) (each_passes (holds_earlier classes c) c.complete) s in
+    all_push (is_consistent classes) (is_consistent others) classes c h
+    (λ x g. let p = and_parts (class_below (length classes) x) (each_passes (holds_earlier classes x) x.complete) g in
+    both (class_below (length others) x) (each_passes (holds_earlier others x) x.complete) (class_more (length classes) (length others) x (longer classes _) p.0)
+    (complete_more classes others x x.complete (λ limit m. kept_by (is_below limit) classes _ m) p.1))
+    (both (class_below (length others) c) (each_passes (holds_earlier others c) c.complete) (class_more (length classes + 1) (length others) c long a.0)
+    (complete_more classes others c c.complete (λ limit m. kept_by (is_below limit) classes _ m) a.1))

@@ -1,5 +1,5 @@
 -- A class that no text has named before, step by step.
-use Rattle.std.proofs.Common.{◌≡◌, ◌∙◌, ℕ, false, List, [], ◌∷◌, ◌++◌, length, None, sym, ap}
+use Rattle.std.proofs.Common.{◌≡◌, ◌∙◌, ℕ, false, List, [], ◌∷◌, ◌++◌, length, None, ap}
 use Rattle.cpp_types.specs.Typ.{Typ, typ, class}
 use Rattle.elab_init.specs.elab_ctx.Ctx.{Ctx, Traits}
 use Rattle.elab_init.specs.elab_rules.Objects.{no_traits}

@@ -9,4 +9,5 @@ mod within;
 
 pub use beginning::begun;
 pub use closing::{closed_class, completed};
+pub use renewing::push_class;
 pub use slots::slots_of;

@@ -1,12 +1,13 @@
 // Classes that are begun, and classes that are completed: the list of them stays in order.
 
-ghost use Rattle.std.specs.Prelude.{◌≡◌, ◌++◌, ◌∷◌, [], Some, None, false, OnOk, slice_set, length};
+ghost use Rattle.std.specs.Prelude.{◌≡◌, ◌++◌, ◌∷◌, ◌+◌, [], Some, None, false, OnOk, slice_set, length};
 ghost use Rattle.cpp_types.specs.Typ.{typ_of};
 ghost use Rattle.cpp_types.specs.Class.{classes_of, class_of};
+ghost use Rattle.cpp_types.specs.Order.{each_passes, holds_earlier};
 ghost use Rattle.elab_init.specs.elab_ctx.Ctx.{ctx_of, traits_of};
 ghost use Rattle.elab_init.specs.elab_rules.Globals.{with_type};
 ghost use Rattle.elab_init.specs.elab_rules.Classes.{class_named};
-ghost use Rattle.class_records.specs.Within.{may_stand as may_stand_of};
+ghost use Rattle.class_records.specs.Within.{may_stand as may_stand_of, may_follow as may_follow_of};
 
 use crate::within::{is_after_parts, is_class_below};
 use cpp_types::{ClassRec, Ty};
@@ -38,6 +39,35 @@ pub fn put_class(
         return Err(AllocError);
     }
     env.classes[class as usize] = class_record;
+    Ok(())
+}
+
+// Whether a class holds only what was complete before it, if it is complete.
+fn is_after_all(classes: &[ClassRec], class_record: &ClassRec) -> bool
+    ensures { result ≡ each_passes (holds_earlier (classes_of classes.now) (class_of class_record.now)) class_record.now.complete }
+{
+    match class_record.complete {
+        Some(number) => is_after_parts(class_record, classes, number),
+        None => true,
+    }
+}
+
+// Whether a class may stand behind the others.
+fn may_follow(env: &Env, class_record: &ClassRec) -> bool
+    ensures { result ≡ may_follow_of (classes_of env.now.classes.items) (class_of class_record.now) }
+{
+    is_class_below(class_record, env.classes.len() + 1) && is_after_all(&env.classes, class_record)
+}
+
+/// One more class, behind the others. What is held before it is complete is refused where it is declared; here it counts
+/// as want of memory.
+pub fn push_class(env: &mut Env, class_record: ClassRec) -> Result<(), AllocError>
+    ensures { OnOk result (ctx_of env.new ≡ record (ctx_of env.old) { classes = (ctx_of env.old).classes ++ class_of class_record ∷ [] }) }
+{
+    if !may_follow(env, &class_record) {
+        return Err(AllocError);
+    }
+    env.classes.push(class_record)?;
     Ok(())
 }
 

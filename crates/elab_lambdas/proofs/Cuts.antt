@@ -1,15 +1,9 @@
--- Lists of classes that stay in order, and lists that are cut.
-use Rattle.std.proofs.Common.{◌≡◌, ◌∙◌, ap, take, Bool, true, ◌↔◌, IsTrue, List, refl}
-use Rattle.elab_entry.specs.cpp_types.Class.{Class, InOrder}
-use Rattle.elab_entry.specs.cpp_types.Order.{all_consistent}
+-- Lists that are cut.
+use Rattle.std.proofs.Common.{◌≡◌, ◌∙◌, ap, take}
 use Rattle.elab_entry.specs.elab_ctx.Ctx.{Ctx, Work}
 use Rattle.elab_entry.specs.elab_rules.Statements.{State}
 use Rattle.elab_lambdas.specs.Checkpoints.{undone_to}
 use Rattle.elab_lambdas.specs.declared.undoing.Checkpoint.{Checkpoint}
-use Rattle.elab_entry.proofs.cpp_types.OrderTests.{order_is}
-
-pub order_kept : (b : Bool) (classes : List Class) → b ≡ true → (IsTrue b ↔ InOrder classes) → all_consistent classes ≡ true
-order_kept b classes h i = (order_is (all_consistent classes) classes refl).1 (i.0 h)
 
 -- what is left, list by list
 pub undone_is : (st out : State) (c1 c2 c3 c4 : Ctx) (w : Work) (m : Checkpoint) → c1 ≡ record st.ctx { classes = take m.classes st.ctx.classes } → c2 ≡ record c1 { traits = take m.traits c1.traits } → c3 ≡ record c2 { slots = take m.slots c2.slots } → c4 ≡ record c3 { funcs = take m.funcs c3.funcs } → w ≡ record st.work { globals = take m.globals st.work.globals } → out ≡ record { ctx = c4; work = w; bodies = take m.bodies st.bodies } → out ≡ undone_to m st

@@ -3,5 +3,7 @@ pub mod Cuts
 pub mod Kept
 pub mod Made
 pub mod Parts
+pub mod Reading
 pub mod Refusals
 pub mod Results
+pub mod Unchanged

@@ -1,5 +1,5 @@
 -- The definitions of lambdas, step by step.
-use Rattle.std.specs.Prelude.{ℕ, false, List, [], ◌∷◌, ◌++◌, Option, Some, None, Result, Ok, count_by, if◌then◌else◌}
+use Rattle.std.specs.Prelude.{ℕ, false, List, [], ◌∷◌, ◌++◌, Option, Some, None, Result, Ok, count_by}
 use Rattle.elab_entry.specs.cpp_types.Typ.{Typ}
 use Rattle.elab_entry.specs.cpp_types.Class.{Class, Function}
 use Rattle.elab_entry.specs.cpp_ast.declared.kinds.NodeKind.TheVariants as k

@@ -12,14 +12,13 @@ ghost use Rattle.elab_lambdas.specs.Shown.{call_of};
 ghost use Rattle.elab_lambdas.specs.Steps.{closure_class, with_class, with_call};
 
 use crate::traits::closure_traits;
-use crate::undoing::put_classes;
+use class_records::push_class;
 use elab_decls::functions::params_from;
 use elab_entry::below::{
     At, Capture, ClassRec, Env, FnTy, FuncDecl, FuncKind, FuncRec, Linkage, MemberRec, Parameter,
     Qualifiers, Safety, TParam, Traits, copy, copy_function,
 };
 use std::alloc::{AllocError, Global};
-use std::mem;
 
 fn safety_of(qualifiers: Qualifiers) -> Safety
     ensures { result ≡ safety_of_of (qualifiers_of qualifiers) }
@@ -170,16 +169,6 @@ pub fn next_class(env: &Env) -> Result<u32, AllocError>
     Ok(class)
 }
 
-// One more class.
-fn push_class(alloc: Global, env: &mut Env, class: ClassRec) -> Result<(), AllocError>
-    ensures { OnOk result (ctx_of env.new ≡ record (ctx_of env.old) { classes = (ctx_of env.old).classes ++ class_of class ∷ [] }) }
-{
-    let mut classes = mem::replace(&mut env.classes, Vec::new(alloc));
-    classes.push(class)?;
-    put_classes(env, classes)?;
-    Ok(())
-}
-
 // One more class, that of a lambda.
 fn add_closure_class(
     alloc: Global,
@@ -193,7 +182,7 @@ fn add_closure_class(
     let number = next_completion(env)?;
     let call = call_record(alloc, words, ty)?;
     let made = class_record(alloc, captures, call, number)?;
-    push_class(alloc, env, made)?;
+    push_class(env, made)?;
     Ok(())
 }
 

@@ -315,7 +315,7 @@ fn result_deduced(
     let function = lambda_type(alloc, &st.env, x, &ret)?;
     let mark = checkpoint_here(st);
     let found = read_for_result(alloc, tokens, nodes, st, x, &function)?;
-    undo(alloc, st, mark)?;
+    undo(st, mark);
     Ok(found)
 }
 

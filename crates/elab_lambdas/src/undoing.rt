@@ -1,14 +1,12 @@
 // What reading a body for its result made, which is not kept.
 
-ghost use Rattle.std.specs.Prelude.{◌≡◌, take, OnOk};
-ghost use Rattle.elab_entry.specs.cpp_types.Class.{classes_of};
+ghost use Rattle.std.specs.Prelude.{◌≡◌, take, true};
+ghost use Rattle.elab_entry.specs.cpp_types.Order.{all_consistent};
 ghost use Rattle.elab_entry.specs.elab_ctx.Ctx.{ctx_of, work_of};
 ghost use Rattle.elab_entry.specs.elab_scopes.States.{state_of, made};
 ghost use Rattle.elab_lambdas.specs.Checkpoints.{checkpoint_in, undone_to};
 
-use elab_entry::below::{ClassRec, Env, State, Work, is_in_order};
-use std::alloc::{AllocError, Global};
-use std::mem;
+use elab_entry::below::{Env, State, Work};
 
 /// How many classes, functions, globals and bodies there are.
 #[derive(Clone, Copy)]
@@ -35,25 +33,12 @@ pub fn checkpoint_here(st: &State) -> Checkpoint
     }
 }
 
-/// Other classes in place of those that are known; a list that is not in order counts as want of memory.
-pub fn put_classes(env: &mut Env, classes: Vec<ClassRec>) -> Result<(), AllocError>
-    ensures { OnOk result (ctx_of env.new ≡ record (ctx_of env.old) { classes = classes_of classes.items }) }
-{
-    if !is_in_order(&classes) {
-        return Err(AllocError);
-    }
-    env.classes = classes;
-    Ok(())
-}
-
 // Takes away the classes of lambdas, to which no other class refers.
-fn undo_classes(alloc: Global, env: &mut Env, count: usize) -> Result<(), AllocError>
-    ensures { OnOk result (ctx_of env.new ≡ record (ctx_of env.old) { classes = take count (ctx_of env.old).classes }) }
+fn undo_classes(env: &mut Env, count: usize)
+    requires { all_consistent (take count (ctx_of env.old).classes) ≡ true }
+    ensures { ctx_of env.new ≡ record (ctx_of env.old) { classes = take count (ctx_of env.old).classes } }
 {
-    let mut classes = mem::replace(&mut env.classes, Vec::new(alloc));
-    classes.truncate(count);
-    put_classes(env, classes)?;
-    Ok(())
+    env.classes.truncate(count);
 }
 
 fn undo_traits(env: &mut Env, count: usize)
@@ -89,15 +74,15 @@ fn undo_bodies(st: &mut State, count: usize)
 }
 
 /// Takes away what was declared and made since.
-pub fn undo(alloc: Global, st: &mut State, mark: Checkpoint) -> Result<(), AllocError>
-    ensures is { OnOk result (state_of st.new ≡ undone_to mark (state_of st.old)) }
-    ensures made { OnOk result (made st.new ≡ made st.old) }
+pub fn undo(st: &mut State, mark: Checkpoint)
+    requires { all_consistent (take mark.classes (state_of st.old).ctx.classes) ≡ true }
+    ensures is { state_of st.new ≡ undone_to mark (state_of st.old) }
+    ensures made { made st.new ≡ made st.old }
 {
-    undo_classes(alloc, &mut st.env, mark.classes)?;
+    undo_classes(&mut st.env, mark.classes);
     undo_traits(&mut st.env, mark.traits);
     undo_slots(&mut st.env, mark.slots);
     undo_functions(&mut st.env, mark.funcs);
     undo_globals(&mut st.work, mark.globals);
     undo_bodies(st, mark.bodies);
-    Ok(())
 }
