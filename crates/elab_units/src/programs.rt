@@ -25,12 +25,7 @@ pub struct Behind {
 }
 
 // What is kept of a unit.
-fn unit_made(
-    alloc: Global,
-    unit: &Unit,
-    whole: &WholeUnit,
-    st: State,
-) -> Result<Behind, AllocError>
+fn unit_made(alloc: Global, unit: &Unit, whole: &WholeUnit, st: State) -> Result<Behind, AllocError>
     requires { are_below (length whole.now.nodes) whole.now.decls.items ≡ true }
     ensures readable { IfOk result (λ b. IsReadable b.unit) }
     ensures kept { IfOk result (λ b. IsKept (source_in unit.now whole.now) (state_of st) b) }
