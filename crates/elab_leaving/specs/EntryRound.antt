@@ -1,0 +1,55 @@
+-- What is known round a function while it is read, and what stands behind it.
+use Rattle.std.specs.Prelude.{ℕ, ◌-◌, Bool, List, length, take, drop, Option, Some, None, map, option_map}
+use Rattle.elab_rules.specs.cpp_types.Typ.{Typ, typ_of}
+use Rattle.elab_rules.specs.cpp_names.Names.{Names}
+use Rattle.elab_rules.specs.cpp_tree.Trees.{Tree}
+use Rattle.elab_rules.specs.elab_ctx.declared.env.Label.{Label}
+use Rattle.elab_rules.specs.elab_ctx.Ctx.{Variable, This, Returns, Labels, Lambda, Closure, variable_of, this_of, returns_of, labels_of, lambda_of, closure_of}
+use Rattle.elab_rules.specs.Statements.{State}
+
+-- what is known round a function
+pub record Round : Type 0 where
+  -- how many scopes are open
+  pub scopes : ℕ
+  -- the variables of another function, or none where those round a lambda stay known
+  pub variables : Option (List Variable)
+  -- how many variables there are
+  pub count : ℕ
+  pub this : Option This
+  pub class : Option ℕ
+  pub returns : Returns
+  pub breaks : Bool
+  pub continues : Bool
+  pub label : Label
+  pub labels : Labels
+  pub lambda : Option Lambda
+  pub closures : List Closure
+  pub frame : List Typ
+
+-- What is known of a state, as what stands round the next function
+
+abbrev pub round_with : Option (List Variable) → State → Round
+round_with vs st = record { scopes = length st.ctx.scopes; variables = vs; count = length st.ctx.variables; this = st.ctx.this; class = st.ctx.class; returns = st.ctx.returns; breaks = st.ctx.breaks; continues = st.ctx.continues; label = st.ctx.label; labels = st.ctx.labels; lambda = st.ctx.lambda; closures = st.ctx.closures; frame = st.work.frame }
+
+abbrev pub round_function : State → Round
+round_function st = round_with (Some st.ctx.variables) st
+
+abbrev pub round_lambda : State → Round
+round_lambda st = round_with None st
+
+-- Behind a function: what was opened in it is closed, and what stood round it is known as before
+
+-- the outermost scopes, so many
+abbrev pub scopes_by : ℕ → List Names → List Names
+scopes_by n xs = drop (length xs - n) xs
+
+abbrev pub variables_by : Option (List Variable) → ℕ → List Variable → List Variable
+variables_by (Some vs) n xs = vs
+variables_by None n xs = take n xs
+
+abbrev pub left_by : Round → State → State
+left_by a st = record {
+  ctx = record st.ctx { scopes = scopes_by a.scopes st.ctx.scopes; variables = variables_by a.variables a.count st.ctx.variables; this = a.this; class = a.class; returns = a.returns; breaks = a.breaks; continues = a.continues; label = a.label; labels = a.labels; lambda = a.lambda; closures = a.closures };
+  work = record st.work { frame = a.frame };
+  bodies = st.bodies;
+}

@@ -1,0 +1,10 @@
+pub mod EntryBodies
+pub mod EntryRound
+pub mod ImplicitImplied
+pub mod Kept
+pub mod LambdasWhole
+pub mod MembersBodies
+pub mod MembersInitialisers
+pub mod MembersOutside
+pub mod MembersWhole
+pub mod TableWritten
