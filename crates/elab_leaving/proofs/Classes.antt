@@ -92,7 +92,7 @@ all_late_settled lams s n name st ts e = each_holds Settled (rules.late_of lams 
 
 -- Up to the brace
 
-begun_settled : (c : Ctx) (at : At) (name : List ℕ) (defines : Bool) (o : Option Typ) → c.closures ≡ [] → On (λ (b : Begun). b.ctx.closures ≡ []) (begun_in c at name defines o)
+pub begun_settled : (c : Ctx) (at : At) (name : List ℕ) (defines : Bool) (o : Option Typ) → c.closures ≡ [] → On (λ (b : Begun). b.ctx.closures ≡ []) (begun_in c at name defines o)
 begun_settled c at name defines (Some (typ (class n) false false)) e = skip (λ (b : Begun). b.ctx.closures ≡ []) (check at Redeclared (not defines || is_none (completion_of c.classes n))) _ (λ y. e)
 begun_settled c at name defines (Some t) e = tt
 begun_settled c at name defines None e = e

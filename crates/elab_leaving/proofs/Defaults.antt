@@ -18,7 +18,7 @@ use Rattle.elab_rules.specs.Statements.{State, Done, Full, Body, Lambdas, with_w
 use Rattle.elab_rules.specs.Functions.{leaving}
 use Rattle.elab_rules.specs.Members as rules
 use Rattle.elab_rules.specs.Members.{default_value, first_tree, with_default_member, initialiser_in, member_index, member_type}
-use Rattle.elab_leaving.specs.ImplicitImplied as implicit
+use Rattle.elab_implicit.specs.Implied as implicit
 use Rattle.elab_leaving.specs.MembersInitialisers as code
 use Rattle.elab_leaving.specs.MembersInitialisers.{default_added, cut_back, read_again}
 use Rattle.elab_leaving.specs.Kept.{Begins, Leaves, Inside, On, Lawful}

@@ -21,10 +21,10 @@ use Rattle.elab_rules.specs.Functions.{body_made, within_frame}
 use Rattle.elab_rules.specs.Members.{as_base_of, in_object, parts_built, constructor_tree, destructor_tree}
 use Rattle.elab_rules.specs.Implicit as rules
 use Rattle.elab_rules.specs.Implicit.{own_operand, part_copied, part_of_source, members_copied, base_copied, parts_copied, source_object, source_const, with_source, is_referred}
-use Rattle.elab_leaving.specs.EntryRound.{round_function}
-use Rattle.elab_leaving.specs.EntryBodies as entry
-use Rattle.elab_leaving.specs.ImplicitImplied as code
-use Rattle.elab_leaving.specs.ImplicitImplied.{first_of}
+use Rattle.elab_entry.specs.Round.{round_function}
+use Rattle.elab_entry.specs.Bodies as entry
+use Rattle.elab_implicit.specs.Implied as code
+use Rattle.elab_implicit.specs.Implied.{first_of}
 use Rattle.elab_leaving.specs.Kept.{Leaves, On}
 use Rattle.elab_leaving.proofs.Keeping.{bind, skip, either, stays, after, follow, of_done, Ends, begins_refl, work_kept}
 use Rattle.elab_leaving.proofs.Growing.{Mades, class_grows}

@@ -23,8 +23,8 @@ use Rattle.elab_rules.specs.Statements.{State, Done, Body, Lambdas, statement, s
 use Rattle.elab_rules.specs.Functions.{with_parameters, end_of, within_frame, leaving, body_made}
 use Rattle.elab_rules.specs.Lambdas as rules
 use Rattle.elab_rules.specs.Lambdas.{Written, refused_at, no_lambda, first_lambda, lambda_entered, declared_closure, body_statements, lambda_type, signature_in, result_in, with_written, kids_of, explicit_captures, default_in, parameters_among, not_dynamic, result_among, default_captures, used_in, has_mutable, place_of_tree, closing}
-use Rattle.elab_leaving.specs.EntryRound.{round_lambda, left_by}
-use Rattle.elab_leaving.specs.EntryBodies.{body_kept}
+use Rattle.elab_entry.specs.Round.{round_lambda, left_by}
+use Rattle.elab_entry.specs.Bodies.{body_kept}
 use Rattle.elab_leaving.specs.LambdasWhole as code
 use Rattle.elab_leaving.specs.LambdasWhole.{Deduced, closure_entered, call_signature, undone}
 use Rattle.elab_leaving.specs.Kept.{Begins, Leaves, Inside, On, Lawful}

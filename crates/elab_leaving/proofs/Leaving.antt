@@ -17,9 +17,9 @@ use Rattle.elab_rules.specs.Operators.{is_complete}
 use Rattle.elab_rules.specs.Statements.{State, Done, Lambdas, statement, statements_of}
 use Rattle.elab_rules.specs.Functions as rules
 use Rattle.elab_rules.specs.Functions.{Header, leaving, with_parameters, end_of}
-use Rattle.elab_leaving.specs.EntryRound.{round_function, round_lambda, left_by, scopes_by}
-use Rattle.elab_leaving.specs.EntryBodies as code
-use Rattle.elab_leaving.specs.EntryBodies.{body_kept}
+use Rattle.elab_entry.specs.Round.{round_function, round_lambda, left_by, scopes_by}
+use Rattle.elab_entry.specs.Bodies as code
+use Rattle.elab_entry.specs.Bodies.{body_kept}
 use Rattle.elab_leaving.specs.Kept.{Begins, Leaves, Inside, On, Lawful}
 use Rattle.elab_leaving.proofs.Keeping.{after, Ends}
 use Rattle.elab_leaving.proofs.Answers.{same_after, same_behind}

@@ -1,5 +1,6 @@
 pub mod Answers
 pub mod Classes
+pub mod Declared
 pub mod Defaults
 pub mod Growing
 pub mod Implied
@@ -8,4 +9,6 @@ pub mod Lambdas
 pub mod Leaving
 pub mod Objects
 pub mod Outside
+pub mod Specifiers
 pub mod Statements
+pub mod Units

@@ -26,8 +26,8 @@ use Rattle.elab_rules.specs.Classes.{Method}
 use Rattle.elab_rules.specs.Members as rules
 use Rattle.elab_rules.specs.Members.{Given, Giving, member_index, member_type, given_part, given_base, given_member, is_named_class, is_base_type, given_for, for_part, given_by, all_given, default_built, base_built, member_built, members_built, parts_built, constructor_tree, destructor_tree, this_type}
 use Rattle.std.specs.Prelude.{slice_get, is_none, not}
-use Rattle.elab_leaving.specs.EntryBodies as entry
-use Rattle.elab_leaving.specs.ImplicitImplied as implicit
+use Rattle.elab_entry.specs.Bodies as entry
+use Rattle.elab_implicit.specs.Implied as implicit
 use Rattle.elab_leaving.specs.MembersBodies as code
 use Rattle.elab_leaving.specs.Kept.{Leaves, Inside, On, Lawful}
 use Rattle.elab_leaving.proofs.Keeping.{bind, skip, stays, after, behind, follow, of_done, Ends, Grows, begins_refl, begins_trans, work_kept}

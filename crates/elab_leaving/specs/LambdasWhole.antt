@@ -22,8 +22,8 @@ use Rattle.elab_rules.specs.Types.{Parameter, Qualifiers, no_qualifiers, qualifi
 use Rattle.elab_rules.specs.Statements.{State, Done, Lambdas, done, statement, the_tree}
 use Rattle.elab_rules.specs.Functions.{end_of}
 use Rattle.elab_rules.specs.Lambdas.{Written, kids_of, place_of_tree, signature_in, result_in, lambda_entered, declared_closure, inside, body_statements, with_written, explicit_captures, default_in, default_captures, used_in, parameters_among, result_among, not_dynamic, has_mutable, closing}
-use Rattle.elab_leaving.specs.EntryRound.{round_lambda, left_by}
-use Rattle.elab_leaving.specs.EntryBodies.{body_made}
+use Rattle.elab_entry.specs.Round.{round_lambda, left_by}
+use Rattle.elab_entry.specs.Bodies.{body_made}
 
 -- What the records of the code show
 

@@ -11,9 +11,9 @@ use Rattle.elab_rules.specs.Braces.{syntax_place}
 use Rattle.elab_rules.specs.Statements.{State, Done, done, the_tree, Lambdas}
 use Rattle.elab_rules.specs.Functions.{Header, with_parameters}
 use Rattle.elab_rules.specs.Members.{Giving, all_given, parts_built, constructor_tree, destructor_tree, this_type}
-use Rattle.elab_leaving.specs.EntryRound.{round_function}
-use Rattle.elab_leaving.specs.EntryBodies.{statements_in, body_made, function_body}
-use Rattle.elab_leaving.specs.ImplicitImplied.{in_object}
+use Rattle.elab_entry.specs.Round.{round_function}
+use Rattle.elab_entry.specs.Bodies.{statements_in, body_made, function_body}
+use Rattle.elab_implicit.specs.Implied.{in_object}
 
 -- what was made inside a function is kept as its body
 abbrev pub kept : State → Header → ℕ → Done → Result State ElabFault

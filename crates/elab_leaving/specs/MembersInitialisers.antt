@@ -16,8 +16,8 @@ use Rattle.elab_rules.specs.Lambdas.{kids_of}
 use Rattle.elab_rules.specs.Braces.{is_char_array, string_token, syntax_place}
 use Rattle.elab_rules.specs.Statements.{State, Done, done, Full, Lambdas, full, with_work, full_operand, copy_initialised}
 use Rattle.elab_rules.specs.Members.{default_value, first_tree, initialiser_in, member_index, member_type}
-use Rattle.elab_leaving.specs.EntryRound.{round_function, left_by}
-use Rattle.elab_leaving.specs.ImplicitImplied.{in_object}
+use Rattle.elab_entry.specs.Round.{round_function, left_by}
+use Rattle.elab_implicit.specs.Implied.{in_object}
 
 -- Initialisers in the syntax
 
