@@ -1,7 +1,7 @@
 -- Classes as the code makes them are those of the definitions, where each initialiser of a member is well.
-use Rattle.std.proofs.Common.{◌≡◌, ℕ, Bool, true, false, List, [], ◌∷◌, refl, sym, ap, ◌∙◌, subst, Option, Some, None, Result, Ok, Err}
+use Rattle.std.proofs.Common.{◌≡◌, ℕ, Bool, true, false, List, [], refl, sym, ap, ◌∙◌, subst, Option, Some, None, Result, Ok, Err}
 use Rattle.std.specs.Prelude.{if◌then◌else◌, ◌&&◌, not, is_none, is_some, nat_le, ◌||◌}
-use Rattle.elab_rules.specs.cpp_types.Typ.{Typ, typ, Form, class, func, Signature}
+use Rattle.elab_rules.specs.cpp_types.Typ.{Typ, typ, Form, class, func}
 use Rattle.elab_rules.specs.cpp_types.Class.{Member, completion_of, held}
 use Rattle.elab_rules.specs.cpp_types.declared.classes.At.{At}
 use Rattle.elab_rules.specs.cpp_lex.Tokens.{Lexeme}
@@ -10,23 +10,22 @@ use Rattle.elab_rules.specs.cpp_ast.Trees as syntax
 use Rattle.elab_rules.specs.cpp_tree.declared.program.FuncKind.{FuncKind}
 use Rattle.elab_rules.specs.cpp_tree.declared.program.FuncKind.TheVariants.{Plain, Constructor, Destructor}
 use Rattle.elab_rules.specs.cpp_tree.declared.faults.ElabFault.{ElabFault}
-use Rattle.elab_rules.specs.cpp_tree.Trees.{Tree}
-use Rattle.elab_rules.specs.elab_ctx.Ctx.{Ctx, Special, Closure}
-use Rattle.elab_rules.specs.elab_ctx.Steps.{and_then, each_of, at_of, check}
+use Rattle.elab_rules.specs.elab_ctx.Ctx.{Ctx, Closure}
+use Rattle.elab_rules.specs.elab_ctx.Steps.{and_then, at_of, check}
 use Rattle.elab_rules.specs.Types.{Declared, has_auto, is_abstract_type, type_named}
-use Rattle.elab_rules.specs.Statements.{State, Done, Lambdas, statements_of, initialised, is_bounded, is_own_name, is_trivial, name_of}
-use Rattle.elab_rules.specs.Functions.{Header, Storage, body_made, function_body, text_sized, with_parameters, entered, first_from, header_sized, is_same_function, new_function, no_storage, within_frame}
-use Rattle.elab_rules.specs.Classes.{Home, Members, Begun, begun, begun_by, begun_in, members_of, member_of, completed, closed_class, Method, method_of, body_in, class_text, Marks, Definition, Started, data_member, member_function, declared_method, declared_member, member_declarator, member_declarators, Specials, with_destructor, with_copy, with_default, with_specials, default_completed, copy_completed, all_held, base_default, declarator_among, definition_between, definition_sized, has_equal, has_function, has_initialiser, has_member, has_no_pointer, header_in, is_destructor_of, is_no_place, is_trivial_default, last_token, marks_fit, marks_from, may_copy, member_form, member_named, members_default, no_function_words, no_marks, overridden, overrides_well, started_from, within_bounds, written_copy}
+use Rattle.elab_rules.specs.Statements.{State, Lambdas, statements_of, initialised, is_bounded, is_own_name, is_trivial, name_of}
+use Rattle.elab_rules.specs.Functions.{Header, Storage, function_body, text_sized, with_parameters, entered, first_from, header_sized, is_same_function, new_function, no_storage, within_frame}
+use Rattle.elab_rules.specs.Classes.{Home, Members, Begun, begun, begun_in, members_of, member_of, completed, closed_class, Method, method_of, body_in, class_text, Marks, Definition, Started, data_member, member_function, declared_method, declared_member, member_declarator, member_declarators, Specials, with_destructor, with_copy, with_default, all_held, base_default, declarator_among, definition_between, definition_sized, has_equal, has_function, has_initialiser, has_member, has_no_pointer, header_in, is_destructor_of, is_no_place, is_trivial_default, last_token, marks_fit, marks_from, may_copy, member_form, member_named, members_default, no_function_words, no_marks, overridden, overrides_well, started_from, within_bounds, written_copy}
 use Rattle.elab_rules.specs.Members as rules
 use Rattle.elab_rules.specs.Members.{place_of_header, base_named, has_final, members_among, all_given, in_object, parts_built}
-use Rattle.elab_leaving.specs.TableWritten.{ClassRead, class_read, read_members, read_closed}
-use Rattle.elab_leaving.specs.MembersWhole as code
-use Rattle.elab_leaving.specs.MembersInitialisers.{all_defaults}
+use Rattle.class_table.specs.Written.{ClassRead, class_read, read_members, read_closed}
+use Rattle.elab_members.specs.Whole as code
+use Rattle.elab_members.specs.Initialisers.{all_defaults}
 use Rattle.elab_leaving.specs.Kept.{On, Lawful}
 use Rattle.elab_leaving.proofs.Keeping.{bind, skip, either}
-use Rattle.elab_leaving.proofs.Answers.{same_after, same_behind, nest, each_holds, each_same}
+use Rattle.elab_leaving.proofs.Answers.{same_behind, nest, each_holds, each_same}
 use Rattle.elab_leaving.proofs.Objects.{method_same}
-use Rattle.elab_leaving.proofs.Defaults.{Settled, again_same, those_settled, all_well, all_settled}
+use Rattle.elab_leaving.proofs.Defaults.{Settled, again_same, all_well, all_settled}
 use Rattle.elab_rules.specs.cpp_tree.declared.faults.IllRule.TheVariants.{AbstractObject, BadDeclaration, Incomplete, OutOfProfile, Redeclared}
 use Rattle.elab_rules.specs.cpp_layout.Layout.{class_extent}
 use Rattle.elab_rules.specs.Expressions.{declared_by, type_of_specifiers}
@@ -34,7 +33,6 @@ use Rattle.elab_rules.specs.Objects.{element_of, traits_at}
 use Rattle.elab_rules.specs.cpp_tree.Typing.{form_in}
 use Rattle.elab_rules.specs.Operators.{is_complete}
 use Rattle.elab_rules.specs.Initialising.{is_constructor, places_from, signature_result}
-use Rattle.elab_rules.specs.Dump.{number}
 use Rattle.elab_rules.specs.Sizes.{typ_sized}
 
 -- Behind a body no lambdas are at hand where there were none before

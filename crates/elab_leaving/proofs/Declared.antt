@@ -1,7 +1,7 @@
 -- Behind a declaration at file scope no lambdas of a full-expression are at hand.
-use Rattle.std.proofs.Common.{◌≡◌, ℕ, Bool, true, false, List, [], ◌∷◌, length, refl, sym, ap, ◌∙◌, Option, Some, None, Result, Ok, Err}
-use Rattle.std.specs.Prelude.{ℤ, pos, if◌then◌else◌, ◌&&◌, not, is_none, pos, slice_get, ◌||◌}
-use Rattle.elab_rules.specs.cpp_types.Typ.{Typ, Form, func, Signature, enum}
+use Rattle.std.proofs.Common.{◌≡◌, ℕ, Bool, true, false, List, [], Option, Some, None}
+use Rattle.std.specs.Prelude.{ℤ, pos, if◌then◌else◌, not, is_none, pos, slice_get, ◌||◌}
+use Rattle.elab_rules.specs.cpp_types.Typ.{Typ, Form, func, enum}
 use Rattle.elab_rules.specs.cpp_types.declared.classes.At.{At}
 use Rattle.elab_rules.specs.cpp_lex.Tokens.{Lexeme}
 use Rattle.elab_rules.specs.cpp_ast.declared.kinds.NodeKind.TheVariants as k
@@ -9,10 +9,9 @@ use Rattle.elab_rules.specs.cpp_ast.Trees as syntax
 use Rattle.elab_rules.specs.cpp_names.declared.entity.Entity.{Entity}
 use Rattle.elab_rules.specs.cpp_names.declared.entity.EntityKind.{EntityKind}
 use Rattle.elab_rules.specs.cpp_names.declared.entity.EntityKind.TheVariants as entities
-use Rattle.elab_rules.specs.cpp_tree.declared.faults.ElabFault.{ElabFault}
 use Rattle.elab_rules.specs.cpp_tree.Notation.{plain}
 use Rattle.elab_rules.specs.elab_ctx.Ctx.{Ctx}
-use Rattle.elab_rules.specs.elab_ctx.Steps.{and_then, each_of, check, at_of, spelling, expect}
+use Rattle.elab_rules.specs.elab_ctx.Steps.{and_then, check, at_of, spelling, expect}
 use Rattle.elab_rules.specs.Types.{Declared, has_auto, type_named}
 use Rattle.elab_rules.specs.Statements.{State, name_of, bound_by_initialiser, is_own_name}
 use Rattle.elab_rules.specs.Functions.{Storage, Header, Placed, with_specifier, function_named, name_declared, declared_in, function_declared, agrees, dynamic_fits, first_from, header_sized, is_function_entity, is_same_function, main_fits, may_be_c}
@@ -20,7 +19,7 @@ use Rattle.elab_rules.specs.Globals.{PlacedGlobal, Enumerating, global_again, gl
 use Rattle.elab_rules.specs.Units.{header_of, declared_of_type, file_declarator, file_declarators, file_declaration, alias_of}
 use Rattle.elab_rules.specs.Members.{declared_only}
 use Rattle.elab_leaving.specs.Kept.{On}
-use Rattle.elab_leaving.proofs.Keeping.{bind, skip, either}
+use Rattle.elab_leaving.proofs.Keeping.{bind, skip}
 use Rattle.elab_leaving.proofs.Answers.{each_holds}
 use Rattle.elab_leaving.proofs.Defaults.{Settled}
 use Rattle.elab_leaving.proofs.Classes.{begun_settled}

@@ -1,7 +1,7 @@
 -- Initialisers of members: what the code keeps of one is what the definitions keep, and what it cuts away again is all that one has made.
-use Rattle.std.proofs.Common.{◌≡◌, ℕ, Bool, true, false, List, [], ◌∷◌, ◌++◌, length, take, drop, subst, refl, sym, ap, ◌∙◌, Option, Some, None, Result, Ok, Err}
+use Rattle.std.proofs.Common.{◌≡◌, ℕ, Bool, true, List, [], ◌∷◌, length, take, drop, subst, refl, sym, ap, ◌∙◌, Option, Some, None, Result, Ok, Err}
 use Rattle.std.specs.Prelude.{slice_get}
-use Rattle.elab_rules.specs.cpp_types.Typ.{Typ, class}
+use Rattle.elab_rules.specs.cpp_types.Typ.{Typ}
 use Rattle.elab_rules.specs.cpp_types.Class.{Class}
 use Rattle.elab_rules.specs.cpp_lex.Tokens.{Lexeme}
 use Rattle.elab_rules.specs.cpp_ast.declared.kinds.NodeKind.TheVariants as k
@@ -10,21 +10,19 @@ use Rattle.elab_rules.specs.cpp_tree.declared.faults.ElabFault.{ElabFault}
 use Rattle.elab_rules.specs.cpp_tree.Trees.{Tree}
 use Rattle.elab_rules.specs.cpp_tree.Units.{Global, SlotFunc}
 use Rattle.elab_rules.specs.elab_ctx.Ctx.{Traits, Func, Default, Closure}
-use Rattle.elab_rules.specs.elab_ctx.Steps.{and_then, each_of, spelling, Made}
+use Rattle.elab_rules.specs.elab_ctx.Steps.{and_then, each_of, spelling}
 use Rattle.elab_rules.specs.Names.{members_in}
 use Rattle.elab_rules.specs.Strings.{string_bytes}
 use Rattle.elab_rules.specs.Braces.{is_char_array, string_token, string_object, syntax_place}
-use Rattle.elab_rules.specs.Statements.{State, Done, Full, Body, Lambdas, with_work, full_operand, copy_initialised}
-use Rattle.elab_rules.specs.Functions.{leaving}
+use Rattle.elab_rules.specs.Statements.{State, Done, Body, Lambdas, full_operand, copy_initialised}
 use Rattle.elab_rules.specs.Members as rules
 use Rattle.elab_rules.specs.Members.{default_value, first_tree, with_default_member, initialiser_in, member_index, member_type}
-use Rattle.elab_implicit.specs.Implied as implicit
-use Rattle.elab_leaving.specs.MembersInitialisers as code
-use Rattle.elab_leaving.specs.MembersInitialisers.{default_added, cut_back, read_again}
+use Rattle.elab_members.specs.Initialisers as code
+use Rattle.elab_members.specs.Initialisers.{default_added, cut_back, read_again}
 use Rattle.elab_leaving.specs.Kept.{Begins, Leaves, Inside, On, Lawful}
-use Rattle.elab_leaving.proofs.Keeping.{bind, skip, stays, after, follow, of_done, of_full, Ends, begins_refl, begins_more, begins_trans, work_kept}
+use Rattle.elab_leaving.proofs.Keeping.{bind, skip, stays, follow, of_done, of_full, Ends, begins_refl, begins_more, begins_trans, work_kept}
 use Rattle.elab_leaving.proofs.Growing.{Mades, copy_grows}
-use Rattle.elab_leaving.proofs.Answers.{same_after, same_behind, each_holds, each_same, each_well}
+use Rattle.elab_leaving.proofs.Answers.{same_after, each_holds, each_same, each_well}
 use Rattle.elab_leaving.proofs.Statements.{full_kept}
 use Rattle.elab_leaving.proofs.Leaving.{left_function}
 use Rattle.elab_leaving.proofs.Objects.{object_same, inside_object}

@@ -1,14 +1,14 @@
 -- Expressions and initialisers add globals at the end, and change nothing else but the frame.
-use Rattle.std.proofs.Common.{◌≡◌, ◌-◌, drop, ℕ, zero, suc, Bool, true, false, List, [], ◌∷◌, length, Option, Some, None, Result, Ok, Err}
+use Rattle.std.proofs.Common.{◌-◌, drop, ℕ, zero, suc, Bool, true, false, List, [], ◌∷◌, Option, Some, None, Result, Ok}
 use Rattle.std.specs.Prelude.{slice_get, not, ◌&&◌, ◌||◌, is_some, codes, if◌then◌else◌}
 use Rattle.std.specs.Str.{bytes_eq}
-use Rattle.elab_rules.specs.cpp_types.Typ.{Typ, typ, Form, void, ptr, ref, array, func, class, closure, tx_ex, Signature, Typs, none as no_typs, more as and_typ, signature}
+use Rattle.elab_rules.specs.cpp_types.Typ.{Typ, typ, Form, void, ptr, ref, array, func, class, closure, tx_ex, Signature, Typs, none as no_typs, more as and_typ}
 use Rattle.elab_rules.specs.cpp_types.Class.{Member}
 use Rattle.elab_rules.specs.cpp_types.declared.classes.At.{At}
 use Rattle.elab_rules.specs.cpp_types.declared.ranks.Binding.{Binding}
 use Rattle.elab_rules.specs.cpp_types.declared.ranks.Binding.TheVariants.{Value, Direct, Temporary}
 use Rattle.elab_rules.specs.cpp_types.declared.ranks.Step.{Step}
-use Rattle.elab_rules.specs.cpp_types.declared.ranks.Cat.TheVariants.{Lvalue, Prvalue}
+use Rattle.elab_rules.specs.cpp_types.declared.ranks.Cat.TheVariants.{Lvalue}
 use Rattle.elab_rules.specs.cpp_lex.Tokens.{Lexeme}
 use Rattle.elab_rules.specs.cpp_ast.declared.kinds.NodeKind.{NodeKind}
 use Rattle.elab_rules.specs.cpp_ast.declared.kinds.NodeKind.TheVariants as k
@@ -23,15 +23,15 @@ use Rattle.elab_rules.specs.elab_ctx.Ctx.{Ctx, Work, Closure, Capture, Default, 
 use Rattle.elab_rules.specs.elab_ctx.Steps.{and_then, Operand, Made, MadeAll, Typed, TypedAll, at_of, spelling, token_place, check, expect, value_at}
 use Rattle.elab_rules.specs.Objects.{Part, parts_of, traits_at}
 use Rattle.elab_rules.specs.Initialising.{object_of, bound_by, initial, is_prvalue_of_class, parameters_at, reference_word, constructed_copy, constructor_at, copied_object, class_from, passed, words, constructed_by, is_prvalue_itself, constructed, only, scalar_from, exception_from, is_exception_itself, from_values, func_at, argument, arguments, class_number, conversion, from_nothing, has_copy, is_same_or_base, makeable, makers, meant, places_from, same_number, signature_result, with_tree, as_source, signature_parameters}
-use Rattle.elab_rules.specs.Operators.{value, is_throw, is_volatile_scalar, is_read_when_dropped, dropped, comma, copy_assigned, class_assigned_in, assignment, same_lvalues, both_of_class, two_objects, same_work, branches, conditional, value_form, assigned, step, target, truth, compound, compound_operator, same_object, subscript, two_values}
+use Rattle.elab_rules.specs.Operators.{value, is_throw, is_volatile_scalar, is_read_when_dropped, dropped, copy_assigned, class_assigned_in, assignment, same_lvalues, both_of_class, two_objects, same_work, branches, conditional, value_form, assigned, step, target, truth, compound, compound_operator, same_object, subscript, two_values}
 use Rattle.elab_rules.specs.Names.{is_tx_exception, member_access, class_member, exception_member, is_free, is_method, resolved, is_const_typ, is_volatile_object, members_in, named, offset_at, this_tree}
-use Rattle.elab_rules.specs.Casts.{is_numeric, scalar_cast, cast_in, cast, functional, throw_object, throw_in, throw, string_made, string_global, is_thrown_scalar, within_exception, as_expression, size_literal}
+use Rattle.elab_rules.specs.Casts.{is_numeric, scalar_cast, cast_in, cast, functional, throw_object, throw_in, throw, string_global, is_thrown_scalar, within_exception, as_expression, size_literal}
 use Rattle.elab_rules.specs.Calls.{called, call_free, call_method_of, call_method, call_get, call_closure, call_pointer, call_value, call_abort, call_form, call, best_of, complete_result, is_closure_call, is_main, value_type, as_object, call_kind, member_kind}
 use Rattle.elab_rules.specs.Strings.{string_bytes}
 use Rattle.elab_rules.specs.Expressions.{an_operand, a_tree, chosen_operand, leaf_of, assignment_of, row_of, leaf_or_row, captured_value, captured, captured_pieces, closure_object, expression_with, operands_with, expression_of, operands_of, capture_source, closure_at, pointed_operand, specified_with, type_id_with, operator_of, postfix_operator, qualified_name, unary_of}
 use Rattle.elab_rules.specs.Braces.{is_char_array, string_token, is_aggregate_class, is_object_of, item_in, not_narrowed, default_member, rest_piece, rest_members, with_piece, rest_in, item_expression, item_of, items_of, braceable, is_not_narrowed, part_in, string_object, syntax_place, default_at, this_of, tree_place}
 use Rattle.elab_rules.specs.Statements.{bound_reference, copy_initialised, directly_initialised, is_lasting}
-use Rattle.elab_leaving.specs.Kept.{Begins, On}
+use Rattle.elab_leaving.specs.Kept.{On}
 use Rattle.elab_leaving.proofs.Keeping.{begins_refl, begins_more, begins_trans, bind, skip, either, Grows, further}
 use Rattle.elab_rules.specs.cpp_tree.declared.faults.IllRule.TheVariants.{BadInit, BadMain, BadOperand, BadThrow, Narrowing, NoConversion, NoCopy, NoViable, NotCallable, NotTriviallyCopyable, OutOfProfile}
 use Rattle.elab_rules.specs.cpp_overload.Choosing.{chosen}

@@ -1,5 +1,5 @@
 -- The bodies of implicit members, as the code makes them, are those of the definitions.
-use Rattle.std.proofs.Common.{◌≡◌, ℕ, zero, suc, Bool, true, false, List, [], ◌∷◌, length, refl, sym, ap, ◌∙◌, Option, Some, None, Result, Ok}
+use Rattle.std.proofs.Common.{◌≡◌, ℕ, zero, suc, Bool, true, false, List, [], ◌∷◌, length, refl, ap, ◌∙◌, Option, Some, None, Result, Ok}
 use Rattle.std.specs.Prelude.{◌&&◌, slice_get, if◌then◌else◌}
 use Rattle.elab_rules.specs.cpp_types.Typ.{Typ, class, Typs, none as no_typs, more as and_typ}
 use Rattle.elab_rules.specs.cpp_types.Class.{Member}
@@ -11,7 +11,7 @@ use Rattle.elab_rules.specs.cpp_tree.Notation.{plain}
 use Rattle.elab_rules.specs.cpp_tree.Trees.{Tree, none}
 use Rattle.elab_rules.specs.cpp_tree.Typing.{is_class_typ}
 use Rattle.elab_rules.specs.elab_ctx.Ctx.{Func}
-use Rattle.elab_rules.specs.elab_ctx.Steps.{and_then, Made}
+use Rattle.elab_rules.specs.elab_ctx.Steps.{and_then}
 use Rattle.elab_rules.specs.Objects.{is_array}
 use Rattle.elab_rules.specs.Initialising.{func_at, signature_parameters, class_from}
 use Rattle.elab_rules.specs.Names.{members_in}
@@ -25,10 +25,10 @@ use Rattle.elab_entry.specs.Round.{round_function}
 use Rattle.elab_entry.specs.Bodies as entry
 use Rattle.elab_implicit.specs.Implied as code
 use Rattle.elab_implicit.specs.Implied.{first_of}
-use Rattle.elab_leaving.specs.Kept.{Leaves, On}
+use Rattle.elab_leaving.specs.Kept.{On}
 use Rattle.elab_leaving.proofs.Keeping.{bind, skip, either, stays, after, follow, of_done, Ends, begins_refl, work_kept}
 use Rattle.elab_leaving.proofs.Growing.{Mades, class_grows}
-use Rattle.elab_leaving.proofs.Answers.{same_after, same_behind, nest}
+use Rattle.elab_leaving.proofs.Answers.{same_after, nest}
 use Rattle.elab_leaving.proofs.Leaving.{made_function}
 use Rattle.elab_leaving.proofs.Objects.{object_same, inside_object, parts_kept}
 use Rattle.elab_leaving.proofs.Defaults.{Settled}

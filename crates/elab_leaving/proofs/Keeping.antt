@@ -1,6 +1,6 @@
 -- Steps that leave what statements leave.
 use Rattle.std.proofs.Common.{◌≡◌, ℕ, ◌≤◌, Bool, true, false, List, [], ◌∷◌, ◌++◌, length, take, drop, set, refl, sym, ap, ◌∙◌, Result, Ok, Err, arith}
-use Rattle.std.specs.Prelude.{Option, Some, None, if◌then◌else◌}
+use Rattle.std.specs.Prelude.{Option, Some, if◌then◌else◌}
 use Rattle.std.proofs.Math.Seq.{take-append_seam, take-length}
 use Rattle.std.proofs.lemmas.List.{take-take, take-set, length-take}
 use Rattle.elab_rules.specs.cpp_names.Names.{Names, with_name}
@@ -9,7 +9,7 @@ use Rattle.elab_rules.specs.cpp_types.Typ.{Typ}
 use Rattle.elab_rules.specs.cpp_tree.declared.faults.ElabFault.{ElabFault}
 use Rattle.elab_rules.specs.elab_ctx.Ctx.{Work, Variable, with_variable, next_place}
 use Rattle.elab_rules.specs.elab_ctx.Steps.{and_then}
-use Rattle.elab_rules.specs.Statements.{State, Done, Full, Deduction, Declaring, Switched, Caught, with_work, next_variable, declared_variable, auto_placed, inner, outer}
+use Rattle.elab_rules.specs.Statements.{State, Done, Full, with_work, next_variable, declared_variable, auto_placed, inner, outer}
 use Rattle.elab_leaving.specs.Kept.{Begins, Kept, kept_in, Keeps, Leaves, On}
 
 -- Lists

@@ -1,5 +1,5 @@
 -- Lambdas as the code makes them are those of the definitions.
-use Rattle.std.proofs.Common.{◌≡◌, ℕ, false, Bool, List, [], ◌∷◌, ◌++◌, length, take, refl, sym, ap, ◌∙◌, Option, Some, None, Result, Ok, Err}
+use Rattle.std.proofs.Common.{◌≡◌, ℕ, false, List, length, take, refl, sym, ap, ◌∙◌, Option, Some, None, Result, Ok, Err}
 use Rattle.elab_rules.specs.cpp_types.Typ.{Typ, void, Signature}
 use Rattle.elab_rules.specs.cpp_types.Class.{held, Class}
 use Rattle.elab_rules.specs.cpp_types.declared.classes.At.{At}
@@ -19,16 +19,16 @@ use Rattle.elab_rules.specs.Objects.{followed_by}
 use Rattle.elab_rules.specs.Operators.{is_complete}
 use Rattle.elab_rules.specs.Sizes.{typ_sized}
 use Rattle.elab_rules.specs.Types.{Parameter, is_declared_safe, function_of, qualifiers_from, no_qualifiers}
-use Rattle.elab_rules.specs.Statements.{State, Done, Body, Lambdas, statement, statements_of}
+use Rattle.elab_rules.specs.Statements.{State, Done, Body, statement}
 use Rattle.elab_rules.specs.Functions.{with_parameters, end_of, within_frame, leaving, body_made}
 use Rattle.elab_rules.specs.Lambdas as rules
 use Rattle.elab_rules.specs.Lambdas.{Written, refused_at, no_lambda, first_lambda, lambda_entered, declared_closure, body_statements, lambda_type, signature_in, result_in, with_written, kids_of, explicit_captures, default_in, parameters_among, not_dynamic, result_among, default_captures, used_in, has_mutable, place_of_tree, closing}
 use Rattle.elab_entry.specs.Round.{round_lambda, left_by}
 use Rattle.elab_entry.specs.Bodies.{body_kept}
-use Rattle.elab_leaving.specs.LambdasWhole as code
-use Rattle.elab_leaving.specs.LambdasWhole.{Deduced, closure_entered, call_signature, undone}
+use Rattle.elab_lambdas.specs.Whole as code
+use Rattle.elab_lambdas.specs.Whole.{Deduced, closure_entered, call_signature, undone}
 use Rattle.elab_leaving.specs.Kept.{Begins, Leaves, Inside, On, Lawful}
-use Rattle.elab_leaving.proofs.Keeping.{after, Ends, bind, skip, stays, follow, of_state, of_done, begins_refl, begins_more, begins_trans}
+use Rattle.elab_leaving.proofs.Keeping.{Ends, bind, skip, stays, follow, of_state, of_done, begins_refl, begins_more, begins_trans}
 use Rattle.elab_leaving.proofs.Answers.{same_after, same_behind, nest}
 use Rattle.elab_leaving.proofs.Leaving.{left_lambda}
 use Rattle.elab_leaving.proofs.Statements.{statements_kept, parameters_kept}

@@ -1,5 +1,5 @@
 -- Behind a function: what the code puts back is what was known before.
-use Rattle.std.proofs.Common.{◌≡◌, ℕ, suc, false, ◌-◌, List, [], ◌∷◌, ◌++◌, length, take, drop, refl, sym, ap, ◌∙◌, subst, Option, Some, None, Result, Ok, arith}
+use Rattle.std.proofs.Common.{◌≡◌, ℕ, suc, false, ◌-◌, List, [], ◌∷◌, length, take, drop, refl, sym, ap, ◌∙◌, subst, Option, arith}
 use Rattle.elab_rules.specs.cpp_names.Names.{Names}
 use Rattle.elab_rules.specs.cpp_types.Typ.{Typ}
 use Rattle.elab_rules.specs.cpp_types.Class.{held}
@@ -20,7 +20,7 @@ use Rattle.elab_rules.specs.Functions.{Header, leaving, with_parameters, end_of}
 use Rattle.elab_entry.specs.Round.{round_function, round_lambda, left_by, scopes_by}
 use Rattle.elab_entry.specs.Bodies as code
 use Rattle.elab_entry.specs.Bodies.{body_kept}
-use Rattle.elab_leaving.specs.Kept.{Begins, Leaves, Inside, On, Lawful}
+use Rattle.elab_leaving.specs.Kept.{Begins, Leaves, Inside, Lawful}
 use Rattle.elab_leaving.proofs.Keeping.{after, Ends}
 use Rattle.elab_leaving.proofs.Answers.{same_after, same_behind}
 use Rattle.elab_leaving.proofs.Statements.{statements_kept, parameters_kept}

@@ -1,5 +1,5 @@
 -- Bodies of members leave what stands round them, so that those the code makes are those of the definitions.
-use Rattle.std.proofs.Common.{◌≡◌, ℕ, suc, Bool, true, false, List, [], ◌∷◌, ◌++◌, refl, sym, ap, ◌∙◌, Option, Some, None, Result, Ok, Err}
+use Rattle.std.proofs.Common.{◌≡◌, ℕ, suc, List, [], ◌∷◌, ap, ◌∙◌, Option, Some, None}
 use Rattle.elab_rules.specs.cpp_types.Typ.{Typ, void, class}
 use Rattle.elab_rules.specs.cpp_types.Class.{Member}
 use Rattle.elab_rules.specs.cpp_types.declared.classes.At.{At}
@@ -8,31 +8,28 @@ use Rattle.elab_rules.specs.cpp_ast.declared.kinds.NodeKind.TheVariants as k
 use Rattle.elab_rules.specs.cpp_ast.Trees as syntax
 use Rattle.elab_rules.specs.cpp_tree.declared.program.FuncKind.{FuncKind}
 use Rattle.elab_rules.specs.cpp_tree.declared.program.FuncKind.TheVariants.{Constructor, Destructor}
-use Rattle.elab_rules.specs.cpp_tree.declared.faults.ElabFault.{ElabFault}
 use Rattle.elab_rules.specs.cpp_tree.declared.faults.IllRule.TheVariants.{UnknownName, Redeclared, NoMember, OutOfProfile}
 use Rattle.elab_rules.specs.cpp_tree.Notation.{plain}
-use Rattle.elab_rules.specs.cpp_tree.Trees.{Tree, Trees}
 use Rattle.elab_rules.specs.cpp_tree.Typing.{unqualified}
 use Rattle.elab_rules.specs.elab_ctx.Ctx.{Default}
-use Rattle.elab_rules.specs.elab_ctx.Steps.{and_then, check, expect, each_of, at_of, spelling, Made, TypedAll}
-use Rattle.elab_rules.specs.Names.{members_in, offset_at}
+use Rattle.elab_rules.specs.elab_ctx.Steps.{and_then, check, expect, at_of, spelling}
+use Rattle.elab_rules.specs.Names.{members_in}
 use Rattle.elab_rules.specs.Calls.{base_of_class}
 use Rattle.elab_rules.specs.Types.{type_named}
 use Rattle.elab_rules.specs.Braces.{default_at}
 use Rattle.elab_rules.specs.Expressions.{operands_of}
-use Rattle.elab_rules.specs.Statements.{State, Done, Lambdas, with_work, all_lambdas, default_object, directly_initialised, statements_of}
+use Rattle.elab_rules.specs.Statements.{State, Lambdas, with_work, all_lambdas, default_object, directly_initialised, statements_of}
 use Rattle.elab_rules.specs.Functions.{Header, with_parameters}
 use Rattle.elab_rules.specs.Classes.{Method}
 use Rattle.elab_rules.specs.Members as rules
 use Rattle.elab_rules.specs.Members.{Given, Giving, member_index, member_type, given_part, given_base, given_member, is_named_class, is_base_type, given_for, for_part, given_by, all_given, default_built, base_built, member_built, members_built, parts_built, constructor_tree, destructor_tree, this_type}
 use Rattle.std.specs.Prelude.{slice_get, is_none, not}
-use Rattle.elab_entry.specs.Bodies as entry
 use Rattle.elab_implicit.specs.Implied as implicit
-use Rattle.elab_leaving.specs.MembersBodies as code
+use Rattle.elab_members.specs.Bodies as code
 use Rattle.elab_leaving.specs.Kept.{Leaves, Inside, On, Lawful}
-use Rattle.elab_leaving.proofs.Keeping.{bind, skip, stays, after, behind, follow, of_done, Ends, Grows, begins_refl, begins_trans, work_kept}
+use Rattle.elab_leaving.proofs.Keeping.{bind, skip, stays, after, behind, follow, of_done, Ends, begins_refl, begins_trans, work_kept}
 use Rattle.elab_leaving.proofs.Growing.{Mades, TypesAll, operands_grow, directly_grows}
-use Rattle.elab_leaving.proofs.Answers.{same_after, same_behind, nest, each_holds}
+use Rattle.elab_leaving.proofs.Answers.{same_after, nest, each_holds}
 use Rattle.elab_leaving.proofs.Statements.{statements_kept, parameters_kept, all_lambdas_kept}
 use Rattle.elab_leaving.proofs.Leaving.{entered_same, inside_function, made_function, function_same}
 

@@ -1,18 +1,18 @@
 -- Members that are defined outside their class, as the code makes them, are those of the definitions.
-use Rattle.std.proofs.Common.{◌≡◌, ℕ, List, [], refl, sym, ap, ◌∙◌, Option, Some, None, Result, Ok}
+use Rattle.std.proofs.Common.{◌≡◌, ℕ, List, refl, ◌∙◌, Option, Some, None}
 use Rattle.elab_rules.specs.cpp_types.declared.classes.At.{At}
 use Rattle.elab_rules.specs.cpp_lex.Tokens.{Lexeme}
 use Rattle.elab_rules.specs.cpp_ast.Trees as syntax
 use Rattle.elab_rules.specs.cpp_tree.declared.program.FuncKind.{FuncKind}
 use Rattle.elab_rules.specs.cpp_tree.declared.faults.IllRule.TheVariants.{TypeDiffers, BadDeclaration, NoMember}
-use Rattle.elab_rules.specs.elab_ctx.Steps.{and_then, expect, check}
+use Rattle.elab_rules.specs.elab_ctx.Steps.{expect, check}
 use Rattle.elab_rules.specs.Initialising.{func_at}
 use Rattle.elab_rules.specs.Statements.{State, Lambdas}
 use Rattle.elab_rules.specs.Functions.{Storage, Header, first_from, is_same_function, text_sized}
 use Rattle.elab_rules.specs.Classes.{Method, Started, has_function, body_in, last_token, started_from}
 use Rattle.elab_rules.specs.Members as rules
 use Rattle.elab_rules.specs.Members.{outside_words, outside_agrees, outside_text, outside_defined, outside_method, is_member_named}
-use Rattle.elab_leaving.specs.MembersOutside as code
+use Rattle.elab_members.specs.Outside as code
 use Rattle.elab_leaving.specs.Kept.{On, Lawful}
 use Rattle.elab_leaving.proofs.Keeping.{skip}
 use Rattle.elab_leaving.proofs.Answers.{same_behind, nest}

@@ -7,7 +7,7 @@ use Rattle.elab_rules.specs.cpp_ast.declared.kinds.NodeKind.TheVariants as k
 use Rattle.elab_rules.specs.cpp_ast.Trees as syntax
 use Rattle.elab_rules.specs.elab_ctx.Steps.{spelling}
 use Rattle.elab_rules.specs.Functions.{Storage, with_specifier}
-use Rattle.elab_rules.specs.Classes.{Started, started_from}
+use Rattle.elab_rules.specs.Classes.{started_from}
 
 -- a word that is `static`, `extern`, `inline` or `virtual`
 abbrev with_word : Storage → Bool → Bool → Bool → Bool → Storage

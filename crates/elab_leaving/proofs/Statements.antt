@@ -1,5 +1,5 @@
 -- Statements leave what is known round them, form by form.
-use Rattle.std.proofs.Common.{◌≡◌, ℕ, Bool, true, false, List, [], ◌∷◌, length, Option, Some, None, Result, Ok, Err}
+use Rattle.std.proofs.Common.{ℕ, Bool, true, false, List, [], ◌∷◌, length, Option, Some, None, Result, Ok}
 use Rattle.elab_rules.specs.cpp_types.Typ.{Typ, typ, void}
 use Rattle.elab_rules.specs.cpp_types.declared.classes.At.{At}
 use Rattle.elab_rules.specs.cpp_lex.Tokens.{Lexeme}
@@ -8,18 +8,18 @@ use Rattle.elab_rules.specs.cpp_ast.Trees as syntax
 use Rattle.elab_rules.specs.cpp_tree.declared.kinds.TKind.{TKind}
 use Rattle.elab_rules.specs.cpp_tree.declared.kinds.TKind.TheVariants as forms
 use Rattle.elab_rules.specs.cpp_tree.declared.faults.ElabFault.{ElabFault}
-use Rattle.elab_rules.specs.cpp_tree.declared.faults.IllRule.TheVariants.{Redeclared, TypeDiffers, BadDeclaration, NotConstant, Incomplete, BadInit, Narrowing, BadReturn, BadBreak, BadCase, OutOfProfile, JumpPastInit}
-use Rattle.elab_rules.specs.cpp_tree.Trees.{Tree, Trees, none, more, kind_of, typ_in, one, three}
+use Rattle.elab_rules.specs.cpp_tree.declared.faults.IllRule.TheVariants.{Redeclared, TypeDiffers, BadDeclaration, NotConstant, Incomplete, BadInit, Narrowing, BadReturn, BadBreak, BadCase}
+use Rattle.elab_rules.specs.cpp_tree.Trees.{Tree, none, kind_of, typ_in, one, three}
 use Rattle.elab_rules.specs.cpp_tree.Typing.{is_class_typ, form_in, is_void, kind_in, unqualified}
-use Rattle.elab_rules.specs.elab_ctx.Ctx.{Work, next_place, Returns, known, deduced}
-use Rattle.elab_rules.specs.elab_ctx.Steps.{and_then, check, expect, at_of, spelling, Operand, Made, Typed, TypedAll}
+use Rattle.elab_rules.specs.elab_ctx.Ctx.{next_place, Returns, known, deduced}
+use Rattle.elab_rules.specs.elab_ctx.Steps.{and_then, check, expect, at_of, spelling, Made, Typed, TypedAll}
 use Rattle.elab_rules.specs.Initialising.{class_from, initial}
 use Rattle.elab_rules.specs.Operators.{value, truth, dropped, is_complete, is_throw}
-use Rattle.elab_rules.specs.Types.{Parameter, Declared, has_auto}
+use Rattle.elab_rules.specs.Types.{Parameter, has_auto}
 use Rattle.elab_rules.specs.Braces.{item_of, string_token, is_char_array, syntax_place, string_object}
 use Rattle.elab_rules.specs.Expressions.{expression_of, operands_of, chosen_operand, declared_by, type_of_specifiers}
 use Rattle.elab_rules.specs.Functions.{with_parameters, parameter_named}
-use Rattle.elab_rules.specs.Statements.{State, Done, done, Lambdas, Full, Deduction, Declaring, Switched, Caught, with_work, full_operand, full_made, expression_statement, condition, declared_variable, placed_variable, variable_tree, default_object, copy_initialised, directly_initialised, initialised, string_initialised, values_initialised, all_lambdas, bound_by_initialiser, by_expression, with_initialiser, deduced_type, replaced, auto_initialised, auto_object, auto_variable, without_auto, plain_variable, next_variable, variable_by, variable, name_of, block_declarator, block_declarators, block_declaration, return_value, return_by, return_nothing, returned, case_label, default_label, inner, in_loop, in_block, in_switch, outer, named_handler, handler_type, in_order, switched, jump, a_part, for_first, for_test, for_step, statement_of, statements_of, handlers_of, case_fits, caught_type, declarable, is_bounded, is_fresh, is_own_name, label_here, only_expression, same_deduction, switched_type, class_returned, full, return_node, block, statement, the_tree}
+use Rattle.elab_rules.specs.Statements.{State, Done, done, Lambdas, Full, Deduction, Declaring, Switched, Caught, with_work, full_operand, full_made, expression_statement, condition, declared_variable, placed_variable, variable_tree, default_object, copy_initialised, directly_initialised, initialised, string_initialised, values_initialised, all_lambdas, bound_by_initialiser, by_expression, with_initialiser, deduced_type, replaced, auto_initialised, auto_object, auto_variable, plain_variable, next_variable, variable_by, variable, name_of, block_declarator, block_declarators, block_declaration, return_value, return_by, return_nothing, returned, case_label, default_label, inner, in_loop, in_block, in_switch, outer, named_handler, handler_type, in_order, switched, jump, a_part, for_first, for_test, for_step, statement_of, statements_of, handlers_of, case_fits, caught_type, declarable, is_bounded, is_fresh, is_own_name, label_here, only_expression, same_deduction, switched_type, class_returned, full, return_node, block, statement, the_tree}
 use Rattle.std.specs.Prelude.{if◌then◌else◌}
 use Rattle.elab_leaving.specs.Kept.{Leaves, On, Lawful}
 use Rattle.elab_leaving.proofs.Keeping.{bind, skip, either, stays, after, Grows, begins_refl, begins_trans, work_kept, variable_kept, unnamed_kept, declared_kept, auto_kept, out, of_state, of_done, of_full, Ends, behind, follow}
@@ -32,7 +32,6 @@ use Rattle.std.specs.Prelude.{not, ◌||◌, ◌==◌}
 use Rattle.elab_rules.specs.cpp_tree.Notation.{plain}
 use Rattle.elab_rules.specs.Strings.{string_bytes}
 use Rattle.elab_rules.specs.Sizes.{typ_sized}
-use Rattle.elab_rules.specs.Dump.{word}
 use Rattle.elab_rules.specs.Objects.{followed_by}
 
 -- Full-expressions

@@ -1,7 +1,7 @@
 -- Whole units as the code makes them are those of the definitions, where it is said which fault is told.
 use Rattle.std.proofs.Common.{◌≡◌, ℕ, suc, Bool, true, false, List, [], ◌∷◌, refl, sym, ap, ◌∙◌, subst, Option, Some, None, Result, Ok, Err}
 use Rattle.std.proofs.Math.Path.{fun_ext}
-use Rattle.elab_rules.specs.cpp_types.Typ.{Typ, Form, func, Signature}
+use Rattle.elab_rules.specs.cpp_types.Typ.{Typ, Form, func}
 use Rattle.elab_rules.specs.cpp_types.declared.classes.At.{At}
 use Rattle.elab_rules.specs.cpp_lex.Tokens.{Lexeme}
 use Rattle.elab_rules.specs.cpp_ast.declared.kinds.NodeKind.TheVariants as k
@@ -27,19 +27,19 @@ use Rattle.elab_rules.specs.Implicit.{with_implied}
 use Rattle.elab_rules.specs.Programs as programs
 use Rattle.elab_rules.specs.Programs.{Source, start_behind, with_unit}
 use Rattle.elab_entry.specs.Bodies as entry
-use Rattle.elab_leaving.specs.LambdasWhole as code_lambdas
-use Rattle.elab_leaving.specs.MembersOutside as code_members
-use Rattle.elab_leaving.specs.MembersWhole as code_classes
+use Rattle.elab_lambdas.specs.Whole as code_lambdas
+use Rattle.elab_members.specs.Outside as code_members
+use Rattle.elab_members.specs.Whole as code_classes
 use Rattle.elab_implicit.specs.Implied as code_implied
-use Rattle.elab_leaving.specs.TableWritten.{ClassRead, class_read}
-use Rattle.elab_leaving.specs.MembersInitialisers.{all_defaults}
+use Rattle.class_table.specs.Written.{ClassRead, class_read}
+use Rattle.elab_members.specs.Initialisers.{all_defaults}
 use Rattle.elab_leaving.specs.Declaring as code
 use Rattle.elab_leaving.specs.Declaring.{is_untold, are_untold, c_checked, c_words}
 use Rattle.elab_leaving.specs.Untold.{is_refused, if_refused}
 use Rattle.elab_leaving.specs.Programs as code_programs
-use Rattle.elab_leaving.specs.Kept.{On, Lawful}
+use Rattle.elab_leaving.specs.Kept.{On}
 use Rattle.elab_leaving.proofs.Keeping.{bind, skip}
-use Rattle.elab_leaving.proofs.Answers.{same_after, same_behind, nest}
+use Rattle.elab_leaving.proofs.Answers.{same_after, same_behind}
 use Rattle.elab_leaving.proofs.Leaving.{function_same}
 use Rattle.elab_leaving.proofs.Lambdas.{lambdas_same, lambdas_lawful}
 use Rattle.elab_leaving.proofs.Defaults.{Settled}

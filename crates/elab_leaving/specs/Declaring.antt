@@ -21,9 +21,9 @@ use Rattle.elab_rules.specs.Members.{declared_only}
 use Rattle.elab_rules.specs.Globals.{enum_declared}
 use Rattle.elab_rules.specs.Units.{header_of, declared_of_type, file_declarators, file_declaration, definition_text, closing_offset, is_qualified, alias_of, is_c}
 use Rattle.elab_entry.specs.Bodies.{function_body}
-use Rattle.elab_leaving.specs.LambdasWhole.{lambdas_of}
-use Rattle.elab_leaving.specs.MembersOutside.{member_defined}
-use Rattle.elab_leaving.specs.MembersWhole.{class_initialised, class_defined}
+use Rattle.elab_lambdas.specs.Whole.{lambdas_of}
+use Rattle.elab_members.specs.Outside.{member_defined}
+use Rattle.elab_members.specs.Whole.{class_initialised, class_defined}
 use Rattle.elab_leaving.specs.Untold.{is_refused, if_refused}
 
 -- Parts of the rules that these write in line

@@ -1,10 +1,4 @@
 pub mod Declaring
 pub mod Kept
-pub mod LambdasWhole
-pub mod MembersBodies
-pub mod MembersInitialisers
-pub mod MembersOutside
-pub mod MembersWhole
 pub mod Programs
-pub mod TableWritten
 pub mod Untold

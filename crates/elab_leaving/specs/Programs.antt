@@ -1,15 +1,14 @@
 -- The typed program of some units as the code makes it, and what `elaborate` says of it. Declarations are those of `Declaring`; the rest is `Programs` of elab_rules.
-use Rattle.std.specs.Prelude.{◌≡◌, ℕ, suc, Bool, false, List, [], ◌∷◌, length, map, Result, Ok, Err}
+use Rattle.std.specs.Prelude.{ℕ, suc, Bool, false, List, [], ◌∷◌, Result, Ok}
 use Rattle.elab_rules.specs.cpp_lex.Tokens.{Lexeme}
 use Rattle.elab_rules.specs.cpp_ast.Trees as syntax
-use Rattle.elab_rules.specs.cpp_types.Class.{classes_of}
 use Rattle.elab_rules.specs.cpp_tree.declared.faults.ElabFault.{ElabFault}
 use Rattle.elab_rules.specs.cpp_tree.Units.{TypedProgram}
 use Rattle.elab_rules.specs.elab_ctx.Ctx.{Traits}
 use Rattle.elab_rules.specs.elab_ctx.Steps.{and_then}
 use Rattle.elab_rules.specs.Functions.{no_storage}
 use Rattle.elab_rules.specs.Statements.{State}
-use Rattle.elab_rules.specs.Programs.{Source, start_behind, with_unit, unit_shown}
+use Rattle.elab_rules.specs.Programs.{Source, start_behind, with_unit}
 use Rattle.elab_implicit.specs.Implied.{with_implied}
 use Rattle.elab_leaving.specs.Declaring.{declarations_of, are_untold}
 use Rattle.elab_leaving.specs.Untold.{if_refused}

@@ -1,5 +1,5 @@
 -- Answers whose fault may be left open: which fault is told of a class in which an initialiser of a member has one, is not said.
-use Rattle.std.specs.Prelude.{◌≡◌, Bool, true, false, Result, Ok, Err}
+use Rattle.std.specs.Prelude.{Bool, true, false, Result, Ok, Err}
 use Rattle.elab_rules.specs.cpp_tree.declared.faults.ElabFault.{ElabFault}
 
 abbrev pub is_refused : {A : Type 0} → Result A ElabFault → Bool
