@@ -2,3 +2,4 @@ pub mod Declaring
 pub mod Kept
 pub mod Programs
 pub mod Untold
+pub mod WellLater

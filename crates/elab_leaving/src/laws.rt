@@ -3,7 +3,9 @@ ghost use Rattle.std.specs.Prelude.{◌≡◌, ℕ, List, [], Option, Err, Ok, f
 ghost use Rattle.elab_rules.specs.cpp_ast.Trees as syntax;
 ghost use Rattle.elab_rules.specs.cpp_lex.Tokens.{Lexeme};
 ghost use Rattle.elab_rules.specs.cpp_tree.Units.{TypedProgram};
+ghost use Rattle.elab_rules.specs.cpp_tree.declared.faults.ElabFault.TheVariants.{Ill};
 ghost use Rattle.elab_rules.specs.cpp_tree.declared.faults.ElabFault.{ElabFault};
+ghost use Rattle.elab_rules.specs.cpp_tree.declared.faults.IllRule.TheVariants.{NoDefault};
 ghost use Rattle.elab_rules.specs.cpp_tree.declared.program.FuncKind.{FuncKind};
 ghost use Rattle.elab_rules.specs.cpp_types.Typ.{Typ};
 ghost use Rattle.elab_rules.specs.cpp_types.declared.classes.At.{At};
@@ -27,6 +29,8 @@ ghost use Rattle.elab_leaving.specs.Declaring.{are_untold};
 ghost use Rattle.elab_leaving.specs.Kept.{Begins, Inside, Lawful, Leaves, On};
 ghost use Rattle.elab_leaving.specs.Programs as made_programs;
 ghost use Rattle.elab_leaving.specs.Programs.{is_fault_untold};
+ghost use Rattle.elab_leaving.specs.WellLater as well_later;
+ghost use Rattle.elab_leaving.specs.Untold.{is_refused};
 
 /// Statements leave types, initialisers, enumerators and the scopes round the innermost as they are, and add to the rest
 /// at the end, where whatever makes their lambdas does.
@@ -79,4 +83,10 @@ pub fn units()
 pub fn programs()
     ensures told { (xs : List Source) → is_fault_untold xs ≡ false → made_programs.program_of xs ≡ rules_programs.program_of xs }
     ensures accepted { (xs : List Source) (p : TypedProgram) → made_programs.program_of xs ≡ Ok p → rules_programs.program_of xs ≡ Ok p }
+{}
+
+/// A unit that the definitions accept and the code refuses, since an initialiser of a member is well only by one behind it.
+pub fn definitions_differ()
+    ensures definitions { is_refused (rules_units.unit_of well_later.tokens 0 well_later.decls) ≡ false }
+    ensures code { made_programs.unit_from well_later.tokens (rules_units.start 0) well_later.decls ≡ Err (Ill (record { source = 0; offset = 32 }) NoDefault) }
 {}
