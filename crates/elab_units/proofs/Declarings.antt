@@ -31,9 +31,10 @@ use Rattle.elab_units.proofs.KidSteps.{trees_step, trees_past}
 use Rattle.elab_members.specs.Initialisers.{all_defaults}
 use Rattle.elab_members.specs.Whole.{class_initialised, class_defined, all_late, Defines}
 use Rattle.class_table.specs.Written.{ClassRead, class_read}
-use Rattle.elab_units.specs.Outcomes.{is_refused, if_refused, AnswersUnless}
+use Rattle.elab_leaving.specs.Untold.{is_refused, if_refused}
+use Rattle.elab_units.specs.Outcomes.{AnswersUnless}
 use Rattle.elab_units.proofs.Outcomes.{faults_on, faults_at, unless_done, unless_err, err_unless, unless_same}
-use Rattle.elab_units.specs.Declaring.{is_function_form, file_header, has_trees, only_declared, declarator_by, file_started, defined_with, defined_header, defined_steps, defined_typed, are_three, declaration_of, declarations_of, is_untold, are_untold}
+use Rattle.elab_leaving.specs.Declaring.{is_function_form, file_header, has_trees, only_declared, declarator_by, file_started, defined_with, defined_header, defined_steps, defined_typed, are_three, declaration_of, declarations_of, is_untold, are_untold}
 
 -- Trees, one behind the other
 

@@ -1,5 +1,5 @@
 -- Units, one behind the other.
-use Rattle.std.proofs.Common.{◌≡◌, ◌∙◌, ◌<◌, ◌≤◌, ◌+◌, ◌++◌, ℕ, zero, suc, Bool, false, List, [], ◌∷◌, Some, Result, Ok, Err, length, map, slice_get, ap, sym, subst, arith, refl, append_assoc, append-nil}
+use Rattle.std.proofs.Common.{◌≡◌, ◌∙◌, ◌<◌, ◌≤◌, ◌+◌, ◌++◌, ℕ, zero, suc, Bool, true, false, List, [], ◌∷◌, Some, Result, Ok, Err, length, map, slice_get, ap, sym, subst, arith, refl, append_assoc, append-nil}
 use Rattle.std.proofs.lemmas.List.{length-append}
 use Rattle.cpp_ast.specs.declared.units.Unit.{Unit as UnitRecord}
 use Rattle.elab_entry.specs.cpp_lex.Tokens.{Lexeme}
@@ -21,15 +21,18 @@ use Rattle.elab_entry.specs.elab_scopes.declared.state.State.{State as StateRec}
 use Rattle.elab_entry.specs.elab_scopes.States.{state_of}
 use Rattle.elab_entry.specs.elab_types.Syntax.{trees_at}
 use Rattle.elab_implicit.specs.Implied.{with_implied}
+use Rattle.elab_leaving.proofs.Units.{whole_same, accepted_same}
 use Rattle.elab_units.specs.declared.known.Classes.{Classes}
 use Rattle.elab_units.specs.declared.programs.Behind.{Behind}
 use Rattle.elab_units.specs.declared.shown.Made.{Made}
 use Rattle.elab_units.specs.Begun.{program_with, traits_known, begun_behind}
-use Rattle.elab_units.specs.Declaring.{declarations_of, are_untold}
+use Rattle.elab_leaving.specs.Declaring.{declarations_of, are_untold}
 use Rattle.elab_units.specs.Made.{state_with}
-use Rattle.elab_units.specs.Outcomes.{if_refused, FaultsUnless, AnswersUnless, UnlessMemory}
+use Rattle.elab_leaving.specs.Untold.{if_refused}
+use Rattle.elab_units.specs.Outcomes.{FaultsUnless, AnswersUnless, UnlessMemory}
 use Rattle.elab_units.specs.Sources.{IsSource, AreFirst}
-use Rattle.elab_units.specs.Programs.{unit_from, program_from, no_units, program_of, untold_from, is_fault_untold, IsProgram, IsFault, Elaborates, IsKept, IsUnit, IsFaulty, Keeps}
+use Rattle.elab_leaving.specs.Programs.{unit_from, program_from, no_units, program_of, untold_from, is_fault_untold}
+use Rattle.elab_units.specs.Programs.{IsProgram, IsFaultOf, IsFault, Elaborates, IsKept, IsUnit, IsFaulty, Keeps}
 use Rattle.elab_units.proofs.Outcomes.{faults_on, faults_before, faults_like, unless_err, unless_memory, unless_so}
 use Rattle.elab_units.proofs.Declarings.{all_told}
 use Rattle.elab_units.proofs.Joins.{map_more}
@@ -123,6 +126,11 @@ one_more us i j n before all k u b h at e f m w =
           ∙ ap (λ (z : List Traits). untold_from n (program_with (map unit_of all) b.known) z rest) (sym m.kept.traits);
     }
 
+-- as elab_rules says it
+fault_is : (u : Bool) (e : ElabFault) (xs : List Source) → is_fault_untold xs ≡ u → FaultsUnless u e (program_of xs) → IsFaultOf u e xs
+fault_is false e xs h f = subst (Faults e) (whole_same xs h) f
+fault_is true e xs h f = f
+
 pub one_faulty : (us : List UnitRecord) (i j : ℕ) (before : List UnitTree) (k : Classes) (u : UnitRecord) (e : ElabFault) → SoFar us i before k → slice_get us i ≡ Some u → j ≡ i → IsFaulty u j k e → IsFault us e
 one_faulty us i j before k u e h at same m =
     let x = m.source in
@@ -130,12 +138,10 @@ one_faulty us i j before k u e h at same m =
     let start = start_behind i p (traits_known k) in
     let there : slice_get us (length h.sources) ≡ Some u = ap (slice_get us) h.count ∙ at in
     let faulty : FaultsUnless (are_untold x.tokens no_storage start x.decls) e (unit_from x.tokens start x.decls) = subst (λ (z : ℕ). FaultsUnless (are_untold x.tokens no_storage (begun_behind z k) x.decls) e (unit_from x.tokens (begun_behind z k) x.decls)) same m.is in
-    record {
-      sources = h.sources ++ x ∷ [];
-      are = first_more us h.sources u x h.are there m.shows;
-      is = faults_like (is_fault_untold (h.sources ++ x ∷ [])) (untold_from i p (traits_known k) (x ∷ [])) e (program_of (h.sources ++ x ∷ [])) (program_from i p (traits_known k) (x ∷ [])) (h.untold (x ∷ [])) (h.program (x ∷ []))
-          (faults_on (are_untold x.tokens no_storage start x.decls) e (unit_from x.tokens start x.decls) (λ (y : State). untold_from (suc i) (with_unit p x y) y.ctx.traits []) (λ (y : State). program_from (suc i) (with_unit p x y) y.ctx.traits []) faulty);
-    }
+    let all = h.sources ++ x ∷ [] in
+    let is : FaultsUnless (is_fault_untold all) e (program_of all) = faults_like (is_fault_untold all) (untold_from i p (traits_known k) (x ∷ [])) e (program_of all) (program_from i p (traits_known k) (x ∷ [])) (h.untold (x ∷ [])) (h.program (x ∷ []))
+        (faults_on (are_untold x.tokens no_storage start x.decls) e (unit_from x.tokens start x.decls) (λ (y : State). untold_from (suc i) (with_unit p x y) y.ctx.traits []) (λ (y : State). program_from (suc i) (with_unit p x y) y.ctx.traits []) faulty) in
+    record { sources = all; are = first_more us h.sources u x h.are there m.shows; is = fault_is (is_fault_untold all) e all refl is }
 
 pub refused_at : (us : List UnitRecord) (i j : ℕ) (before : List UnitTree) (k : Classes) (u : UnitRecord) (r : Result Program ElabFault) (e : ElabFault) → r ≡ Err e → SoFar us i before k → slice_get us i ≡ Some u → j ≡ i → UnlessMemory e (IsFaulty u j k e) → Elaborates us r
 refused_at us i j before k u r e w h at same m = subst (λ (z : Result Program ElabFault). Elaborates us z) (sym w) (unless_so e (IsFaulty u j k e) (IsFault us e) (one_faulty us i j before k u e h at same) m)
@@ -147,5 +153,5 @@ all_units us i trees k l h =
       sources = h.sources;
       all = (let count = h.count in omega (arith, l, within, count));
       are = h.are;
-      is = ap program_of (sym (append-nil h.sources)) ∙ h.program [];
+      is = accepted_same h.sources (program_with (map unit_of trees) k) (ap program_of (sym (append-nil h.sources)) ∙ h.program []);
     }

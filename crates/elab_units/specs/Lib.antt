@@ -1,6 +1,6 @@
 pub mod Begun
-pub mod Declaring
 pub mod Joined
+pub mod Linkage
 pub mod Made
 pub mod Outcomes
 pub mod Programs

@@ -5,15 +5,7 @@ use Rattle.elab_entry.specs.cpp_tree.declared.faults.ElabFault.TheVariants.{Ill,
 use Rattle.elab_entry.specs.elab_ctx.Says.{Faults}
 use Rattle.elab_entry.specs.elab_rules.Statements.{State}
 use Rattle.class_members.specs.Shown.{Answers}
-
-abbrev pub is_refused : {A : Type 0} → Result A ElabFault → Bool
-is_refused (Ok a) = false
-is_refused (Err e) = true
-
--- what holds where a step is refused, or else of what follows it
-abbrev pub if_refused : {A : Type 0} → Result A ElabFault → Bool → (A → Bool) → Bool
-if_refused (Ok a) b f = f a
-if_refused (Err e) b f = b
+use Rattle.elab_leaving.specs.Untold.{is_refused}
 
 -- a fault is to be answered; want of memory says nothing
 abbrev pub FaultsSome : {A : Type 0} → ElabFault → Result A ElabFault → Type 0

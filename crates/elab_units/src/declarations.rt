@@ -25,7 +25,8 @@ ghost use Rattle.elab_entry.specs.elab_types.Shown.{Says, declared_of};
 ghost use Rattle.elab_entry.specs.elab_types.Syntax.{syntax_of, tree_at, trees_at};
 ghost use Rattle.class_members.specs.Shown.{Answers, header_of as header_shown, storage_of};
 ghost use Rattle.elab_units.specs.Outcomes.{AnswersUnless};
-ghost use Rattle.elab_units.specs.Declaring.{is_function_form, file_header, has_trees, declarator_by, file_typed, c_words as c_words_of, c_checked, declaration_of as declaration_of_of, declarations_of as declarations_of_of, linkage_declared, is_untold, are_untold, linkage_untold};
+ghost use Rattle.elab_leaving.specs.Declaring.{is_function_form, file_header, has_trees, declarator_by, file_typed, c_words as c_words_of, c_checked, declaration_of as declaration_of_of, declarations_of as declarations_of_of, is_untold, are_untold};
+ghost use Rattle.elab_units.specs.Linkage.{linkage_declared, linkage_untold};
 
 use crate::definitions::function_defined;
 use crate::lambdas::UnitLambdas;

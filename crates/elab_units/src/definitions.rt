@@ -11,7 +11,7 @@ ghost use Rattle.elab_entry.specs.elab_scopes.States.{state_of};
 ghost use Rattle.elab_entry.specs.elab_types.Shown.{declared_of};
 ghost use Rattle.elab_entry.specs.elab_types.Syntax.{syntax_of, tree_at, trees_at};
 ghost use Rattle.class_members.specs.Shown.{Answers, header_of as header_shown, storage_of};
-ghost use Rattle.elab_units.specs.Declaring.{are_three, defined_header as defined_header_of, defined_with as defined_with_of, defined_typed, function_defined as function_defined_of};
+ghost use Rattle.elab_leaving.specs.Declaring.{are_three, defined_header as defined_header_of, defined_with as defined_with_of, defined_typed, function_defined as function_defined_of};
 
 use crate::declarations::{header_of, is_function};
 use crate::lambdas::UnitLambdas;

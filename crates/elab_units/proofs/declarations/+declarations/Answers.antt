@@ -10,8 +10,10 @@ use Rattle.elab_entry.specs.elab_ctx.Steps.{at_of, spelling}
 use Rattle.elab_entry.specs.elab_rules.Functions.{Storage}
 use Rattle.elab_lambdas.specs.Whole.{lambdas_of}
 use Rattle.elab_members.specs.Whole.{class_initialised, class_defined}
-use Rattle.elab_units.specs.Outcomes.{is_refused, AnswersUnless}
-use Rattle.elab_units.specs.Declaring.{c_words, c_checked, is_untold, are_untold, declaration_of, declarations_of, linkage_declared, linkage_untold}
+use Rattle.elab_leaving.specs.Untold.{is_refused}
+use Rattle.elab_units.specs.Outcomes.{AnswersUnless}
+use Rattle.elab_leaving.specs.Declaring.{c_words, c_checked, is_untold, are_untold, declaration_of, declarations_of}
+use Rattle.elab_units.specs.Linkage.{linkage_declared, linkage_untold}
 use Rattle.elab_units.proofs.Outcomes.{unless_ok, unless_same}
 use Rattle.elab_units.proofs.Declarings.{class_answers, class_refused_too, linkage_fails, linkage_goes, declared_none, declared_more, declared_fails, declared_last}
 use Rattle.elab_units.proofs.declarations.+declarations.Goals as goal

@@ -7,7 +7,7 @@ use Rattle.elab_entry.specs.elab_scopes.States.{state_of}
 use Rattle.elab_entry.specs.elab_types.Syntax.{syntax_of, tree_at, trees_at}
 use Rattle.class_members.specs.Shown.{storage_of}
 use Rattle.elab_units.specs.Outcomes.{AnswersUnless}
-use Rattle.elab_units.specs.Declaring.{is_untold, declaration_of}
+use Rattle.elab_leaving.specs.Declaring.{is_untold, declaration_of}
 use Rattle.elab_units.proofs.Outcomes.{unless_ok}
 use Rattle.elab_units.proofs.Declarings.{declared_none, declared_more, declared_fails, declared_last}
 use Rattle.elab_units.proofs.declarations.all_declared.Goals as goal

@@ -16,7 +16,7 @@ use Rattle.elab_entry.specs.elab_types.Syntax.{syntax_of, tree_at, trees_at}
 use Rattle.class_members.specs.Shown.{storage_of}
 use Rattle.elab_decls.proofs.Steps.{answers_same, answers_refused, faults_same, faults_then}
 use Rattle.elab_units.proofs.Declarings.{fault_by}
-use Rattle.elab_units.specs.Declaring.{declarator_by}
+use Rattle.elab_leaving.specs.Declaring.{declarator_by}
 use Rattle.elab_units.proofs.declarations.declarator_declared.Goals as goal
 
 pub returns-in_err-found : goal.returns-in_err-found

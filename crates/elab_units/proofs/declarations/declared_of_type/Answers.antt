@@ -11,7 +11,7 @@ use Rattle.elab_entry.specs.elab_types.Shown.{declared_of}
 use Rattle.elab_entry.specs.elab_types.Syntax.{syntax_of, trees_at}
 use Rattle.class_members.specs.Shown.{header_of, storage_of}
 use Rattle.elab_decls.proofs.Steps.{answers_same, answers_refused, faults_same, faults_then, faults_after}
-use Rattle.elab_units.specs.Declaring.{only_declared}
+use Rattle.elab_leaving.specs.Declaring.{only_declared}
 use Rattle.elab_units.proofs.Declarings.{fault_by, variable_chosen, function_initialised, function_only}
 use Rattle.elab_units.proofs.declarations.declared_of_type.Goals as goal
 

@@ -6,7 +6,7 @@ use Rattle.elab_entry.specs.elab_scopes.States.{state_of}
 use Rattle.elab_entry.specs.elab_types.Syntax.{syntax_of, tree_at, trees_at}
 use Rattle.class_members.specs.Shown.{storage_of}
 use Rattle.elab_decls.proofs.Steps.{answers_same}
-use Rattle.elab_units.specs.Declaring.{file_typed, file_started}
+use Rattle.elab_leaving.specs.Declaring.{file_typed, file_started}
 use Rattle.elab_units.proofs.Declarings.{started_is, fault_by}
 use Rattle.elab_units.proofs.declarations.file_declaration.Goals as goal
 

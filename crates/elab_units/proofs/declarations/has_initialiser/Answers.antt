@@ -1,7 +1,7 @@
 use Rattle.std.proofs.Common.{List, ap, sym}
 use Rattle.elab_entry.specs.cpp_ast.declared.arena.NodeId.{NodeId}
 use Rattle.elab_entry.specs.elab_types.Syntax.{trees_at}
-use Rattle.elab_units.specs.Declaring.{has_trees}
+use Rattle.elab_leaving.specs.Declaring.{has_trees}
 use Rattle.elab_units.proofs.declarations.has_initialiser.Goals as goal
 
 pub returns-in-Some : goal.returns-in-Some

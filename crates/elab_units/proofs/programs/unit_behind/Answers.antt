@@ -5,9 +5,9 @@ use Rattle.elab_entry.specs.elab_rules.Functions.{no_storage}
 use Rattle.elab_entry.specs.elab_scopes.States.{state_of}
 use Rattle.elab_entry.specs.elab_types.Syntax.{syntax_of, trees_at}
 use Rattle.elab_units.specs.Begun.{begun_behind}
-use Rattle.elab_units.specs.Declaring.{declarations_of, are_untold}
+use Rattle.elab_leaving.specs.Declaring.{declarations_of, are_untold}
 use Rattle.elab_units.specs.Outcomes.{FaultsUnless}
-use Rattle.elab_units.specs.Programs.{unit_from}
+use Rattle.elab_leaving.specs.Programs.{unit_from}
 use Rattle.elab_units.specs.Sources.{source_in}
 use Rattle.elab_units.proofs.Outcomes.{unless_ok}
 use Rattle.elab_units.proofs.Elaborating.{unit_done, unit_undeclared, unit_unimplied, keeps_fault}

@@ -1,30 +1,30 @@
 -- The declarations of a unit in the order of the text, as the code makes them: bodies and lambdas with what stands round a function put back as elab_entry does it.
 use Rattle.std.specs.Prelude.{ℕ, Bool, true, false, Some, None, List, Result, Ok, Err}
-use Rattle.elab_entry.specs.cpp_types.Typ.{Typ, Form, func}
-use Rattle.elab_entry.specs.cpp_types.declared.classes.At.{At}
-use Rattle.elab_entry.specs.cpp_lex.Tokens.{Lexeme}
-use Rattle.elab_entry.specs.cpp_ast.declared.kinds.NodeKind.TheVariants as k
-use Rattle.elab_entry.specs.cpp_ast.Trees as syntax
-use Rattle.elab_entry.specs.cpp_tree.declared.program.FuncKind.TheVariants.{Plain, Constructor, Destructor}
-use Rattle.elab_entry.specs.cpp_tree.declared.faults.ElabFault.{ElabFault}
-use Rattle.elab_entry.specs.cpp_tree.declared.faults.ElabFault.TheVariants.{Ill}
-use Rattle.elab_entry.specs.cpp_tree.declared.faults.IllRule.TheVariants.{BadDeclaration, OutOfProfile}
-use Rattle.elab_entry.specs.cpp_tree.Typing.{form_in}
-use Rattle.elab_entry.specs.elab_ctx.Steps.{and_then, check, at_of, spelling}
-use Rattle.elab_entry.specs.elab_rules.Types.{Declared}
-use Rattle.elab_entry.specs.elab_rules.Strings.{string_bytes}
-use Rattle.elab_entry.specs.elab_rules.Expressions.{type_of_specifiers, declared_by}
-use Rattle.elab_entry.specs.elab_rules.Statements.{State, is_own_name}
-use Rattle.elab_entry.specs.elab_rules.Functions.{Storage, Header, Placed, function_declared, with_definition, text_sized}
-use Rattle.elab_entry.specs.elab_rules.Classes.{Started, started_from}
-use Rattle.elab_entry.specs.elab_rules.Members.{declared_only}
-use Rattle.elab_entry.specs.elab_rules.Globals.{enum_declared}
-use Rattle.elab_entry.specs.elab_rules.Units.{header_of, declared_of_type, file_declarators, file_declaration, definition_text, closing_offset, is_qualified, alias_of, is_c}
+use Rattle.elab_rules.specs.cpp_types.Typ.{Typ, Form, func}
+use Rattle.elab_rules.specs.cpp_types.declared.classes.At.{At}
+use Rattle.elab_rules.specs.cpp_lex.Tokens.{Lexeme}
+use Rattle.elab_rules.specs.cpp_ast.declared.kinds.NodeKind.TheVariants as k
+use Rattle.elab_rules.specs.cpp_ast.Trees as syntax
+use Rattle.elab_rules.specs.cpp_tree.declared.program.FuncKind.TheVariants.{Plain, Constructor, Destructor}
+use Rattle.elab_rules.specs.cpp_tree.declared.faults.ElabFault.{ElabFault}
+use Rattle.elab_rules.specs.cpp_tree.declared.faults.ElabFault.TheVariants.{Ill}
+use Rattle.elab_rules.specs.cpp_tree.declared.faults.IllRule.TheVariants.{BadDeclaration, OutOfProfile}
+use Rattle.elab_rules.specs.cpp_tree.Typing.{form_in}
+use Rattle.elab_rules.specs.elab_ctx.Steps.{and_then, check, at_of, spelling}
+use Rattle.elab_rules.specs.Types.{Declared}
+use Rattle.elab_rules.specs.Strings.{string_bytes}
+use Rattle.elab_rules.specs.Expressions.{type_of_specifiers, declared_by}
+use Rattle.elab_rules.specs.Statements.{State, is_own_name}
+use Rattle.elab_rules.specs.Functions.{Storage, Header, Placed, function_declared, with_definition, text_sized}
+use Rattle.elab_rules.specs.Classes.{Started, started_from}
+use Rattle.elab_rules.specs.Members.{declared_only}
+use Rattle.elab_rules.specs.Globals.{enum_declared}
+use Rattle.elab_rules.specs.Units.{header_of, declared_of_type, file_declarators, file_declaration, definition_text, closing_offset, is_qualified, alias_of, is_c}
 use Rattle.elab_entry.specs.Bodies.{function_body}
 use Rattle.elab_lambdas.specs.Whole.{lambdas_of}
 use Rattle.elab_members.specs.Outside.{member_defined}
 use Rattle.elab_members.specs.Whole.{class_initialised, class_defined}
-use Rattle.elab_units.specs.Outcomes.{is_refused, if_refused}
+use Rattle.elab_leaving.specs.Untold.{is_refused, if_refused}
 
 -- Parts of the rules that these write in line
 
@@ -138,11 +138,3 @@ abbrev mutual
   pub are_untold : List Lexeme → Storage → State → syntax.Trees → Bool
   are_untold s x st syntax.none = false
   are_untold s x st (syntax.more t ts) = if_refused (declaration_of s x st t) (is_untold s x st t) (λ (y : State). are_untold s x y ts)
-
--- declarations behind `extern "C"`, which stand in braces or not
-
-abbrev pub linkage_declared : List Lexeme → Storage → State → At → ℕ → syntax.Trees → Bool → Result State ElabFault
-linkage_declared s x st at t kids is_block = and_then (c_checked s at t) (λ y. declarations_of s (c_words x is_block) st kids)
-
-abbrev pub linkage_untold : List Lexeme → Storage → State → At → ℕ → syntax.Trees → Bool → Bool
-linkage_untold s x st at t kids is_block = if_refused (c_checked s at t) false (λ y. are_untold s (c_words x is_block) st kids)
