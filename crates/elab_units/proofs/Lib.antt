@@ -1,4 +1,7 @@
 pub mod Bodied
+pub mod Declarings
+pub mod Elaborating
 pub mod Joins
 pub mod KidSteps
+pub mod Outcomes
 pub mod Reading

@@ -1,4 +1,8 @@
 pub mod Begun
 pub mod Joined
+pub mod Linkage
 pub mod Made
+pub mod Outcomes
+pub mod Programs
 pub mod Readable
+pub mod Sources

@@ -1,18 +1,38 @@
 // Declarations at file scope in the order of the text (C++14 3.5, clause 7).
 
-ghost use Rattle.std.specs.Prelude.{◌≡◌, ◌<◌, length, true};
+ghost use Rattle.std.specs.Prelude.{◌≡◌, ◌<◌, ℕ, List, length, true, false, Option, Some, None, Err};
 ghost use Rattle.elab_entry.specs.cpp_ast.Orders.{are_below};
-ghost use Rattle.elab_entry.specs.cpp_ast.Trees.{node};
-ghost use Rattle.elab_entry.specs.cpp_types.Typ.{typ_of};
+ghost use Rattle.elab_entry.specs.cpp_ast.Trees.{Tree, node, Trees, more};
+ghost use Rattle.elab_entry.specs.cpp_ast.declared.arena.At.{At as SyntaxAt};
+ghost use Rattle.elab_entry.specs.cpp_ast.declared.kinds.NodeKind.TheVariants as kinds;
+ghost use Rattle.elab_entry.specs.cpp_lex.Tokens.{Lexeme, lexemes_of};
+ghost use Rattle.elab_entry.specs.cpp_types.Typ.{Typ, typ_of};
+ghost use Rattle.elab_entry.specs.cpp_tree.declared.faults.IllRule.TheVariants.{OutOfProfile};
+ghost use Rattle.elab_entry.specs.cpp_tree.declared.faults.ElabFault.TheVariants.{Ill};
+ghost use Rattle.elab_entry.specs.cpp_types.declared.classes.At.{At as AtOf};
 ghost use Rattle.elab_entry.specs.cpp_tree.Typing.{form_in};
+ghost use Rattle.elab_entry.specs.elab_ctx.Ctx.{ctx_of, work_of};
+ghost use Rattle.elab_entry.specs.elab_ctx.Says.{Tells};
+ghost use Rattle.elab_entry.specs.elab_ctx.Steps.{at_of};
+ghost use Rattle.elab_entry.specs.elab_rules.Expressions.{type_id_of};
+ghost use Rattle.elab_entry.specs.elab_rules.Functions.{Storage as StorageOf, no_storage as no_storage_of};
+ghost use Rattle.elab_entry.specs.elab_rules.Globals.{global_declared as global_declared_of};
+ghost use Rattle.elab_entry.specs.elab_rules.Members.{declared_only};
+ghost use Rattle.elab_entry.specs.elab_rules.Statements.{State as StateOf, is_own_name as is_own_name_of, name_of as name_of_of, bound_by_initialiser as bound_by_initialiser_of};
+ghost use Rattle.elab_entry.specs.elab_rules.Units.{declared_of_type as declared_of_type_of, file_declarator as file_declarator_of, file_declarators as file_declarators_of, file_declaration as file_declaration_of, alias_of as alias_of_of, is_c as is_c_of};
+ghost use Rattle.elab_entry.specs.elab_scopes.States.{state_of};
+ghost use Rattle.elab_entry.specs.elab_types.Shown.{Says, declared_of};
 ghost use Rattle.elab_entry.specs.elab_types.Syntax.{syntax_of, tree_at, trees_at};
-ghost use Rattle.class_table.specs.Written.{is_function_form};
+ghost use Rattle.class_members.specs.Shown.{Answers, header_of as header_shown, storage_of};
+ghost use Rattle.elab_units.specs.Outcomes.{AnswersUnless};
+ghost use Rattle.elab_leaving.specs.Declaring.{is_function_form, file_header, has_trees, declarator_by, file_typed, c_words as c_words_of, c_checked, declaration_of as declaration_of_of, declarations_of as declarations_of_of, is_untold, are_untold};
+ghost use Rattle.elab_units.specs.Linkage.{linkage_declared, linkage_untold};
 
 use crate::definitions::function_defined;
 use crate::lambdas::UnitLambdas;
 use class_table::kids::{kid_at, rest_from};
 use class_table::started::{no_storage, started_from};
-use class_table::{header_in, name_of};
+use class_table::{class_declared, header_in, name_of};
 use elab_decls::{alias_declared, enum_declared, function_declared, global_declared};
 use elab_entry::below::{
     At, Declared, ElabFault, Env, FuncKind, Header, IllRule, Node, NodeId, NodeKind, Nodes, Shape,
@@ -20,7 +40,7 @@ use elab_entry::below::{
     elab_types_node_at as node_at, first_kid, ill, place, specified, spelling, string_bytes,
     type_id,
 };
-use elab_members::{class_declared, class_defined, member_defined};
+use elab_members::{class_defined, member_defined};
 use std::alloc::Global;
 
 /// The node with an id. Its kids stand in the list, and below it.
@@ -40,7 +60,9 @@ pub fn header_of(
     at: At,
     storage: Storage,
     declared: Declared,
-) -> Result<Header, ElabFault> {
+) -> Result<Header, ElabFault>
+    ensures { Says header_shown result (file_header (lexemes_of tokens.now) at (storage_of storage) (declared_of declared) (form_in (typ_of declared.ty))) }
+{
     let name = name_of(tokens, declared.name);
     // The class is none of a member.
     let header = header_in(alloc, 0, storage, FuncKind::Plain, at, name, declared)?;
@@ -80,6 +102,7 @@ fn variable_declared(
 ) -> Result<(), ElabFault>
     requires parent { parent.0 < length nodes.now }
     requires init { are_below parent.0 init.now ≡ true }
+    ensures { Answers (state_of st.new) result (global_declared_of (lexemes_of tokens.now) (state_of st.old) (storage_of storage) at (name_of_of (lexemes_of tokens.now) found.now.name) (bound_by_initialiser_of (lexemes_of tokens.now) (typ_of found.now.ty) (trees_at (syntax_of nodes.now) init.now)) (trees_at (syntax_of nodes.now) init.now)) }
 {
     let ty = bound_by_initialiser(alloc, tokens, nodes, parent, init, &found.ty)?;
     let name = name_of(tokens, found.name);
@@ -98,6 +121,15 @@ fn variable_declared(
     )
 }
 
+fn has_initialiser(init: &[NodeId]) -> bool
+    ensures { (trees : List Tree) → result ≡ has_trees (trees_at trees init.now) }
+{
+    match first_kid(init) {
+        Some(_) => true,
+        None => false,
+    }
+}
+
 // What a declarator declares: a function, or a variable with its initialiser.
 fn declared_of_type(
     alloc: Global,
@@ -112,11 +144,12 @@ fn declared_of_type(
 ) -> Result<(), ElabFault>
     requires parent { parent.0 < length nodes.now }
     requires init { are_below parent.0 init.now ≡ true }
+    ensures { Answers (state_of st.new) result (declared_of_type_of (lexemes_of tokens.now) (state_of st.old) (storage_of storage) at (declared_of found) (trees_at (syntax_of nodes.now) init.now) (form_in (typ_of found.ty))) }
 {
     if !is_function(&found.ty) {
         return variable_declared(alloc, tokens, nodes, st, storage, at, &found, parent, init);
     }
-    if !init.is_empty() {
+    if has_initialiser(init) {
         return Err(ill(at, IllRule::BadDeclaration));
     }
     let header = header_of(alloc, tokens, at, storage, found)?;
@@ -124,8 +157,48 @@ fn declared_of_type(
     Ok(())
 }
 
-fn is_own_name(declared: &Declared) -> bool {
+fn is_own_name(declared: &Declared) -> bool
+    ensures { result ≡ is_own_name_of (declared_of declared.now) }
+{
     declared.owner.is_none() && !declared.is_destructor
+}
+
+fn is_declarator(kind: NodeKind) -> bool
+    ensures yes { result ≡ true → kind ≡ kinds.InitDeclarator }
+    ensures no { (s : List Lexeme) (x : StorageOf) (t : Typ) (st : StateOf) (p : SyntaxAt) (token : Option ℕ) (kids : Trees) → result ≡ false → file_declarator_of s x t st (node kind p token kids) ≡ Err (Ill (at_of p) OutOfProfile) }
+{
+    match kind {
+        NodeKind::InitDeclarator => true,
+        _ => false,
+    }
+}
+
+// What a declarator with its initialiser declares.
+fn declarator_declared(
+    alloc: Global,
+    tokens: &Tokens,
+    nodes: &Nodes,
+    st: &mut State,
+    storage: Storage,
+    at: At,
+    ty: &Ty,
+    parent: NodeId,
+    kids: &[NodeId],
+) -> Result<(), ElabFault>
+    requires parent { parent.0 < length nodes.now }
+    requires lower { are_below parent.0 kids.now ≡ true }
+    requires within { are_below (length nodes.now) kids.now ≡ true }
+    ensures { Answers (state_of st.new) result (declarator_by (lexemes_of tokens.now) (storage_of storage) (typ_of ty.now) (state_of st.old) at (trees_at (syntax_of nodes.now) kids.now)) }
+{
+    let Some(first) = kid_at(kids, 0) else {
+        return Err(ill(at, IllRule::OutOfProfile));
+    };
+    let found = declared_by(alloc, &st.env, tokens, nodes, at, ty, first, &st.work)?;
+    if !is_own_name(&found) {
+        return Err(ill(at, IllRule::BadDeclaration));
+    }
+    let init = rest_from(kids, 1);
+    declared_of_type(alloc, tokens, nodes, st, storage, at, found, parent, init)
 }
 
 // A declarator of a declaration at file scope.
@@ -139,22 +212,14 @@ fn file_declarator(
     id: NodeId,
 ) -> Result<(), ElabFault>
     requires { id.0 < length nodes.now }
+    ensures { Answers (state_of st.new) result (file_declarator_of (lexemes_of tokens.now) (storage_of storage) (typ_of ty.now) (state_of st.old) (tree_at (syntax_of nodes.now) id)) }
 {
     let node = node_in(nodes, id);
     let at = place(node.at);
-    let kids = node.kids.as_slice();
-    if !matches!(node.kind, NodeKind::InitDeclarator) {
+    if !is_declarator(node.kind) {
         return Err(ill(at, IllRule::OutOfProfile));
     }
-    let Some(first) = kid_at(kids, 0) else {
-        return Err(ill(at, IllRule::OutOfProfile));
-    };
-    let found = declared_by(alloc, &st.env, tokens, nodes, at, ty, first, &st.work)?;
-    if !is_own_name(&found) {
-        return Err(ill(at, IllRule::BadDeclaration));
-    }
-    let init = rest_from(kids, 1);
-    declared_of_type(alloc, tokens, nodes, st, storage, at, found, id, init)
+    declarator_declared(alloc, tokens, nodes, st, storage, at, ty, id, &node.kids)
 }
 
 // The declarators of a declaration.
@@ -168,11 +233,45 @@ fn file_declarators(
     ids: &[NodeId],
 ) -> Result<(), ElabFault>
     requires { are_below (length nodes.now) ids.now ≡ true }
+    ensures { Answers (state_of st.new) result (file_declarators_of (lexemes_of tokens.now) (storage_of storage) (typ_of ty.now) (state_of st.old) (trees_at (syntax_of nodes.now) ids.now)) }
 {
     for id in ids {
         file_declarator(alloc, tokens, nodes, st, storage, ty, *id)?;
     }
     Ok(())
+}
+
+// Whether a node has the specifiers of a type.
+fn is_specifiers(kind: NodeKind) -> bool
+    ensures yes { result ≡ true → kind ≡ kinds.TypeSpecifierSeq }
+    ensures no { (s : List Lexeme) (st : StateOf) (x : StorageOf) (at : AtOf) (p : SyntaxAt) (token : Option ℕ) (kids rest : Trees) → result ≡ false → file_typed s st x at (more (node kind p token kids) rest) ≡ Err (Ill at OutOfProfile) }
+{
+    match kind {
+        NodeKind::TypeSpecifierSeq => true,
+        _ => false,
+    }
+}
+
+// The declarators of a declaration behind its type.
+fn declarators_typed(
+    alloc: Global,
+    tokens: &Tokens,
+    nodes: &Nodes,
+    st: &mut State,
+    storage: Storage,
+    at: At,
+    base: NodeId,
+    rest: &[NodeId],
+) -> Result<(), ElabFault>
+    requires base { base.0 < length nodes.now }
+    requires rest { are_below (length nodes.now) rest.now ≡ true }
+    ensures { Answers (state_of st.new) result (file_typed (lexemes_of tokens.now) (state_of st.old) (storage_of storage) at (more (tree_at (syntax_of nodes.now) base) (trees_at (syntax_of nodes.now) rest.now))) }
+{
+    if !is_specifiers(node_at(nodes, base).kind) {
+        return Err(ill(at, IllRule::OutOfProfile));
+    }
+    let ty = specified(alloc, &st.env, tokens, nodes, base, &st.work)?;
+    file_declarators(alloc, tokens, nodes, st, storage, &ty, rest)
 }
 
 // A declaration with its declarators.
@@ -186,17 +285,14 @@ fn file_declaration(
     kids: &[NodeId],
 ) -> Result<(), ElabFault>
     requires { are_below (length nodes.now) kids.now ≡ true }
+    ensures { Answers (state_of st.new) result (file_declaration_of (lexemes_of tokens.now) (state_of st.old) (storage_of storage) at (trees_at (syntax_of nodes.now) kids.now)) }
 {
     let started = started_from(tokens, nodes, storage, kids);
     let Some(base) = kid_at(kids, started.count) else {
         return Err(ill(at, IllRule::OutOfProfile));
     };
-    if !matches!(node_at(nodes, base).kind, NodeKind::TypeSpecifierSeq) {
-        return Err(ill(at, IllRule::OutOfProfile));
-    }
-    let ty = specified(alloc, &st.env, tokens, nodes, base, &st.work)?;
     let rest = rest_from(kids, started.count + 1);
-    file_declarators(alloc, tokens, nodes, st, started.storage, &ty, rest)
+    declarators_typed(alloc, tokens, nodes, st, started.storage, at, base, rest)
 }
 
 // The type that a type-id names.
@@ -209,6 +305,7 @@ fn type_written(
     work: &Work,
 ) -> Result<Ty, ElabFault>
     requires { id.0 < length nodes.now }
+    ensures { Says typ_of result (type_id_of (lexemes_of tokens.now) (ctx_of env.now) (work_of work.now) (tree_at (syntax_of nodes.now) id)) }
 {
     type_id(alloc, env, &env.closures, tokens, nodes, id, work)
 }
@@ -224,6 +321,7 @@ fn alias_of(
     kids: &[NodeId],
 ) -> Result<(), ElabFault>
     requires { are_below (length nodes.now) kids.now ≡ true }
+    ensures { Answers (state_of st.new) result (alias_of_of (lexemes_of tokens.now) (state_of st.old) at name.now (trees_at (syntax_of nodes.now) kids.now)) }
 {
     let Some(first) = first_kid(kids) else {
         return Err(ill(at, IllRule::OutOfProfile));
@@ -232,22 +330,42 @@ fn alias_of(
     alias_declared(alloc, &mut st.env, at, name, &ty)
 }
 
+fn is_word_c(bytes: &[u8]) -> bool
+    ensures { result ≡ is_c_of bytes.now }
+{
+    bytes == b"C".as_slice()
+}
+
 // Tests that the language behind `extern` is C.
-fn is_c(alloc: Global, tokens: &Tokens, at: At, token: u32) -> Result<bool, ElabFault> {
+fn is_c(alloc: Global, tokens: &Tokens, at: At, token: u32) -> Result<bool, ElabFault>
+    ensures { Tells result (c_checked (lexemes_of tokens.now) at token) }
+{
     let bytes = string_bytes(alloc, spelling(tokens, token))?;
-    if bytes.as_slice() != b"C".as_slice() {
+    if !is_word_c(&bytes) {
         return Err(ill(at, IllRule::OutOfProfile));
     }
     Ok(true)
 }
 
 // The words before the declarations behind `extern "C"`, which stand in braces or not.
-fn c_words(storage: Storage, is_block: bool) -> Storage {
+fn c_words(storage: Storage, is_block: bool) -> Storage
+    ensures { storage_of result ≡ c_words_of (storage_of storage) is_block }
+{
     Storage {
-        is_c: true,
+        is_static: storage.is_static,
         is_extern: storage.is_extern || !is_block,
-        ..storage
+        is_inline: storage.is_inline,
+        is_virtual: storage.is_virtual,
+        is_c: true,
     }
+}
+
+// A class that is only declared.
+fn class_begun(alloc: Global, st: &mut State, at: At, name: &[u8]) -> Result<(), ElabFault>
+    ensures { Answers (state_of st.new) result (declared_only (state_of st.old) at name.now) }
+{
+    let _class = class_declared(alloc, &mut st.env, at, name)?;
+    Ok(())
 }
 
 // Declarations behind `extern "C"`.
@@ -259,19 +377,22 @@ fn linkage_of(
     st: &mut State,
     storage: Storage,
     id: NodeId,
+    at: At,
     token: u32,
+    kids: &[NodeId],
     is_block: bool,
 ) -> Result<(), ElabFault>
-    requires { id.0 < length nodes.now }
+    requires within { id.0 < length nodes.now }
+    requires lower { are_below id.0 kids.now ≡ true }
+    ensures { AnswersUnless (linkage_untold (lexemes_of tokens.now) (storage_of storage) (state_of st.old) at token (trees_at (syntax_of nodes.now) kids.now) is_block) (state_of st.new) result (linkage_declared (lexemes_of tokens.now) (storage_of storage) (state_of st.old) at token (trees_at (syntax_of nodes.now) kids.now) is_block) }
 {
-    let node = node_at(nodes, id);
-    is_c(alloc, tokens, place(node.at), token)?;
+    is_c(alloc, tokens, at, token)?;
     let words = c_words(storage, is_block);
-    let kids = node.kids.as_slice();
     declarations_of(alloc, tokens, nodes, st, words, id, kids)
 }
 
-// A declaration of a type, or a class: what has a name of its own.
+// A declaration whose node has a token.
+#[cycle(declarations)]
 fn named_declaration(
     alloc: Global,
     tokens: &Tokens,
@@ -279,16 +400,30 @@ fn named_declaration(
     st: &mut State,
     storage: Storage,
     id: NodeId,
+    kind: NodeKind,
+    at: At,
     token: u32,
+    kids: &[NodeId],
 ) -> Result<(), ElabFault>
-    requires { id.0 < length nodes.now }
+    requires within { id.0 < length nodes.now }
+    requires lower { are_below id.0 kids.now ≡ true }
+    requires all { are_below (length nodes.now) kids.now ≡ true }
+    ensures { (p : SyntaxAt) → at ≡ at_of p → AnswersUnless (is_untold (lexemes_of tokens.now) (storage_of storage) (state_of st.old) (node kind p (Some token) (trees_at (syntax_of nodes.now) kids.now))) (state_of st.new) result (declaration_of_of (lexemes_of tokens.now) (storage_of storage) (state_of st.old) (node kind p (Some token) (trees_at (syntax_of nodes.now) kids.now))) }
 {
-    let node = node_in(nodes, id);
-    let at = place(node.at);
-    let name = spelling(tokens, token);
-    let kids = node.kids.as_slice();
-    match node.kind {
-        NodeKind::AliasDeclaration => alias_of(alloc, tokens, nodes, st, at, name, kids),
+    match kind {
+        NodeKind::EmptyDeclaration => Ok(()),
+        NodeKind::SimpleDeclaration => {
+            file_declaration(alloc, tokens, nodes, st, storage, at, kids)
+        }
+        NodeKind::LinkageSpecification => linkage_of(
+            alloc, tokens, nodes, st, storage, id, at, token, kids, false,
+        ),
+        NodeKind::LinkageBlock => linkage_of(
+            alloc, tokens, nodes, st, storage, id, at, token, kids, true,
+        ),
+        NodeKind::AliasDeclaration => {
+            alias_of(alloc, tokens, nodes, st, at, spelling(tokens, token), kids)
+        }
         NodeKind::EnumSpecifier => enum_declared(
             alloc,
             &mut st.env,
@@ -298,50 +433,71 @@ fn named_declaration(
             id,
             kids,
             at,
-            name,
+            spelling(tokens, token),
         ),
-        NodeKind::ClassDeclaration => class_declared(alloc, st, at, name),
-        NodeKind::ClassSpecifier => {
-            class_defined(alloc, &UnitLambdas, tokens, nodes, st, at, name, kids)
+        NodeKind::ClassDeclaration => class_begun(alloc, st, at, spelling(tokens, token)),
+        NodeKind::ClassSpecifier => class_defined(
+            alloc,
+            &UnitLambdas,
+            tokens,
+            nodes,
+            st,
+            at,
+            spelling(tokens, token),
+            kids,
+        ),
+        NodeKind::FunctionDefinition => {
+            function_defined(alloc, tokens, nodes, st, storage, at, token, kids)
         }
-        _ => defined_declaration(alloc, tokens, nodes, st, storage, node, token),
+        NodeKind::ConstructorDefinition => member_defined(
+            alloc,
+            &UnitLambdas,
+            tokens,
+            nodes,
+            st,
+            storage,
+            at,
+            FuncKind::Constructor,
+            token,
+            kids,
+        ),
+        NodeKind::DestructorDefinition => member_defined(
+            alloc,
+            &UnitLambdas,
+            tokens,
+            nodes,
+            st,
+            storage,
+            at,
+            FuncKind::Destructor,
+            token,
+            kids,
+        ),
+        _ => Err(ill(at, IllRule::OutOfProfile)),
     }
 }
 
-// A function with its body.
-fn defined_declaration(
+// A declaration whose node has none.
+fn unnamed_declaration(
     alloc: Global,
     tokens: &Tokens,
     nodes: &Nodes,
     st: &mut State,
     storage: Storage,
-    node: &Node,
-    first: u32,
+    kind: NodeKind,
+    at: At,
+    kids: &[NodeId],
 ) -> Result<(), ElabFault>
-    requires { are_below (length nodes.now) node.now.kids.items ≡ true }
+    requires { are_below (length nodes.now) kids.now ≡ true }
+    ensures { (p : SyntaxAt) → at ≡ at_of p → AnswersUnless (is_untold (lexemes_of tokens.now) (storage_of storage) (state_of st.old) (node kind p None (trees_at (syntax_of nodes.now) kids.now))) (state_of st.new) result (declaration_of_of (lexemes_of tokens.now) (storage_of storage) (state_of st.old) (node kind p None (trees_at (syntax_of nodes.now) kids.now))) }
 {
-    let at = place(node.at);
-    let kids = node.kids.as_slice();
-    let kind = match node.kind {
-        NodeKind::FunctionDefinition => {
-            return function_defined(alloc, tokens, nodes, st, storage, at, first, kids);
+    match kind {
+        NodeKind::EmptyDeclaration => Ok(()),
+        NodeKind::SimpleDeclaration => {
+            file_declaration(alloc, tokens, nodes, st, storage, at, kids)
         }
-        NodeKind::ConstructorDefinition => FuncKind::Constructor,
-        NodeKind::DestructorDefinition => FuncKind::Destructor,
-        _ => return Err(ill(at, IllRule::OutOfProfile)),
-    };
-    member_defined(
-        alloc,
-        &UnitLambdas,
-        tokens,
-        nodes,
-        st,
-        storage,
-        at,
-        kind,
-        first,
-        kids,
-    )
+        _ => Err(ill(at, IllRule::OutOfProfile)),
+    }
 }
 
 // A declaration.
@@ -355,23 +511,16 @@ fn declaration_of(
     id: NodeId,
 ) -> Result<(), ElabFault>
     requires { id.0 < length nodes.now }
+    ensures { AnswersUnless (is_untold (lexemes_of tokens.now) (storage_of storage) (state_of st.old) (tree_at (syntax_of nodes.now) id)) (state_of st.new) result (declaration_of_of (lexemes_of tokens.now) (storage_of storage) (state_of st.old) (tree_at (syntax_of nodes.now) id)) }
 {
     let node = node_in(nodes, id);
+    let kind = node.kind;
     let at = place(node.at);
-    let kids = node.kids.as_slice();
-    match (node.kind, node.token) {
-        (NodeKind::EmptyDeclaration, _) => Ok(()),
-        (NodeKind::SimpleDeclaration, _) => {
-            file_declaration(alloc, tokens, nodes, st, storage, at, kids)
-        }
-        (NodeKind::LinkageSpecification, Some(token)) => {
-            linkage_of(alloc, tokens, nodes, st, storage, id, token, false)
-        }
-        (NodeKind::LinkageBlock, Some(token)) => {
-            linkage_of(alloc, tokens, nodes, st, storage, id, token, true)
-        }
-        (_, Some(token)) => named_declaration(alloc, tokens, nodes, st, storage, id, token),
-        (_, None) => Err(ill(at, IllRule::OutOfProfile)),
+    match node.token {
+        Some(token) => named_declaration(
+            alloc, tokens, nodes, st, storage, id, kind, at, token, &node.kids,
+        ),
+        None => unnamed_declaration(alloc, tokens, nodes, st, storage, kind, at, &node.kids),
     }
 }
 
@@ -388,6 +537,7 @@ fn declarations_of(
 ) -> Result<(), ElabFault>
     requires within { parent.0 < length nodes.now }
     requires lower { are_below parent.0 ids.now ≡ true }
+    ensures { AnswersUnless (are_untold (lexemes_of tokens.now) (storage_of storage) (state_of st.old) (trees_at (syntax_of nodes.now) ids.now)) (state_of st.new) result (declarations_of_of (lexemes_of tokens.now) (storage_of storage) (state_of st.old) (trees_at (syntax_of nodes.now) ids.now)) }
 {
     for id in ids {
         declaration_of(alloc, tokens, nodes, st, storage, *id)?;
@@ -396,11 +546,15 @@ fn declarations_of(
 }
 
 // What was made for a declaration and is not kept.
-fn forget(st: &mut State) {
+fn forget(st: &mut State)
+    ensures { state_of st.new ≡ state_of st.old }
+{
     st.work.nodes.clear();
 }
 
 /// The declarations of a unit.
+///
+/// What is left open is which fault is told of a class in which an initialiser of a member has one.
 pub fn all_declared(
     alloc: Global,
     tokens: &Tokens,
@@ -409,6 +563,7 @@ pub fn all_declared(
     ids: &[NodeId],
 ) -> Result<(), ElabFault>
     requires { are_below (length nodes.now) ids.now ≡ true }
+    ensures { AnswersUnless (are_untold (lexemes_of tokens.now) no_storage_of (state_of st.old) (trees_at (syntax_of nodes.now) ids.now)) (state_of st.new) result (declarations_of_of (lexemes_of tokens.now) no_storage_of (state_of st.old) (trees_at (syntax_of nodes.now) ids.now)) }
 {
     for id in ids {
         declaration_of(alloc, tokens, nodes, st, no_storage(), *id)?;

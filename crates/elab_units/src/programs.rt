@@ -4,7 +4,10 @@
 ghost use Rattle.std.specs.Prelude.{◌≡◌, ◌++◌, ◌∷◌, [], length, true, IfOk, OnOk};
 ghost use Rattle.elab_entry.specs.cpp_ast.Orders.{are_below};
 ghost use Rattle.elab_entry.specs.cpp_types.Class.{InOrder, classes_of};
+ghost use Rattle.elab_entry.specs.elab_scopes.States.{state_of};
+ghost use Rattle.elab_units.specs.Programs.{IsKept, Keeps, Elaborates};
 ghost use Rattle.elab_units.specs.Readable.{IsReadable, AreReadable};
+ghost use Rattle.elab_units.specs.Sources.{source_in};
 
 use crate::beginning::{Classes, no_classes, start_behind};
 use crate::declarations::all_declared;
@@ -12,24 +15,20 @@ use crate::shown::{Made, unit_shown};
 use elab_entry::below::{ElabFault, Program, State, Unit, UnitTree};
 use elab_members::with_implied;
 use std::alloc::{AllocError, Global};
-use unit_syntax::whole_unit;
+use unit_syntax::{WholeUnit, whole_unit};
 
 /// A unit, and the classes of all units behind it.
 #[derive(Drop)]
-struct Behind {
-    unit: UnitTree,
-    known: Classes,
+pub struct Behind {
+    pub unit: UnitTree,
+    pub known: Classes,
 }
 
 // What is kept of a unit.
-fn unit_made(
-    alloc: Global,
-    unit: &Unit,
-    whole: &unit_syntax::WholeUnit,
-    st: State,
-) -> Result<Behind, ElabFault>
+fn unit_made(alloc: Global, unit: &Unit, whole: &WholeUnit, st: State) -> Result<Behind, AllocError>
     requires { are_below (length whole.now.nodes) whole.now.decls.items ≡ true }
-    ensures { IfOk result (λ b. IsReadable b.unit) }
+    ensures readable { IfOk result (λ b. IsReadable b.unit) }
+    ensures kept { IfOk result (λ b. IsKept (source_in unit.now whole.now) (state_of st) b) }
 {
     let env = st.env;
     let work = st.work;
@@ -57,13 +56,15 @@ fn unit_made(
 
 // A unit behind others: its declarations, and the bodies of the implicit members to which they refer.
 fn unit_behind(alloc: Global, source: u32, unit: &Unit, known: Classes) -> Result<Behind, ElabFault>
-    ensures { IfOk result (λ b. IsReadable b.unit) }
+    ensures readable { IfOk result (λ b. IsReadable b.unit) }
+    ensures keeps { Keeps unit.now source known result }
 {
     let whole = whole_unit(alloc, unit)?;
     let mut st = start_behind(alloc, source, known)?;
     all_declared(alloc, &unit.tokens, &whole.nodes, &mut st, &whole.decls)?;
     with_implied(alloc, &mut st)?;
-    unit_made(alloc, unit, &whole, st)
+    let behind = unit_made(alloc, unit, &whole, st)?;
+    Ok(behind)
 }
 
 fn keep_unit(units: &mut Vec<UnitTree>, unit: UnitTree) -> Result<(), AllocError>
@@ -81,6 +82,7 @@ fn keep_unit(units: &mut Vec<UnitTree>, unit: UnitTree) -> Result<(), AllocError
 /// memory is `Memory`. The classes are in order, so that their objects have sizes, and the check for safety can read each
 /// unit.
 pub fn elaborate(alloc: Global, units: &[Unit]) -> Result<Program, ElabFault>
+    ensures elaborates { Elaborates units.now result }
     ensures many { IfOk result (λ p. length p.units.items ≡ length units.now) }
     ensures readable { IfOk result (λ p. AreReadable p.units.items) }
     ensures in_order { IfOk result (λ p. InOrder (classes_of p.classes.items)) }

@@ -1,0 +1,14 @@
+pub mod Answers
+pub mod Classes
+pub mod Declared
+pub mod Defaults
+pub mod Growing
+pub mod Implied
+pub mod Keeping
+pub mod Lambdas
+pub mod Leaving
+pub mod Objects
+pub mod Outside
+pub mod Specifiers
+pub mod Statements
+pub mod Units

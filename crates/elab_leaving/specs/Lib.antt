@@ -1,0 +1,5 @@
+pub mod Declaring
+pub mod Kept
+pub mod Programs
+pub mod Untold
+pub mod WellLater

@@ -1,0 +1,274 @@
+-- Declarations as steps, and what is answered of them.
+use Rattle.std.proofs.Common.{◌≡◌, ◌∙◌, ◌<◌, ◌≤◌, ◌+◌, ℕ, Bool, true, false, List, length, drop, get_or, Option, Some, None, Result, Ok, Err, OnOk, IfErr, refl, sym, ap, subst}
+use Rattle.elab_entry.specs.cpp_types.Typ.{Typ, Form, void, int, enum, null, ptr, ref, array, func, class, closure, tx_ex}
+use Rattle.elab_entry.specs.cpp_types.declared.classes.At.{At}
+use Rattle.elab_entry.specs.cpp_lex.Tokens.{Lexeme}
+use Rattle.elab_entry.specs.cpp_ast.declared.arena.NodeId.{NodeId}
+use Rattle.elab_entry.specs.cpp_ast.declared.arena.At.{At as SyntaxAt}
+use Rattle.elab_entry.specs.cpp_ast.declared.kinds.NodeKind.{NodeKind}
+use Rattle.elab_entry.specs.cpp_ast.declared.kinds.NodeKind.TheVariants as k
+use Rattle.elab_entry.specs.cpp_ast.Trees.{Tree, node, Trees, more, none}
+use Rattle.elab_entry.specs.cpp_tree.declared.program.FuncKind.TheVariants.{Plain}
+use Rattle.elab_entry.specs.cpp_tree.declared.faults.ElabFault.{ElabFault}
+use Rattle.elab_entry.specs.cpp_tree.declared.faults.ElabFault.TheVariants.{Ill, Override, JumpIntoBlock, Limit, Memory}
+use Rattle.elab_entry.specs.cpp_tree.declared.faults.IllRule.TheVariants.{BadDeclaration, OutOfProfile}
+use Rattle.elab_entry.specs.elab_ctx.Says.{Faults}
+use Rattle.elab_entry.specs.elab_ctx.Steps.{and_then, each_of, at_of, spelling}
+use Rattle.elab_entry.specs.elab_rules.Types.{Declared}
+use Rattle.elab_entry.specs.elab_rules.Statements.{State, Lambdas, name_of, bound_by_initialiser}
+use Rattle.elab_entry.specs.elab_rules.Functions.{Storage, Header, with_specifier, text_sized}
+use Rattle.elab_entry.specs.elab_rules.Members.{members_among}
+use Rattle.elab_entry.specs.elab_rules.Classes.{header_in, started_from}
+use Rattle.elab_entry.specs.elab_rules.Globals.{global_declared}
+use Rattle.elab_entry.specs.elab_rules.Units.{header_of, definition_text, declared_of_type, file_declarator, file_declaration}
+use Rattle.elab_entry.specs.elab_scopes.declared.state.State.{State as StateRec}
+use Rattle.elab_entry.specs.elab_scopes.States.{state_of}
+use Rattle.elab_entry.specs.elab_scopes.Says.{Changes}
+use Rattle.elab_entry.specs.elab_types.Syntax.{trees_at, tree_at}
+use Rattle.class_members.specs.Shown.{Answers}
+use Rattle.elab_decls.proofs.Steps.{faults_then}
+use Rattle.elab_units.proofs.KidSteps.{trees_step, trees_past}
+use Rattle.elab_members.specs.Initialisers.{all_defaults}
+use Rattle.elab_members.specs.Whole.{class_initialised, class_defined, all_late, Defines}
+use Rattle.class_table.specs.Written.{ClassRead, class_read}
+use Rattle.elab_leaving.specs.Untold.{is_refused, if_refused}
+use Rattle.elab_units.specs.Outcomes.{AnswersUnless}
+use Rattle.elab_units.proofs.Outcomes.{faults_on, faults_at, unless_done, unless_err, err_unless, unless_same}
+use Rattle.elab_leaving.specs.Declaring.{is_function_form, file_header, has_trees, only_declared, declarator_by, file_started, defined_with, defined_header, defined_steps, defined_typed, are_three, declaration_of, declarations_of, is_untold, are_untold}
+
+-- Trees, one behind the other
+
+pub each_more : {R : Type 0} (step : R → Tree → Result R ElabFault) (r next : R) (t : Tree) (ts : Trees) (all : Result R ElabFault) → step r t ≡ Ok next → all ≡ each_of step r (more t ts) → all ≡ each_of step next ts
+each_more step r next t ts all f g = g ∙ ap (λ z. and_then z (λ y. each_of step y ts)) f
+
+pub each_fails : {R : Type 0} (step : R → Tree → Result R ElabFault) (r : R) (t : Tree) (ts : Trees) (all : Result R ElabFault) (e : ElabFault) → Faults e (step r t) → all ≡ each_of step r (more t ts) → Faults e all
+each_fails step r t ts all e f g = subst (Faults e) (sym g) (faults_then e (step r t) _ f)
+
+-- What is answered
+
+pub fault_by : {A : Type 0} (e d : ElabFault) (x : Result A ElabFault) → e ≡ d → Faults d x → Faults e x
+fault_by {A} e d x h f = subst (λ (z : ElabFault). Faults z x) (sym h) f
+
+pub changes_answers : (a b : StateRec) (r : Result (Unit {0}) ElabFault) (x : Result State ElabFault) → Changes a b r x → Answers (state_of b) r x
+changes_answers a b (Ok u) x h = h.is
+changes_answers a b (Err e) x h = h
+
+-- Where a fault may be left open
+
+-- a class: whether an initialiser of a member has a fault
+pub class_answers : (a b : StateRec) (r : Result (Unit {0}) ElabFault) (y x : Result State ElabFault) → (is_refused y ≡ true → is_refused x ≡ true) → Defines a b r y x → AnswersUnless (is_refused y) (state_of b) r x
+class_answers a b (Ok u) (Ok st) x k h = h.is
+class_answers a b (Ok u) (Err f) x k h = h.is
+class_answers a b (Err e) (Ok st) x k h = h
+class_answers a b (Err (Ill at rule)) (Err f) x k h = k refl
+class_answers a b (Err (Override at rule)) (Err f) x k h = k refl
+class_answers a b (Err (JumpIntoBlock at)) (Err f) x k h = k refl
+class_answers a b (Err (Limit at which)) (Err f) x k h = k refl
+class_answers a b (Err Memory) (Err f) x k h = tt
+
+-- a class in which an initialiser is refused is refused
+both_refused : {A : Type 0} (r : Result A ElabFault) (all : A → Result State ElabFault) (late : A → State → Result State ElabFault) → is_refused (and_then r all) ≡ true → is_refused (and_then r (λ (x : A). and_then (all x) (late x))) ≡ true
+both_refused (Err e) all late h = refl
+both_refused (Ok a) all late h = one (all a) (late a) h
+  where
+    one : (y : Result State ElabFault) (f : State → Result State ElabFault) → is_refused y ≡ true → is_refused (and_then y f) ≡ true
+    one (Ok st) f g = let k : false ≡ true = g in absurd cc
+    one (Err e) f g = refl
+
+pub class_refused_too : (lams : Lambdas) (s : List Lexeme) (st : State) (at : At) (name : List ℕ) (kids : Trees) → is_refused (class_initialised lams s st at name kids) ≡ true → is_refused (class_defined lams s st at name kids) ≡ true
+class_refused_too lams s st at name kids h = both_refused (class_read s st at name kids) (λ (x : ClassRead). all_defaults lams s x.home.number x.state (members_among kids)) (λ (x : ClassRead) (y : State). all_late lams s x.home.number x.home.name y (members_among kids)) h
+
+pub linkage_fails : (c : State) (r : Result (Unit {0}) ElabFault) (e : ElabFault) (d : Result Bool ElabFault) (f : Bool → Bool) (rest : Bool → Result State ElabFault) → r ≡ Err e → Faults e d → AnswersUnless (if_refused d false f) c r (and_then d rest)
+linkage_fails c r e d f rest g h = err_unless (if_refused d false f) c r e (and_then d rest) g (faults_at e d f rest h)
+
+pub linkage_goes : (c : State) (r : Result (Unit {0}) ElabFault) (b : Bool) (d : Result Bool ElabFault) (f : Bool → Bool) (rest : Bool → Result State ElabFault) → d ≡ Ok b → AnswersUnless (f b) c r (rest b) → AnswersUnless (if_refused d false f) c r (and_then d rest)
+linkage_goes c r b d f rest g h = subst (λ (z : Result Bool ElabFault). AnswersUnless (if_refused z false f) c r (and_then z rest)) (sym g) h
+
+-- Functions and variables
+
+pub header_plain : (s : List Lexeme) (at : At) (x : Storage) (d : Declared) (f : Form) → file_header s at x d f ≡ and_then (header_in 0 x Plain at (name_of s d.name) d f) (λ (h : Header). Ok (record h { class = None }))
+header_plain s at x d (func g) = refl
+header_plain s at x d void = refl
+header_plain s at x d (int i) = refl
+header_plain s at x d (enum a b) = refl
+header_plain s at x d null = refl
+header_plain s at x d (ptr t) = refl
+header_plain s at x d (ref t) = refl
+header_plain s at x d (array t i) = refl
+header_plain s at x d (class i) = refl
+header_plain s at x d (closure i) = refl
+header_plain s at x d (tx_ex t) = refl
+
+variable_inner : (s : List Lexeme) (st : State) (x : Storage) (at : At) (d : Declared) (init : Trees) (f : Form) → is_function_form f ≡ false → declared_of_type s st x at d init f ≡ global_declared s st x at (name_of s d.name) (bound_by_initialiser s d.typ init) init
+variable_inner s st x at d none (func g) h = absurd cc
+variable_inner s st x at d none void h = refl
+variable_inner s st x at d none (int i) h = refl
+variable_inner s st x at d none (enum a b) h = refl
+variable_inner s st x at d none null h = refl
+variable_inner s st x at d none (ptr t) h = refl
+variable_inner s st x at d none (ref t) h = refl
+variable_inner s st x at d none (array t i) h = refl
+variable_inner s st x at d none (class i) h = refl
+variable_inner s st x at d none (closure i) h = refl
+variable_inner s st x at d none (tx_ex t) h = refl
+variable_inner s st x at d (more a as_more) (func g) h = absurd cc
+variable_inner s st x at d (more a as_more) void h = refl
+variable_inner s st x at d (more a as_more) (int i) h = refl
+variable_inner s st x at d (more a as_more) (enum b c) h = refl
+variable_inner s st x at d (more a as_more) null h = refl
+variable_inner s st x at d (more a as_more) (ptr t) h = refl
+variable_inner s st x at d (more a as_more) (ref t) h = refl
+variable_inner s st x at d (more a as_more) (array t i) h = refl
+variable_inner s st x at d (more a as_more) (class i) h = refl
+variable_inner s st x at d (more a as_more) (closure i) h = refl
+variable_inner s st x at d (more a as_more) (tx_ex t) h = refl
+
+pub variable_chosen : (s : List Lexeme) (st : State) (x : Storage) (at : At) (d : Declared) (init : Trees) (f : Form) → is_function_form f ≡ false → declared_of_type s st x at d init f ≡ global_declared s st x at (name_of s d.name) (bound_by_initialiser s d.typ init) init
+variable_chosen s st x at d init f h = variable_inner s st x at d init f h
+
+pub function_initialised : (s : List Lexeme) (st : State) (x : Storage) (at : At) (d : Declared) (init : Trees) (f : Form) → is_function_form f ≡ true → has_trees init ≡ true → declared_of_type s st x at d init f ≡ Err (Ill at BadDeclaration)
+function_initialised s st x at d none f h g = absurd cc
+function_initialised s st x at d (more a as_more) (func g) h q = refl
+function_initialised s st x at d (more a as_more) void h g = absurd cc
+function_initialised s st x at d (more a as_more) (int i) h g = absurd cc
+function_initialised s st x at d (more a as_more) (enum b c) h g = absurd cc
+function_initialised s st x at d (more a as_more) null h g = absurd cc
+function_initialised s st x at d (more a as_more) (ptr t) h g = absurd cc
+function_initialised s st x at d (more a as_more) (ref t) h g = absurd cc
+function_initialised s st x at d (more a as_more) (array t i) h g = absurd cc
+function_initialised s st x at d (more a as_more) (class i) h g = absurd cc
+function_initialised s st x at d (more a as_more) (closure i) h g = absurd cc
+function_initialised s st x at d (more a as_more) (tx_ex t) h g = absurd cc
+
+pub function_only : (s : List Lexeme) (st : State) (x : Storage) (at : At) (d : Declared) (init : Trees) (f : Form) → is_function_form f ≡ true → has_trees init ≡ false → declared_of_type s st x at d init f ≡ and_then (file_header s at x d f) (only_declared st)
+function_only s st x at d (more a as_more) f h g = absurd cc
+function_only s st x at d none (func g) h q = refl
+function_only s st x at d none void h g = absurd cc
+function_only s st x at d none (int i) h g = absurd cc
+function_only s st x at d none (enum b c) h g = absurd cc
+function_only s st x at d none null h g = absurd cc
+function_only s st x at d none (ptr t) h g = absurd cc
+function_only s st x at d none (ref t) h g = absurd cc
+function_only s st x at d none (array t i) h g = absurd cc
+function_only s st x at d none (class i) h g = absurd cc
+function_only s st x at d none (closure i) h g = absurd cc
+function_only s st x at d none (tx_ex t) h g = absurd cc
+
+-- Declarators
+
+declarator_inner : (s : List Lexeme) (x : Storage) (t : Typ) (st : State) (p : SyntaxAt) (token : Option ℕ) (kids : Trees) → file_declarator s x t st (node k.InitDeclarator p token kids) ≡ declarator_by s x t st (at_of p) kids
+declarator_inner s x t st p token none = refl
+declarator_inner s x t st p token (more d init) = refl
+
+pub declarator_is : (s : List Lexeme) (x : Storage) (t : Typ) (st : State) (tree : Tree) (kind : NodeKind) (p : SyntaxAt) (token : Option ℕ) (kids those : Trees) (at : At) → tree ≡ node kind p token kids → kind ≡ k.InitDeclarator → at ≡ at_of p → those ≡ kids → file_declarator s x t st tree ≡ declarator_by s x t st at those
+declarator_is s x t st tree kind p token kids those at e h q w = ap (file_declarator s x t st) e ∙ ap (λ (z : NodeKind). file_declarator s x t st (node z p token kids)) h ∙ declarator_inner s x t st p token kids ∙ ap (λ (z : At). declarator_by s x t st z kids) (sym q) ∙ ap (declarator_by s x t st at) (sym w)
+
+pub started_is : (s : List Lexeme) (st : State) (at : At) (ts : Trees) (x : Storage) → file_declaration s st x at ts ≡ file_started s st at (started_from s x ts)
+started_is s st at none x = refl
+started_is s st at (more (node k.Attribute p token kids) ts) x = started_is s st at ts x
+started_is s st at (more (node k.DeclSpecifier p (Some t) kids) ts) x = started_is s st at ts (with_specifier x (spelling s t))
+started_is s st at (more (node k.DeclSpecifier p None kids) ts) x = refl
+started_is s st at (more (node k.TypeSpecifierSeq p token kids) ts) x = refl
+started_is s st at (more (node kind p token kids) ts) x = refl
+
+-- Definitions
+
+pub definition_steps : (s : List Lexeme) (st : State) (x : Storage) (at : At) (first : ℕ) (d : Declared) (body : Tree) (f : Form) → is_function_form f ≡ true → defined_with s st x at first d body f ≡ defined_steps s st x at first d body f
+definition_steps s st x at first d body (func g) h = refl
+definition_steps s st x at first d body void h = absurd cc
+definition_steps s st x at first d body (int i) h = absurd cc
+definition_steps s st x at first d body (enum a b) h = absurd cc
+definition_steps s st x at first d body null h = absurd cc
+definition_steps s st x at first d body (ptr t) h = absurd cc
+definition_steps s st x at first d body (ref t) h = absurd cc
+definition_steps s st x at first d body (array t i) h = absurd cc
+definition_steps s st x at first d body (class i) h = absurd cc
+definition_steps s st x at first d body (closure i) h = absurd cc
+definition_steps s st x at first d body (tx_ex t) h = absurd cc
+
+pub definition_refused : (s : List Lexeme) (st : State) (x : Storage) (at : At) (first : ℕ) (d : Declared) (body : Tree) (f : Form) → is_function_form f ≡ false → defined_with s st x at first d body f ≡ Err (Ill at BadDeclaration)
+definition_refused s st x at first d body (func g) h = absurd cc
+definition_refused s st x at first d body void h = refl
+definition_refused s st x at first d body (int i) h = refl
+definition_refused s st x at first d body (enum a b) h = refl
+definition_refused s st x at first d body null h = refl
+definition_refused s st x at first d body (ptr t) h = refl
+definition_refused s st x at first d body (ref t) h = refl
+definition_refused s st x at first d body (array t i) h = refl
+definition_refused s st x at first d body (class i) h = refl
+definition_refused s st x at first d body (closure i) h = refl
+definition_refused s st x at first d body (tx_ex t) h = refl
+
+header_storage_of : (s : List Lexeme) (at : At) (x : Storage) (d : Declared) (f : Form) (h : Header) → file_header s at x d f ≡ Ok h → h.storage ≡ x
+header_storage_of s at x d (func g) h e = let is : header_of s at x d g ≡ h = cc in ap (λ (z : Header). z.storage) (sym is)
+header_storage_of s at x d void h e = absurd cc
+header_storage_of s at x d (int i) h e = absurd cc
+header_storage_of s at x d (enum a b) h e = absurd cc
+header_storage_of s at x d null h e = absurd cc
+header_storage_of s at x d (ptr t) h e = absurd cc
+header_storage_of s at x d (ref t) h e = absurd cc
+header_storage_of s at x d (array t i) h e = absurd cc
+header_storage_of s at x d (class i) h e = absurd cc
+header_storage_of s at x d (closure i) h e = absurd cc
+header_storage_of s at x d (tx_ex t) h e = absurd cc
+
+pub header_storage : (s : List Lexeme) (at : At) (x : Storage) (d : Declared) (f : Form) (h : Header) → file_header s at x d f ≡ Ok h → h.storage ≡ x
+header_storage s at x d f h e = header_storage_of s at x d f h e
+
+pub definition_is : (s : List Lexeme) (st : State) (x : Storage) (at : At) (first : ℕ) (d : Declared) (body : Tree) (f : Form) (b : Bool) (h : Header) → is_function_form f ≡ true → text_sized at (definition_text s x first body) ≡ Ok b → file_header s at x d f ≡ Ok h → defined_with s st x at first d body f ≡ defined_header s st first body h
+definition_is s st x at first d body f b h k e g = definition_steps s st x at first d body f k ∙ ap (λ (z : Result Bool ElabFault). and_then z (λ y. and_then (file_header s at x d f) (defined_header s st first body))) e ∙ ap (λ (z : Result Header ElabFault). and_then z (defined_header s st first body)) g
+
+pub alias_answers : {A B : Type 0} (b : B) (r : Result A ElabFault) (x : Result B ElabFault) → OnOk r (x ≡ Ok b) → IfErr r (λ e. Faults e x) → Answers b r x
+alias_answers b (Ok a) x h g = h
+alias_answers b (Err e) x h g = g
+
+pub parts_refused : (s : List Lexeme) (st : State) (known : Storage) (whole : Trees) (x : Storage) (at : At) (first : ℕ) (ts : Trees) → are_three ts ≡ false → defined_typed s st known whole x at first ts ≡ Err (Ill at OutOfProfile)
+parts_refused s st known whole x at first none h = refl
+parts_refused s st known whole x at first (more a none) h = refl
+parts_refused s st known whole x at first (more a (more b none)) h = refl
+parts_refused s st known whole x at first (more a (more b (more c none))) h = absurd cc
+parts_refused s st known whole x at first (more a (more b (more c (more d ts)))) h = refl
+
+-- Declarations, one behind the other
+
+-- so far declarations have led from a state to another, and the rest is left
+pub record DeclaredTo (s : List Lexeme) (x : Storage) (first st : State) (ts rest : Trees) : Type 0 where
+  pub is : declarations_of s x first ts ≡ declarations_of s x st rest
+  pub untold : are_untold s x first ts ≡ are_untold s x st rest
+
+pub declared_none : (s : List Lexeme) (x : Storage) (st : State) (ts : Trees) → DeclaredTo s x st st ts ts
+declared_none s x st ts = record { is = refl; untold = refl }
+
+module _ (s : List Lexeme) (x : Storage) (first st : State) (trees : List Tree) (ids : List NodeId) (i : ℕ) (all : DeclaredTo s x first st (trees_at trees ids) (trees_at trees (drop i ids))) where
+  pub declared_more : (d : NodeId) (next : State) → i < length ids → declaration_of s x st (tree_at trees (get_or ids i d)) ≡ Ok next → DeclaredTo s x first next (trees_at trees ids) (trees_at trees (drop (i + 1) ids))
+  declared_more d next l m =
+      let t = tree_at trees (get_or ids i d) in
+      let rest = trees_at trees (drop (i + 1) ids) in
+      let step : trees_at trees (drop i ids) ≡ more t rest = trees_step trees ids i d l in
+      record {
+        is = all.is ∙ ap (declarations_of s x st) step ∙ ap (λ (z : Result State ElabFault). and_then z (λ (y : State). declarations_of s x y rest)) m;
+        untold = all.untold ∙ ap (are_untold s x st) step ∙ ap (λ (z : Result State ElabFault). if_refused z (is_untold s x st t) (λ (y : State). are_untold s x y rest)) m;
+      }
+
+  pub declared_fails : (d : NodeId) (b c : State) (r : Result (Unit {0}) ElabFault) (e : ElabFault) → i < length ids → r ≡ Err e → AnswersUnless (is_untold s x st (tree_at trees (get_or ids i d))) b (Err e) (declaration_of s x st (tree_at trees (get_or ids i d))) → AnswersUnless (are_untold s x first (trees_at trees ids)) c r (declarations_of s x first (trees_at trees ids))
+  declared_fails d b c r e l g m =
+      let t = tree_at trees (get_or ids i d) in
+      let rest = trees_at trees (drop (i + 1) ids) in
+      let step : trees_at trees (drop i ids) ≡ more t rest = trees_step trees ids i d l in
+      unless_same (are_untold s x first (trees_at trees ids)) (are_untold s x st (more t rest)) c r (declarations_of s x first (trees_at trees ids)) (declarations_of s x st (more t rest))
+      (all.untold ∙ ap (are_untold s x st) step) (all.is ∙ ap (declarations_of s x st) step)
+      (err_unless (are_untold s x st (more t rest)) c r e (declarations_of s x st (more t rest)) g
+      (faults_on (is_untold s x st t) e (declaration_of s x st t) (λ (y : State). are_untold s x y rest) (λ (y : State). declarations_of s x y rest) (unless_err (is_untold s x st t) b e (declaration_of s x st t) m)))
+
+  pub declared_last : (u : Unit {0}) → length ids ≤ i → AnswersUnless (are_untold s x first (trees_at trees ids)) st (Ok u) (declarations_of s x first (trees_at trees ids))
+  declared_last u l = unless_done (are_untold s x first (trees_at trees ids)) st u (declarations_of s x first (trees_at trees ids)) (all.is ∙ ap (declarations_of s x st) (trees_past trees ids i l))
+
+-- where all declarations are well, nothing is left open
+
+told_step : (d : Result State ElabFault) (u : Bool) (f : State → Bool) (rest : State → Result State ElabFault) (end : State) → ((y : State) → rest y ≡ Ok end → f y ≡ false) → and_then d rest ≡ Ok end → if_refused d u f ≡ false
+told_step (Ok a) u f rest end k h = k a h
+told_step (Err e) u f rest end k h = let g : Err e ≡ Ok end = h in absurd cc
+
+pub all_told : (s : List Lexeme) (x : Storage) (st : State) (ts : Trees) (end : State) → declarations_of s x st ts ≡ Ok end → are_untold s x st ts ≡ false
+all_told s x st none end h = refl
+all_told s x st (more t ts) end h = told_step (declaration_of s x st t) (is_untold s x st t) (λ (y : State). are_untold s x y ts) (λ (y : State). declarations_of s x y ts) end (λ y g. all_told s x y ts end g) h

@@ -1,0 +1,24 @@
+use Rattle.std.proofs.Common.{◌∙◌, List, Result, ap}
+use Rattle.elab_entry.specs.cpp_lex.Tokens.{lexemes_of}
+use Rattle.elab_entry.specs.cpp_types.Typ.{Typ}
+use Rattle.elab_entry.specs.cpp_ast.declared.arena.NodeId.{NodeId}
+use Rattle.elab_entry.specs.cpp_tree.declared.faults.ElabFault.{ElabFault}
+use Rattle.elab_entry.specs.elab_ctx.Steps.{and_then}
+use Rattle.elab_entry.specs.elab_rules.Statements.{State}
+use Rattle.elab_entry.specs.elab_rules.Units.{alias_of}
+use Rattle.elab_entry.specs.elab_scopes.States.{state_of}
+use Rattle.elab_entry.specs.elab_types.Syntax.{syntax_of, trees_at}
+use Rattle.elab_decls.proofs.Steps.{answers_same}
+use Rattle.elab_entry.specs.elab_rules.Globals.{alias_declared}
+use Rattle.elab_units.proofs.Declarings.{alias_answers}
+use Rattle.elab_units.proofs.declarations.alias_of.Goals as goal
+
+pub returns : goal.returns
+returns c =
+    let s = lexemes_of c.args.tokens.now in
+    let st = state_of c.args.st.now in
+    let trees = syntax_of c.args.nodes.now in
+    let next : Typ → Result State ElabFault = λ (u : Typ). alias_declared st c.args.at c.args.name.now u in
+    answers_same _ c.alias_declared.result _ _
+    (ap (λ (z : List NodeId). alias_of s st c.args.at c.args.name.now (trees_at trees z)) c.in-Some.ensures.kid ∙ ap (λ (z : Result Typ ElabFault). and_then z next) c.in_ok-ty.ensures)
+    (alias_answers _ c.alias_declared.result _ (c.alias_declared.ensures.done st.work st.bodies) (c.alias_declared.ensures.fault st.work st.bodies))
