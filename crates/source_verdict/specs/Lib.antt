@@ -2,3 +2,4 @@ pub mod Front
 pub mod Places
 pub mod Names
 pub mod Verdict
+pub mod Elaborated

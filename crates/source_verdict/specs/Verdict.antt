@@ -21,6 +21,7 @@ use Rattle.source_verdict.specs.declared.judging.Verdict.TheVariants.{Accepted, 
 use Rattle.source_verdict.specs.declared.front.FrontFault.{FrontFault}
 use Rattle.source_verdict.specs.declared.front.FrontFault.TheVariants as front
 use Rattle.source_verdict.specs.declared.front.Unread.{Unread}
+use Rattle.source_verdict.specs.Elaborated.{HasProgram, HasFault}
 use Rattle.source_verdict.specs.Front.{AreRead, IsFirstUnread}
 use Rattle.source_verdict.specs.Places.{place_line}
 use Rattle.source_verdict.specs.Names.{ill_name, override_name, reason_name, limit_name}
@@ -46,17 +47,18 @@ RefusesFault names texts (JumpIntoBlock at) a writes = RefusesAt names texts at.
 RefusesFault names texts (Limit at which) a writes = RefusesAt names texts at.source at.offset 7 (codes "Limit " ++ limit_name which) PassesLimit a writes
 RefusesFault names texts Memory a writes = ⊥
 
--- The first refusal of the texts. What elaboration answers is not told by a definition yet: `faulty` names a fault that it answered, `unsafe_part` a program.
+-- The first refusal of the texts: the first that is no unit, the fault of elaboration, or the first unsafe node of their program.
 pub data RefusesTexts (names texts : List (List ℕ)) (a : Answer) (writes : List Written) : Type 0 where
   unread : (u : Unread) → IsFirstUnread texts u → RefusesFront names texts u.index u.fault a writes → RefusesTexts names texts a writes
-  faulty : (units : List UnitRecord) (fault : ElabFault) → AreRead 0 texts units → RefusesFault names texts fault a writes → RefusesTexts names texts a writes
-  unsafe_part : (units : List UnitRecord) (p : Program) (at : At) (reason : UnsafeReason) → AreRead 0 texts units → FirstUnsafe (program_of p) at reason
+  faulty : (units : List UnitRecord) (fault : ElabFault) → AreRead 0 texts units → HasFault texts fault → RefusesFault names texts fault a writes → RefusesTexts names texts a writes
+  unsafe_part : (units : List UnitRecord) (p : Program) (at : At) (reason : UnsafeReason) → AreRead 0 texts units → HasProgram texts (program_of p) → FirstUnsafe (program_of p) at reason
       → RefusesAt names texts at.source at.offset 4 (codes "Unsafe " ++ reason_name reason) Refused a writes → RefusesTexts names texts a writes
 
--- each text is a unit, and the program is well formed and safe, without a mark of `volatile` where the check does not look
+-- each text is a unit, and the program is theirs, well formed and safe, without a mark of `volatile` where the check does not look
 pub record Accepts (texts : List (List ℕ)) (p : Program) : Type 0 where
   pub units : List UnitRecord
   pub read : AreRead 0 texts units
+  pub elaborated : HasProgram texts (program_of p)
   pub well_formed : WellFormed p
   pub safe : IsSafe (program_of p)
   pub unmarked : IsUnmarked (program_of p)

@@ -1,7 +1,9 @@
 //! The verdict.
 
 ghost use Rattle.std.specs.Prelude.{◌≡◌, map, IfOk, string_bytes};
+ghost use Rattle.cpp_tree.specs.Units.{program_of};
 ghost use Rattle.cpp_tree.specs.WellFormed.{WellFormed};
+ghost use Rattle.source_verdict.specs.Elaborated.{HasProgram};
 ghost use Rattle.source_verdict.specs.Front.{AreRead};
 ghost use Rattle.source_verdict.specs.Verdict.{Says};
 
@@ -16,6 +18,7 @@ use tree_check::is_well_formed;
 use tx_answers::Decision;
 use tx_safety::laws::readable;
 use tx_safety::{SafeProgram, SafetyFault, check};
+use unit_syntax::laws::wholes;
 
 /// What becomes of the texts of sources.
 #[derive(Drop)]
@@ -36,6 +39,7 @@ fn checked(
     program: Program,
 ) -> Result<Verdict, AllocError>
     requires read { AreRead 0 (map (λ text. text.items) texts.now) units.now }
+    requires elaborated { HasProgram (map (λ text. text.items) texts.now) (program_of program) }
     requires well_formed { WellFormed program }
     ensures { IfOk result (Says (map string_bytes names.now) (map (λ text. text.items) texts.now)) }
 {
@@ -64,7 +68,8 @@ fn with_program(
     units: &[Unit],
     program: Program,
 ) -> Result<Verdict, AllocError>
-    requires { AreRead 0 (map (λ text. text.items) texts.now) units.now }
+    requires read { AreRead 0 (map (λ text. text.items) texts.now) units.now }
+    requires elaborated { HasProgram (map (λ text. text.items) texts.now) (program_of program) }
     ensures { IfOk result (Says (map string_bytes names.now) (map (λ text. text.items) texts.now)) }
 {
     if is_well_formed(alloc, &program)? {
@@ -84,6 +89,7 @@ fn with_units(
     requires { AreRead 0 (map (λ text. text.items) texts.now) units.now }
     ensures { IfOk result (Says (map string_bytes names.now) (map (λ text. text.items) texts.now)) }
 {
+    wholes();
     match elaborate(alloc, units) {
         Ok(program) => with_program(alloc, names, texts, units, program),
         Err(fault) => Ok(Verdict::Refused(refuse_fault(alloc, names, texts, fault)?)),
