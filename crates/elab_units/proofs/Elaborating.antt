@@ -1,5 +1,5 @@
 -- Units, one behind the other.
-use Rattle.std.proofs.Common.{◌≡◌, ◌∙◌, ◌<◌, ◌≤◌, ◌+◌, ◌++◌, ℕ, zero, suc, Bool, true, false, List, [], ◌∷◌, Some, Result, Ok, Err, length, map, slice_get, ap, sym, subst, arith, refl, append_assoc, append-nil}
+use Rattle.std.proofs.Common.{◌≡◌, ◌∙◌, ◌≤◌, ◌+◌, ◌++◌, ℕ, suc, Bool, true, false, List, [], ◌∷◌, Some, Result, Ok, Err, length, map, slice_get, ap, sym, subst, arith, refl, append_assoc, append-nil}
 use Rattle.std.proofs.lemmas.List.{length-append}
 use Rattle.cpp_ast.specs.declared.units.Unit.{Unit as UnitRecord}
 use Rattle.elab_entry.specs.cpp_lex.Tokens.{Lexeme}
@@ -10,7 +10,7 @@ use Rattle.elab_entry.specs.cpp_types.declared.classes.ClassRec.{ClassRec}
 use Rattle.elab_entry.specs.cpp_tree.declared.faults.ElabFault.{ElabFault}
 use Rattle.elab_entry.specs.cpp_tree.declared.program.Program.{Program}
 use Rattle.elab_entry.specs.cpp_tree.declared.program.UnitTree.{UnitTree}
-use Rattle.elab_entry.specs.cpp_tree.Units.{Unit, TypedProgram, SlotFunc, unit_of, slot_of}
+use Rattle.elab_entry.specs.cpp_tree.Units.{Unit, TypedProgram, SlotFunc, unit_of}
 use Rattle.elab_entry.specs.elab_ctx.Ctx.{Traits}
 use Rattle.elab_entry.specs.elab_ctx.Says.{Faults}
 use Rattle.elab_entry.specs.elab_ctx.Steps.{and_then}
@@ -140,7 +140,7 @@ one_faulty us i j before k u e h at same m =
     let faulty : FaultsUnless (are_untold x.tokens no_storage start x.decls) e (unit_from x.tokens start x.decls) = subst (λ (z : ℕ). FaultsUnless (are_untold x.tokens no_storage (begun_behind z k) x.decls) e (unit_from x.tokens (begun_behind z k) x.decls)) same m.is in
     let all = h.sources ++ x ∷ [] in
     let is : FaultsUnless (is_fault_untold all) e (program_of all) = faults_like (is_fault_untold all) (untold_from i p (traits_known k) (x ∷ [])) e (program_of all) (program_from i p (traits_known k) (x ∷ [])) (h.untold (x ∷ [])) (h.program (x ∷ []))
-        (faults_on (are_untold x.tokens no_storage start x.decls) e (unit_from x.tokens start x.decls) (λ (y : State). untold_from (suc i) (with_unit p x y) y.ctx.traits []) (λ (y : State). program_from (suc i) (with_unit p x y) y.ctx.traits []) faulty) in
+    (faults_on (are_untold x.tokens no_storage start x.decls) e (unit_from x.tokens start x.decls) (λ (y : State). untold_from (suc i) (with_unit p x y) y.ctx.traits []) (λ (y : State). program_from (suc i) (with_unit p x y) y.ctx.traits []) faulty) in
     record { sources = all; are = first_more us h.sources u x h.are there m.shows; is = fault_is (is_fault_untold all) e all refl is }
 
 pub refused_at : (us : List UnitRecord) (i j : ℕ) (before : List UnitTree) (k : Classes) (u : UnitRecord) (r : Result Program ElabFault) (e : ElabFault) → r ≡ Err e → SoFar us i before k → slice_get us i ≡ Some u → j ≡ i → UnlessMemory e (IsFaulty u j k e) → Elaborates us r

@@ -7,7 +7,7 @@ use Rattle.elab_entry.specs.elab_ctx.Steps.{and_then}
 use Rattle.elab_entry.specs.elab_rules.Statements.{State}
 use Rattle.elab_decls.proofs.Steps.{faults_then}
 use Rattle.elab_leaving.specs.Untold.{is_refused, if_refused}
-use Rattle.elab_units.specs.Outcomes.{FaultsSome, FaultsUnless, AnswersUnless, UnlessMemory}
+use Rattle.elab_units.specs.Outcomes.{FaultsUnless, AnswersUnless, UnlessMemory}
 
 -- Faults
 

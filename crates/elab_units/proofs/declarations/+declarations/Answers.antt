@@ -6,7 +6,7 @@ use Rattle.elab_entry.specs.cpp_lex.Tokens.{lexemes_of}
 use Rattle.elab_entry.specs.elab_scopes.States.{state_of}
 use Rattle.elab_entry.specs.elab_types.Syntax.{syntax_of, tree_at, trees_at}
 use Rattle.class_members.specs.Shown.{storage_of}
-use Rattle.elab_entry.specs.elab_ctx.Steps.{at_of, spelling}
+use Rattle.elab_entry.specs.elab_ctx.Steps.{spelling}
 use Rattle.elab_entry.specs.elab_rules.Functions.{Storage}
 use Rattle.elab_lambdas.specs.Whole.{lambdas_of}
 use Rattle.elab_members.specs.Whole.{class_initialised, class_defined}

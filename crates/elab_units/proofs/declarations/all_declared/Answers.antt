@@ -1,6 +1,5 @@
-use Rattle.std.proofs.Common.{◌≡◌, ◌∙◌, Ok, Err, Result, get_or, ap, sym, subst, rules}
+use Rattle.std.proofs.Common.{◌≡◌, ◌∙◌, Ok, Err, get_or, ap, sym, subst, rules}
 use Rattle.elab_entry.specs.cpp_lex.Tokens.{lexemes_of}
-use Rattle.elab_entry.specs.cpp_tree.declared.faults.ElabFault.{ElabFault}
 use Rattle.elab_entry.specs.elab_rules.Functions.{Storage, no_storage}
 use Rattle.elab_entry.specs.elab_rules.Statements.{State}
 use Rattle.elab_entry.specs.elab_scopes.States.{state_of}
