@@ -13,7 +13,7 @@ use Rattle.cpp_tree.specs.Roles.{is_handler}
 use Rattle.src_mean.specs.Linked.{Func, Program}
 use Rattle.src_mean.specs.Exceptions.{Exception, is_object_typ, catches}
 use Rattle.src_mean.specs.Frames.{Here, throws, returns, Waiting, Owner, of_block, of_call, of_pieces, pointer, Frame, Run, Then, Gives, Leaves, Loads, StoreTo, Right, Apply, Choose, AssignTo, UpdateAt, UpdateOld, UpdateBy, CopyTo, CopyBy, From, Words, Object, Slot, Pointer, Passes, Called, Full, Keeps, Scope, Waits, InitAt, Cleans, Due, Destroys, Parts, Each, Items, Test, Body, Step, Picks, Compares, Switches, Returning, Opens, Within, Closes, Throws, Fills, Filled, Tries, Trying, Takes, Taking, Handling, Loaded, Replied, Converts, Starts, Halted, Ended, State, at, puts_some, waiting}
-use Rattle.src_mean.specs.Source.{finish, compare, from_label, is_case, is_default, destroy, handle, take_field, fill_field, kept, give, reply_word, applied, write, converted, updated, case_word, run_items, begins, main_state, empty_stack, pointed_func, thread_signature, source, with_temporaries}
+use Rattle.src_mean.specs.Source.{finish, compare, from_label, is_case, is_default, destroy, handle, take_field, fill_field, kept, give, reply_word, applied, write, converted, updated, case_word, run_items, begins, main_state, empty_stack, source, with_temporaries}
 use Rattle.src_mean.specs.Laws.{StaysSafe}
 use Rattle.block_marks.specs.Marks.{is_tame_kind, scope_for, all_free, is_at_most, all_within, are_placed, below, is_tame, are_tame, is_alone, are_within, are_caught, Round, round_of, is_outside, has, has_scope, is_met, runs, run_all, may_wait, all_wait, has_safe_body, may_call, hides, hides_all, is_good, are_good, are_left, is_marked, IsTameFunc, IsTame}
 use Rattle.block_marks.proofs.Trees.{first_alone, alone_runs, within_all}
@@ -229,14 +229,8 @@ test_of p safe s g = and_from _ _ g.hidden g.good
 pub main_marked : (p : Program) (safe : ℕ → ℕ → Bool) → IsTame p safe → is_marked p safe (main_state p) ≡ true
 main_marked p safe m = test_of p safe (main_state p) (enters p safe (empty_stack 0) [] (p.func p.main) (Starts true ∷ []) (m.funcs p.main) (or_right (has_safe_body (p.func p.main)) true refl) refl)
 
-pointed_tame : (p : Program) (safe : ℕ → ℕ → Bool) (m : IsTame p safe) (n : Option ℕ) (f : Func) → pointed_func p n ≡ Some f → IsTameFunc safe f
-pointed_tame p safe m None f e = absurd cc
-pointed_tame p safe m (Some n) f e = m.funcs n f e
-
 pub thread_marked : (p : Program) (safe : ℕ → ℕ → Bool) → IsTame p safe → (number func : ℕ) (arg : ℤ) → is_marked p safe (begins p number func arg) ≡ true
-thread_marked p safe m number func arg =
-    let found = p.pointed func thread_signature in
-    test_of p safe (begins p number func arg) (enters p safe (empty_stack number) (word_of arg ∷ []) (pointed_func p found) (Starts false ∷ []) (pointed_tame p safe m found) (or_right (has_safe_body (pointed_func p found)) true refl) refl)
+thread_marked p safe m number func arg = test_of p safe (begins p number func arg) (enters p safe (empty_stack number) (word_of arg ∷ []) (p.func func) (Starts false ∷ []) (m.funcs func) (or_right (has_safe_body (p.func func)) true refl) refl)
 
 pub stays_marked : (p : Program) (safe : ℕ → ℕ → Bool) → IsTame p safe → StaysSafe p (is_marked p safe)
 stays_marked p safe m = record {

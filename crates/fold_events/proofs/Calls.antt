@@ -42,14 +42,14 @@ module _ (v : ℕ → Bool) (p : Program) where
   enter_pointed_shown h words None k = refl
   enter_pointed_shown h words (Some number) k = enter_found_shown h words (p.func number) k
 
-  spawn_shown : (h : Here) (number : Option ℕ) (address arg : ℕ) (k : List Frame) → spawn (here_shown v h) number address arg (frames_shown v k) ≡ state_shown v (spawn h number address arg k)
-  spawn_shown h None address arg k = refl
-  spawn_shown h (Some number) address arg k = refl
+  spawn_shown : (h : Here) (number : Option ℕ) (arg : ℕ) (k : List Frame) → spawn (here_shown v h) number arg (frames_shown v k) ≡ state_shown v (spawn h number arg k)
+  spawn_shown h None arg k = refl
+  spawn_shown h (Some number) arg k = refl
 
   built_in_shown : (h : Here) (which : Builtin) (words : List ℕ) (k : List Frame) → built_in q (here_shown v h) which words (frames_shown v k) ≡ state_shown v (built_in p h which words k)
   built_in_shown h PutChar words k = refl
   built_in_shown h GetChar words k = refl
-  built_in_shown h SpawnThread words k = spawn_shown h (p.pointed (first_word words) thread_signature) (first_word words) (second_word words) k
+  built_in_shown h SpawnThread words k = spawn_shown h (p.pointed (first_word words) thread_signature) (second_word words) k
   built_in_shown h JoinThread words k = refl
   built_in_shown h AbortProgram words k = refl
 

@@ -1,6 +1,5 @@
 -- The thread of the folded program leaves out silent steps of the thread of the program.
 use Rattle.std.proofs.Common.{◌≡◌, ℕ, ℤ, zero, suc, ◌*◌, ◌==◌, Bool, true, false, refl, ap, ◌∙◌, List, [], ◌∷◌, ◌++◌, Option, Some, None, cond, Result, Ok, Err}
-use Rattle.std.specs.Prelude.{option_map}
 use Rattle.cpp_tree.specs.tx_ints.declared.kinds.ArithTrap.{ArithTrap}
 use Rattle.cpp_tree.specs.tx_ints.Words.{word_of}
 use Rattle.cpp_tree.specs.tx_events.declared.Event.TheVariants.{Silent}
@@ -10,7 +9,7 @@ use Rattle.cpp_tree.specs.Trees.{Tree, node, none, more}
 use Rattle.src_mean.specs.Linked.{Program}
 use Rattle.src_mean.specs.Exceptions.{catches}
 use Rattle.src_mean.specs.Frames.{Here, throws, returns, pointer, Frame, Run, Then, Gives, Leaves, Loads, Loaded, Replied, StoreTo, Converts, Right, Apply, Choose, AssignTo, UpdateAt, UpdateOld, UpdateBy, CopyTo, CopyBy, From, Words, Object, Slot, Pointer, Passes, Called, Full, Keeps, Scope, Waits, InitAt, Cleans, Due, Destroys, Parts, Each, Items, Test, Body, Step, Picks, Compares, Switches, Opens, Within, Closes, Throws, Fills, Filled, Tries, Trying, Takes, Taking, Handling, Returning, Starts, Halted, Ended, State, at}
-use Rattle.src_mean.specs.Source.{source, give, converted, applied, plus, finish, run_items, compare, case_word, from_label, is_case, enter, first_end, with_temporaries, begins, main_state, empty_stack, pointed_func, reply_word, thread_signature}
+use Rattle.src_mean.specs.Source.{source, give, converted, applied, plus, finish, run_items, compare, case_word, from_label, is_case, enter, first_end, with_temporaries, begins, main_state, empty_stack, reply_word}
 use Rattle.fold_events.specs.Lagging.{Lags}
 use Rattle.fold_events.specs.Keeping.{calls}
 use Rattle.fold_events.proofs.Lagging.{same_events, no_more_steps}
@@ -119,14 +118,8 @@ module _ (v : ℕ → Bool) (p : Program) where
 
   -- First states
 
-  pointed_kept : (number : Option ℕ) → pointed_func q number ≡ option_map (func_shown v) (pointed_func p number)
-  pointed_kept None = refl
-  pointed_kept (Some number) = refl
-
-  pub begins_kept : (number address : ℕ) (arg : ℤ) → begins q number address arg ≡ state_shown v (begins p number address arg)
-  begins_kept number address arg =
-      ap (λ z. enter (empty_stack number) (word_of arg ∷ []) z (Starts false ∷ [])) (pointed_kept (p.pointed address thread_signature))
-      ∙ enter_shown v p (empty_stack number) (word_of arg ∷ []) (pointed_func p (p.pointed address thread_signature)) (Starts false ∷ [])
+  pub begins_kept : (thread number : ℕ) (arg : ℤ) → begins q thread number arg ≡ state_shown v (begins p thread number arg)
+  begins_kept thread number arg = enter_shown v p (empty_stack thread) (word_of arg ∷ []) (p.func number) (Starts false ∷ [])
 
   pub main_kept : main_state q ≡ state_shown v (main_state p)
   main_kept = enter_shown v p (empty_stack 0) [] (p.func p.main) (Starts true ∷ [])

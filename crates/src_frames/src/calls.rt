@@ -97,7 +97,7 @@ fn word_place(bound: &Bound<'_>, func: u32, index: usize) -> Option<WordAt>
 }
 
 /// The number of the function with this address, if a thread may start in it.
-pub fn thread_func(bound: &Bound<'_>, func: u64) -> Option<u32>
+fn thread_func(bound: &Bound<'_>, func: u64) -> Option<u32>
     ensures { result ≡ (linked_in bound.now).pointed func thread_signature }
 {
     bound.pointed(func, b"void(long)")
@@ -219,12 +219,13 @@ impl State {
         }
     }
 
-    // Starts a thread.
-    fn spawn(&mut self, bound: &Bound<'_>, func: u64, argument: u64) -> Going
-        ensures { IfOk result (λ o. after bound.now o self.new ≡ spawns (here_of bound.now self.old) ((linked_in bound.now).pointed func thread_signature) func argument (frames_of bound.now self.old)) }
+    // Starts a thread in the function with this address.
+    fn spawn(&mut self, bound: &Bound<'_>, address: u64, argument: u64) -> Going
+        ensures { IfOk result (λ o. after bound.now o self.new ≡ spawns (here_of bound.now self.old) ((linked_in bound.now).pointed address thread_signature) argument (frames_of bound.now self.old)) }
     {
-        match thread_func(bound, func) {
-            Some(_) => {
+        match thread_func(bound, address) {
+            Some(number) => {
+                let func = u64::from(number);
                 let arg = long_value(argument);
                 let event = Event::Spawn { func, arg };
                 self.comes(bound, event, Frame::Value(ValueFrame::Replied))

@@ -26,7 +26,7 @@ use Rattle.cpp_tree.specs.Trees.{Tree, node, Trees, none, more, kind_of, typ_in}
 use Rattle.src_mean.specs.Linked.{Func, Program}
 use Rattle.src_mean.specs.Exceptions.{Exception, is_object_typ, catches, read_bytes}
 use Rattle.src_mean.specs.Frames.{Here, Way, Exit, throws, returns, breaks, continues, Waiting, Owner, Callee, known, virtual, pointer, builtin, Frame, Run, Gives, Leaves, Loads, Loaded, Replied, StoreTo, UpdateAt, UpdateOld, Filled, Converts, Apply, UpdateBy, Words, Slot, Pointer, Passes, Called, Full, Scope, Waits, Cleans, Due, Destroys, Parts, Each, Items, Test, Body, Picks, Compares, Switches, Returning, Opens, Within, Closes, Fills, Tries, Trying, Takes, Taking, Handling, Starts, Halted, Ended, State, at, blocks_of, handled, puts, puts_some, same_owner}
-use Rattle.src_mean.specs.Source.{trap_of, finish, enter, enter_found, enter_pointed, is_safe, spawn, built_in, invoke, next_word, call, call_slot, halt, leave, leave_call, try_first, is_throw, rethrow, return_value, first_part, destroy, handle, take_field, fill_field, compare, from_label, is_case, run_node, give, reply_word, result_words, target_of, source_of, case_word, applied, read, write, converted, updated, plus, stored_bytes, begins, main_state, empty_stack, pointed_func, thread_signature, source}
+use Rattle.src_mean.specs.Source.{trap_of, finish, enter, enter_found, enter_pointed, is_safe, spawn, built_in, invoke, next_word, call, call_slot, halt, leave, leave_call, try_first, is_throw, rethrow, return_value, first_part, destroy, handle, take_field, fill_field, compare, from_label, is_case, run_node, give, reply_word, result_words, target_of, source_of, case_word, applied, read, write, converted, updated, plus, stored_bytes, begins, main_state, empty_stack, source}
 use Rattle.src_mean.specs.Laws.{closes_block, LeftOnce, is_passed, is_last, quiet, opens, closes, is_plain, is_done, settled, IsSettled, follows, is_hidden, GoesOn, Begins, StaysSafe, IsSafeState}
 
 -- a settled state with these blocks
@@ -88,14 +88,14 @@ reads h address kind volatile k q = record { settled = both (is_size (kind_size 
 writes : (kind : IntKind) (w : ℕ) (k : List Frame) → quiet k ≡ true → ((is_size (kind_size kind) && nat_lt (stored_bytes kind w) (2 ^ (8 * kind_size kind))) && quiet k) ≡ true
 writes kind w k q = both (is_size (kind_size kind) && nat_lt (stored_bytes kind w) (2 ^ (8 * kind_size kind))) (quiet k) (both (is_size (kind_size kind)) (nat_lt (stored_bytes kind w) (2 ^ (8 * kind_size kind))) (size_of_kind kind) (stored_fits kind w)) q
 
-spawns : (h : Here) (f : Option ℕ) (address arg : ℕ) (k : List Frame) → quiet k ≡ true → Good (blocks_of k) (spawn h f address arg k)
-spawns h None address arg k q = record { settled = q; same = refl }
-spawns h (Some n) address arg k q = record { settled = q; same = refl }
+spawns : (h : Here) (f : Option ℕ) (arg : ℕ) (k : List Frame) → quiet k ≡ true → Good (blocks_of k) (spawn h f arg k)
+spawns h None arg k q = record { settled = q; same = refl }
+spawns h (Some n) arg k q = record { settled = q; same = refl }
 
 builds_in : (p : Program) (h : Here) (b : Builtin) (ws : List ℕ) (k : List Frame) → quiet k ≡ true → Good (blocks_of k) (built_in p h b ws k)
 builds_in p h PutChar ws k q = record { settled = q; same = refl }
 builds_in p h GetChar ws k q = record { settled = q; same = refl }
-builds_in p h SpawnThread ws k q = spawns h _ _ _ k q
+builds_in p h SpawnThread ws k q = spawns h _ _ k q
 builds_in p h JoinThread ws k q = record { settled = q; same = refl }
 builds_in p h AbortProgram ws k q = record { settled = q; same = refl }
 
@@ -359,7 +359,7 @@ stays_settled p s reply i = record { settled = (goes_on p s.event s.here (reply_
 
 pub thread_begins : (p : Program) (number func : ℕ) (arg : ℤ) → Begins p (begins p number func arg)
 thread_begins p number func arg =
-    let good = enters (empty_stack number) (word_of arg ∷ []) (pointed_func p (p.pointed func thread_signature)) (Starts false ∷ []) refl in
+    let good = enters (empty_stack number) (word_of arg ∷ []) (p.func func) (Starts false ∷ []) refl in
     record { settled = good.settled; free = good.same }
 
 pub main_begins : (p : Program) → Begins p (main_state p)

@@ -155,14 +155,15 @@ second_word (w ∷ ws) = first_word ws
 abbrev pub thread_signature : Signature
 thread_signature = signature (more_typs (typ (int Long) false false) no_typs) (typ void false false) false
 
-abbrev pub spawn : Here → Option ℕ → ℕ → ℕ → List Frame → State
-spawn h None address arg k = halt h (Trapped BadCall) k
-spawn h (Some number) address arg k = at (Spawns address (value_of_word Long arg)) h (Replied ∷ k)
+-- a thread starts in the function with this number
+abbrev pub spawn : Here → Option ℕ → ℕ → List Frame → State
+spawn h None arg k = halt h (Trapped BadCall) k
+spawn h (Some number) arg k = at (Spawns number (value_of_word Long arg)) h (Replied ∷ k)
 
 abbrev pub built_in : Program → Here → Builtin → List ℕ → List Frame → State
 built_in p h PutChar ws k = at (Out (first_word ws % 256)) h (Gives (first_word ws % 256) ∷ k)
 built_in p h GetChar ws k = at Inp h (Replied ∷ k)
-built_in p h SpawnThread ws k = spawn h (p.pointed (first_word ws) thread_signature) (first_word ws) (second_word ws) k
+built_in p h SpawnThread ws k = spawn h (p.pointed (first_word ws) thread_signature) (second_word ws) k
 built_in p h JoinThread ws k = at (Joins (value_of_word Int (first_word ws))) h (Gives 0 ∷ k)
 built_in p h AbortProgram ws k = halt h Aborts k
 
@@ -435,13 +436,9 @@ reply_word (Id z) = word_of z
 abbrev pub empty_stack : ℕ → Here
 empty_stack number = record { frame = stacks_start + stack_stride * number; end = stacks_start + stack_stride * number; limit = stacks_start + stack_stride * number + stack_size; unit = 0; places = []; temporaries = [] }
 
-abbrev pub pointed_func : Program → Option ℕ → Option Func
-pointed_func p None = None
-pointed_func p (Some number) = p.func number
-
--- the first state of a thread of this number that calls a function with an argument
-abbrev pub begins : Program → ℕ → ℕ → ℤ → State
-begins p number address arg = enter (empty_stack number) (word_of arg ∷ []) (pointed_func p (p.pointed address thread_signature)) (Starts false ∷ [])
+-- the first state of a thread that calls the function with this number with an argument
+abbrev pub begins : Program → (thread number : ℕ) → ℤ → State
+begins p thread number arg = enter (empty_stack thread) (word_of arg ∷ []) (p.func number) (Starts false ∷ [])
 
 -- the first state of thread 0
 abbrev pub main_state : Program → State
@@ -451,6 +448,6 @@ abbrev pub source : Program → Thread State
 source p = record {
   next = λ s. s.event;
   after = λ s reply. give p s.here (reply_word reply) s.frames;
-  child = λ s number address arg. begins p number address arg;
+  child = λ s thread number arg. begins p thread number arg;
   blocks = λ s. blocks_of s.frames;
 }

@@ -7,9 +7,8 @@ ghost use Rattle.src_frames.specs.Bounds.{here_of, frames_of, linked_in, state_o
 ghost use Rattle.src_thread.specs.Thread.{program_of, shown};
 
 use crate::giving::give;
-use cpp_tree::below::{Event, Reply, Trap, word_of};
+use cpp_tree::below::{Event, Reply, word_of};
 use src_bind::Bound;
-use src_frames::calls::thread_func;
 use src_frames::frames::{EndFrame, Frame};
 use src_frames::state::{State, empty_stack};
 use src_frames::words::reply_word;
@@ -63,7 +62,7 @@ fn main_thread(alloc: Global, bound: &Bound<'_>) -> Result<State, AllocError>
     Ok(state)
 }
 
-// A thread of this number, at the start of the function with this address.
+// A thread of this number, at the start of the function with that number.
 fn started_thread(
     alloc: Global,
     bound: &Bound<'_>,
@@ -73,14 +72,13 @@ fn started_thread(
 ) -> Result<State, AllocError>
     ensures { IfOk result (λ s. state_of bound.now s ≡ begins (linked_in bound.now) number func arg) }
 {
-    let mut state = first_state(alloc, bound, number, false)?;
-    let going = match thread_func(bound, func) {
-        Some(found) => {
-            let words = state.one_word(word_of(i128::from(arg)))?;
-            state.enter(bound, words, found)?
-        }
-        None => state.trap(bound, Trap::BadCall)?,
+    // A number that no function has counts as want of memory; no event has one.
+    let Ok(func) = u32::try_from(func) else {
+        return Err(AllocError);
     };
+    let mut state = first_state(alloc, bound, number, false)?;
+    let words = state.one_word(word_of(i128::from(arg)))?;
+    let going = state.enter(bound, words, func)?;
     settle(&mut state, bound, going)?;
     Ok(state)
 }
@@ -95,7 +93,7 @@ impl<'a> SourceThread<'a> {
         Ok(SourceThread { bound, state })
     }
 
-    /// A thread of this number, at the start of the function with this address.
+    /// A thread of this number, at the start of the function with that number.
     pub fn start(&self, number: u8, func: u64, arg: i64) -> Result<SourceThread<'a>, AllocError>
         ensures program { IfOk result (λ t. program_of t ≡ program_of self.now) }
         ensures state { IfOk result (λ t. shown t ≡ (source (program_of self.now)).child (shown self.now) number func arg) }
