@@ -33,7 +33,7 @@ some_mark xs before n f g = λ none. let no : ◌≡◌ {A = List ℕ} (n ∷ []
 
 module _ (program : Program) (p : MemoryLayout) (t : ℕ) (w : Worlds State) (s : State) (left : ℕ) where
   -- just after the block began
-  pub block_start : (old now : World) (first nested : Nested) → world_of old ≡ goes t w s → IsSet program (layout_of now.memory) t (record { state = (source program).after s Nothing; ended = false }) old.threads.alive.items now.threads.alive.items
+  unfoldable pub block_start : (old now : World) (first nested : Nested) → world_of old ≡ goes t w s → IsSet program (layout_of now.memory) t (record { state = (source program).after s Nothing; ended = false }) old.threads.alive.items now.threads.alive.items
       → now ≡ record old { threads = now.threads } → first.notes.items ≡ [] → first.marks.items ≡ [] → nested.notes.items ≡ first.notes.items → nested.marks.items ≡ first.marks.items ++ length first.notes.items ∷ []
       → old.left ≡ left → BlockRun program p t w s left now nested
   block_start old now first nested e set same notes marks more_notes more_marks l =
@@ -58,7 +58,7 @@ module _ (program : Program) (p : MemoryLayout) (t : ℕ) (w : Worlds State) (s 
   open_at now nested h = inside_open (source program) p h.run (begin_open (source program) p ((source program).after s Nothing) w.memory)
 
   -- one step more
-  pub block_more : (old mid paid : World) (before nested : Nested) (h : BlockRun program p t w s left old before) → BlockGoes program p t w h.last mid nested → Stands program mid → mid.left ≡ old.left → paid ≡ record mid { left = paid.left } → paid.left + 1 ≡ mid.left
+  unfoldable pub block_more : (old mid paid : World) (before nested : Nested) (h : BlockRun program p t w s left old before) → BlockGoes program p t w h.last mid nested → Stands program mid → mid.left ≡ old.left → paid ≡ record mid { left = paid.left } → paid.left + 1 ≡ mid.left
       → BlockRun program p t w s left paid nested
   block_more old mid paid before nested h g stands kept same less = record {
     last = g.next;
@@ -121,7 +121,7 @@ module _ (program : Program) (p : MemoryLayout) (t : ℕ) (w : Worlds State) (s 
     pub block_never : (old : World) (before : Nested) (h : BlockRun program p t w s left old before) → inner_by (source program) p h.last h.last.state.event ≡ alone.Never → ActRefused program p t w s left
     block_never old before h e = record { at = inmost old before h; cost = omega (arith, h.cost); never = ap comes e }
 
-    next_comes : (old : World) (before : Nested) (h : BlockRun program p t w s left old before) (event : Event) (b : Bool) → event ≡ h.last.state.event → b ≡ is_inner event → comes (inner_by (source program) p h.last h.last.state.event) ≡ b
+    pub next_comes : (old : World) (before : Nested) (h : BlockRun program p t w s left old before) (event : Event) (b : Bool) → event ≡ h.last.state.event → b ≡ is_inner event → comes (inner_by (source program) p h.last h.last.state.event) ≡ b
     next_comes old before h event b e q = comes_is (source program) p h.last h.last.state.event (open_at old before h) ∙ (sym (ap is_inner e) ∙ sym q)
 
     pub block_refused : (old : World) (before : Nested) (h : BlockRun program p t w s left old before) (event : Event) (b : Bool) → event ≡ h.last.state.event → b ≡ is_inner event → b ≡ false → ActRefused program p t w s left

@@ -117,17 +117,17 @@ module _ (program : Program) (p : MemoryLayout) (t : ℕ) (w : Worlds State) (s 
 
 -- the entry
 
-either_true : (a b : Bool) → a ≡ true → (a || b) ≡ true
+pub either_true : (a b : Bool) → a ≡ true → (a || b) ≡ true
 either_true true b h = refl
 either_true false b h = absurd (false≢true h)
 
-second_of : (a b c : Bool) → a ≡ false → b ≡ c → (a || b) ≡ c
+pub second_of : (a b c : Bool) → a ≡ false → b ≡ c → (a || b) ≡ c
 second_of true b c h e = absurd (true≢false h)
 second_of false b c h e = e
 
 module _ (program : Program) (p : MemoryLayout) (t : ℕ) (w : Worlds State) (s : State) (left : ℕ) (going : w.end ≡ None) (at : w.threads t ≡ alive s) where
   -- too many silent steps
-  pub spent_silently : (now : World) → SkipsOn program p t w s left now → entries.Unfinished (source program) p t w left
+  unfoldable pub spent_silently : (now : World) → SkipsOn program p t w s left now → entries.Unfinished (source program) p t w left
   spent_silently now h = record {
     going = going;
     moment = outside s h.skips.here at h.skips.steps;
@@ -140,13 +140,13 @@ module _ (program : Program) (p : MemoryLayout) (t : ℕ) (w : Worlds State) (s 
       sym (q ∙ (ap (λ (z : Event). is_enabled t (world_of now) z) e ∙ (ap (λ (z : Worlds State). is_enabled t z h.here.event) h.world ∙ enabled_same t w h.here h.here.event)))
 
   -- an event that is not enabled
-  pub refused_there : (now : World) (h : SkipsAll program p t w s left now) (event : Event) (b : Bool) → event ≡ h.skips.here.event → b ≡ is_enabled t (world_of now) event → b ≡ false → entries.Refused (source program) p t w left
+  unfoldable pub refused_there : (now : World) (h : SkipsAll program p t w s left now) (event : Event) (b : Bool) → event ≡ h.skips.here.event → b ≡ is_enabled t (world_of now) event → b ≡ false → entries.Refused (source program) p t w left
   refused_there now h event b e q f =
       stays (outside s h.skips.here at h.skips.steps) (omega (arith, h.skips.cost))
       (second_of (is_silent h.skips.here.event) (is_enabled t w h.skips.here.event) false h.loud (enabled_from now h.skips event b e q ∙ f))
 
   -- an event for which no unit is left
-  pub spent_there : (now : World) (h : SkipsAll program p t w s left now) (event : Event) (b : Bool) → event ≡ h.skips.here.event → b ≡ is_enabled t (world_of now) event → b ≡ true → now.left ≡ 0 → entries.Unfinished (source program) p t w left
+  unfoldable pub spent_there : (now : World) (h : SkipsAll program p t w s left now) (event : Event) (b : Bool) → event ≡ h.skips.here.event → b ≡ is_enabled t (world_of now) event → b ≡ true → now.left ≡ 0 → entries.Unfinished (source program) p t w left
   spent_there now h event b e q f l = record {
     going = going;
     moment = outside s h.skips.here at h.skips.steps;
@@ -155,7 +155,7 @@ module _ (program : Program) (p : MemoryLayout) (t : ℕ) (w : Worlds State) (s 
   }
 
   -- the event or the block
-  pub stepped : (here : State) (steps : SilentSteps (source program) s here) (k : ℕ) (new : World) (r : Entry) → silent_cost steps + (k + 1) ≡ left → Acted program p t w here k new r → Stepped program p t w left new r
+  unfoldable pub stepped : (here : State) (steps : SilentSteps (source program) s here) (k : ℕ) (new : World) (r : Entry) → silent_cost steps + (k + 1) ≡ left → Acted program p t w here k new r → Stepped program p t w left new r
   stepped here steps k new Taken c h = record {
     world = h.world;
     step = record { going = going; from = s; before = here; is = at; silents = steps; does = h.done.does };

@@ -10,3 +10,7 @@ pub mod BlockSteps
 pub mod BlockEntries
 pub mod OrderSteps
 pub mod OneEntry
+pub mod SeenBlocks
+pub mod SeenEntries
+pub mod LoneEntries
+pub mod OneAnswer

@@ -226,3 +226,35 @@ module _ {S : Type 0} (a : Thread S) (p : MemoryLayout) where
             let b = to_stuck (subst (λ z. Onward (begin (a.after z Nothing) w.memory) end (inside_cost path)) here_is.1 (from_begin path)) (from_begin run) stuck in
             let last_is = b.same (omega (arith, b.most, few, all, here_is.0)) in
             true≢false (sym further ∙ (ap (λ z. comes (inner_by a p z (a.next z.state))) last_is ∙ stuck))
+
+    -- an event, or a whole block, has one cost
+    one_event_cost : (s : S) (e : Event) (v u : World S) (d : EventStep a p t w s e v) (f : EventStep a p t w s e u) → event_cost a p t w s e v d ≡ event_cost a p t w s e u f
+    one_event_cost s (BeginAtomic kind) v u d f =
+        let most = block_most (from_begin (d.1).run) (from_begin (f.1).run) (f.1).over in
+        let least = block_most (from_begin (f.1).run) (from_begin (d.1).run) (d.1).over in
+        omega (arith, most, least)
+    one_event_cost s Silent v u d f = refl
+    one_event_cost s EndAtomic v u d f = refl
+    one_event_cost s (Raise kind cancels) v u d f = refl
+    one_event_cost s BeginSync v u d f = refl
+    one_event_cost s (Join id) v u d f = refl
+    one_event_cost s (Load addr size volatile) v u d f = refl
+    one_event_cost s (Store addr size value volatile) v u d f = refl
+    one_event_cost s (Out byte) v u d f = refl
+    one_event_cost s Inp v u d f = refl
+    one_event_cost s (Spawn func arg) v u d f = refl
+    one_event_cost s EndSync v u d f = refl
+    one_event_cost s Done v u d f = refl
+    one_event_cost s (Stop end) v u d f = refl
+
+    -- and so has a step
+    pub one_step_cost : (v u : World S) (d : Step a p t w v) (f : Step a p t w u) → step_cost a p t w v d ≡ step_cost a p t w u f
+    one_step_cost v u d f =
+        let same : d.from ≡ f.from = one_state d.from f.from (sym d.is ∙ f.is) in
+        let o = in_order (subst (λ z. Ahead z d.before (silent_cost d.silents)) same (from_front d.silents)) (from_front f.silents) (loud a p t w u f.before (a.next f.before) f.does) in
+        let at = o.same (loud a p t w v d.before (a.next d.before) d.does) in
+        let n = event_cost a p t w d.before (a.next d.before) v d.does in
+        let priced : Priced d.before (a.next d.before) v n = record { does = d.does; costs = refl } in
+        let there : Priced f.before (a.next f.before) v n = subst (λ z. Priced z (a.next z) v n) at.1 priced in
+        let one = one_event_cost f.before (a.next f.before) v u there.does f.does in
+        omega (arith, at.0, there.costs, one)

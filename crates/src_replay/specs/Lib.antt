@@ -3,3 +3,5 @@ pub mod Orders
 pub mod Shown
 pub mod Undone
 pub mod Inner
+pub mod LoneRuns
+pub mod Seen

@@ -45,6 +45,12 @@ pub record IsSpent {S : Type 0} (a : Thread S) (p : MemoryLayout) (first : World
   pub unfinished : Unfinished a p begun.thread begun.world begun.left
   pub costs_more : (v : World S) (step : Step a p begun.thread begun.world v) → begun.left < step_cost a p begun.thread begun.world v step
 
+-- a replay of that order has this output, end and cost
+pub record IsOnly {S : Type 0} (a : Thread S) (p : MemoryLayout) (first : World S) (order : List ℕ) (r : Replayed) (v : World S) (replay : Replays a p first order v) : Type 0 where
+  pub out_is : r.out.items ≡ v.out
+  pub end_is : r.end ≡ v.end
+  pub cost_is : r.cost ≡ cost a p first order v replay
+
 -- the answer on an order, want of memory aside
 abbrev pub IsAnswer : {S : Type 0} → Thread S → MemoryLayout → World S → List ℕ → ℕ → Result Replayed ReplayFault → Type 0
 IsAnswer a p first order most (Ok r) = IsReplay a p first order most r

@@ -1,199 +1,200 @@
 //! The run of thread 0 by itself.
 
-ghost use Rattle.std.specs.Prelude.{◌≡◌, ◌≢◌, ◌≤◌, [], IfOk, OnOk};
+ghost use Rattle.std.specs.Prelude.{◌≡◌, ◌≤◌, ◌<◌, ◌+◌, ◌++◌, ℕ, true, false, length, None, IfOk, OnOk};
+ghost use Rattle.tx_events.specs.declared.BlockKind.{BlockKind};
+ghost use Rattle.tx_events.specs.declared.Event.TheVariants.{BeginAtomic};
+ghost use Rattle.tx_events.specs.World.{World as Worlds, alive, goes};
 ghost use Rattle.tx_memory.specs.View.{layout_of};
 ghost use Rattle.src_bind.specs.Bounds.{given};
 ghost use Rattle.src_bind.specs.Tables.{CanBind, typed};
-ghost use Rattle.src_replay.specs.Undone.{IsNested};
+ghost use Rattle.src_mean.specs.Frames.{State};
+ghost use Rattle.src_mean.specs.Linked.{Program};
+ghost use Rattle.src_replay.specs.Entries.{is_enabled as is_enabled_in};
+ghost use Rattle.src_replay.specs.LoneRuns.{loud, RunsAlone};
+ghost use Rattle.src_replay.specs.Seen.{is_begin, SeenAct, SeenStep};
+ghost use Rattle.src_replay.specs.Shown.{world_of, Stands};
+ghost use Rattle.src_replay.specs.declared.world.Entry.TheVariants.{Taken};
 
-use crate::block::{Step, fits, goes_on, inside, is_size};
-use crate::memories::first_memory;
+use crate::block::{Step, comes_inside};
 use crate::nested::Nested;
+use crate::world::{Entry, World, is_silent};
 use src_bind::Bound;
-use src_thread::SourceThread;
 use std::alloc::{AllocError, Global};
-use tx_events::{End, Event, Reply, Trap};
-use tx_memory::Memory;
+use tx_events::{End, Event, Reply};
 
-/// What thread 0 did by itself: its events but the silent ones, its output, and the end, `None` where none came in the
-/// steps that it may take, or where it starts or joins a thread.
+/// How the run of thread 0 by itself stopped.
+#[derive(Clone, Copy, Debug, PartialEq, Eq)]
+pub enum AloneEnd {
+    /// The program has ended.
+    Ended(End),
+    /// Its next entry is not enabled: it waits for a thread that it started, say, which no one runs.
+    NotEnabled,
+    /// Its next entry takes more steps than are left.
+    Spent,
+}
+
+/// What thread 0 did by itself: its events but the silent ones, its output, how it stopped, and how many steps it took.
 #[derive(Drop)]
 pub struct AloneRun {
     pub events: Vec<Event>,
     pub out: Vec<u8>,
-    pub end: Option<End>,
-    /// How many steps it took.
+    pub stopped: AloneEnd,
     pub cost: u32,
 }
 
-// A thread with its memory and what it has done.
-#[derive(Drop)]
-struct Solo<'a> {
-    alloc: Global,
-    thread: SourceThread<'a>,
-    memory: Memory,
-    input: &'a [u8],
-    events: Vec<Event>,
-    out: Vec<u8>,
-    end: Option<End>,
-    // How many steps may still be taken.
-    left: u32,
+// The event is written down if it is not silent.
+fn note(events: &mut Vec<Event>, event: Event) -> Result<(), AllocError>
+    ensures { OnOk result (events.new.items ≡ events.old.items ++ loud event) }
+{
+    if !is_silent(event) {
+        events.push(event)?;
+    }
+    Ok(())
 }
 
-impl<'a> Solo<'a> {
-    // The event of a step, of which one is left. `None` where none is.
-    fn pay(&mut self) -> Result<Option<Event>, AllocError>
-        ensures left { OnOk result (self.new.left ≤ self.old.left) }
-        ensures layout { layout_of self.new.memory ≡ layout_of self.old.memory }
-    {
-        let Some(left) = self.left.checked_sub(1) else {
-            return Ok(None);
-        };
-        self.left = left;
-        let event = self.thread.next();
-        if event != Event::Silent {
-            self.events.push(event)?;
+// Whether an atomic block begins.
+fn begins_block(event: Event) -> bool
+    ensures { result ≡ is_begin event }
+{
+    match event {
+        Event::BeginAtomic { .. } => true,
+        Event::Silent | Event::Load { .. } | Event::Store { .. } | Event::Out { .. } => false,
+        Event::Inp | Event::Spawn { .. } | Event::Join { .. } | Event::EndAtomic => false,
+        Event::Raise { .. } | Event::BeginSync | Event::EndSync => false,
+        Event::Done | Event::Stop { .. } => false,
+    }
+}
+
+// Runs the outermost atomic block that this event begins to its end, and writes down what comes in it.
+fn run_block(
+    world: &mut World<'_>,
+    events: &mut Vec<Event>,
+    event: Event,
+) -> Result<Entry, AllocError>
+    requires { 0 < length world.old.threads.alive.items }
+    ensures less { OnOk result (world.new.left ≤ world.old.left) }
+    ensures seen { (program : Program) (w : Worlds State) (s : State) (kind : BlockKind) → Stands program world.old → w.end ≡ None → world_of world.old ≡ goes 0 w s
+        → s.event ≡ event → event ≡ BeginAtomic kind → is_enabled_in 0 w event ≡ true
+        → IfOk result (SeenAct program (layout_of world.old.memory) 0 w s world.old.left world.new events.old.items events.new.items) }
+{
+    events.push(event)?;
+    let mut nested = Nested::new(world.alloc);
+    nested.begin()?;
+    world.threads.go_on(0, Reply::Nothing)?;
+    for _taken in 0..world.left {
+        let inner = world.threads.next(0);
+        if !comes_inside(inner) {
+            return Ok(Entry::Refused);
         }
-        Ok(Some(event))
-    }
-
-    // The thread goes on.
-    fn goes(&mut self, reply: Reply) -> Result<bool, AllocError>
-        ensures left { self.new.left ≡ self.old.left }
-        ensures layout { layout_of self.new.memory ≡ layout_of self.old.memory }
-    {
-        self.thread.go_on(reply)?;
-        Ok(true)
-    }
-
-    // The program ends so.
-    fn halt(&mut self, end: End) -> Result<bool, AllocError>
-        ensures left { self.new.left ≡ self.old.left }
-    {
-        self.end = Some(end);
-        Ok(false)
-    }
-
-    // The next byte of input, or -1 at its end.
-    fn read(&mut self) -> Result<bool, AllocError>
-        ensures left { self.new.left ≡ self.old.left }
-    {
-        match self.input.split_first() {
-            Some((first, others)) => {
-                let value = i32::from(*first);
-                self.input = others;
-                self.goes(Reply::Byte { value })
-            }
-            None => self.goes(Reply::Byte { value: -1 }),
-        }
-    }
-
-    // Reads memory.
-    fn load(&mut self, addr: u64, size: u8) -> Result<bool, AllocError>
-        ensures left { self.new.left ≡ self.old.left }
-    {
-        if !is_size(size) {
-            return Ok(false);
-        }
-        match self.memory.load(addr, size) {
-            Some(value) => self.goes(Reply::Loaded { value }),
-            None => self.halt(End::Trapped(Trap::BadAddress)),
-        }
-    }
-
-    // Writes to memory.
-    fn store(&mut self, addr: u64, size: u8, value: u64) -> Result<bool, AllocError>
-        ensures left { self.new.left ≡ self.old.left }
-    {
-        if !fits(size, value) {
-            return Ok(false);
-        }
-        if self.memory.store(addr, size, value) {
-            self.goes(Reply::Nothing)
-        } else {
-            self.halt(End::Trapped(Trap::BadAddress))
-        }
-    }
-
-    // A byte is written.
-    fn write(&mut self, byte: u8) -> Result<bool, AllocError>
-        ensures left { self.new.left ≡ self.old.left }
-    {
-        self.out.push(byte)?;
-        self.goes(Reply::Nothing)
-    }
-
-    // One step, and what is in a block. `false` where it was the last.
-    fn step(&mut self) -> Result<bool, AllocError>
-        ensures { OnOk result (self.new.left ≤ self.old.left) }
-    {
-        let Some(event) = self.pay()? else {
-            return Ok(false);
-        };
-        match event {
-            Event::Silent | Event::BeginSync | Event::EndSync => self.goes(Reply::Nothing),
-            Event::Load { addr, size, .. } => self.load(addr, size),
-            Event::Store {
-                addr,
-                size,
-                value,
-                ..
-            } => self.store(addr, size, value),
-            Event::Out { byte } => self.write(byte),
-            Event::Inp => self.read(),
-            Event::BeginAtomic { .. } => self.run_block(),
-            Event::Stop { end } => self.halt(end),
-            Event::Spawn { .. }
-            | Event::Join { .. }
-            | Event::EndAtomic
-            | Event::Raise { .. }
-            | Event::Done => Ok(false),
-        }
-    }
-
-    // Runs an outermost atomic block.
-    fn run_block(&mut self) -> Result<bool, AllocError>
-        ensures { OnOk result (self.new.left ≤ self.old.left) }
-    {
-        let mut nested = Nested::new(self.alloc);
-        nested.begin()?;
-        self.thread.go_on(Reply::Nothing)?;
-        for _taken in 0..self.left {
-            match self.step_in_block(&mut nested)? {
-                // No block goes on without one that is open.
-                Step::Goes => {
-                    if !nested.is_open() {
-                        return Ok(false);
-                    }
+        note(events, inner)?;
+        let step = world.step_in_block(0, &mut nested)?;
+        let _ = world.pay();
+        match step {
+            // No block goes on without one that is open.
+            Step::Goes => {
+                if !nested.is_open() {
+                    return Ok(Entry::Refused);
                 }
-                Step::Leaves => return Ok(true),
-                Step::Halts(end) => return self.halt(end),
-                Step::Never => return Ok(false),
             }
+            Step::Leaves => return Ok(Entry::Taken),
+            Step::Halts(end) => return world.halt(end),
+            // It is the step of no event that may come there.
+            Step::Never => return Ok(Entry::Refused),
         }
-        Ok(false)
     }
-
-    // One step in a block.
-    fn step_in_block(&mut self, nested: &mut Nested) -> Result<Step, AllocError>
-        requires nested { IsNested (layout_of self.old.memory) nested.old }
-        requires open { nested.old.marks.items ≢ [] }
-        ensures left { OnOk result (self.new.left ≤ self.old.left) }
-        ensures layout { layout_of self.new.memory ≡ layout_of self.old.memory }
-        ensures nested { IfOk result (λ step. IsNested (layout_of self.old.memory) nested.new) }
-    {
-        let Some(event) = self.pay()? else {
-            return Ok(Step::Never);
-        };
-        let done = inside(event, &mut self.memory, nested)?;
-        if goes_on(done.step) {
-            self.thread.go_on(done.reply)?;
-        }
-        Ok(done.step)
+    if comes_inside(world.threads.next(0)) {
+        Ok(Entry::Spent)
+    } else {
+        Ok(Entry::Refused)
     }
 }
 
-/// Runs thread 0 by itself, for at most `most` steps. Memory is the globals and the stack of thread 0.
+// An enabled event comes that begins no block, and is written down.
+fn act_once(
+    world: &mut World<'_>,
+    events: &mut Vec<Event>,
+    event: Event,
+) -> Result<Entry, AllocError>
+    requires { 0 < length world.old.threads.alive.items }
+    ensures less { OnOk result (world.new.left ≤ world.old.left) }
+    ensures seen { (program : Program) (w : Worlds State) (s : State) → Stands program world.old → w.end ≡ None → world_of world.old ≡ goes 0 w s
+        → s.event ≡ event → is_begin event ≡ false → is_enabled_in 0 w event ≡ true
+        → IfOk result (SeenAct program (layout_of world.old.memory) 0 w s world.old.left world.new events.old.items events.new.items) }
+{
+    events.push(event)?;
+    world.act(0, event)
+}
+
+// An enabled event comes, and is written down, and what comes in its block.
+fn act(world: &mut World<'_>, events: &mut Vec<Event>, event: Event) -> Result<Entry, AllocError>
+    requires { 0 < length world.old.threads.alive.items }
+    ensures less { OnOk result (world.new.left ≤ world.old.left) }
+    ensures seen { (program : Program) (w : Worlds State) (s : State) → Stands program world.old → w.end ≡ None → world_of world.old ≡ goes 0 w s
+        → s.event ≡ event → is_enabled_in 0 w event ≡ true
+        → IfOk result (SeenAct program (layout_of world.old.memory) 0 w s world.old.left world.new events.old.items events.new.items) }
+{
+    if begins_block(event) {
+        run_block(world, events, event)
+    } else {
+        act_once(world, events, event)
+    }
+}
+
+// The entry of thread 0, which has not ended, where the program has not ended.
+fn step_of(world: &mut World<'_>, events: &mut Vec<Event>) -> Result<Entry, AllocError>
+    requires { 0 < length world.old.threads.alive.items }
+    ensures less { OnOk result (world.new.left ≤ world.old.left) }
+    ensures paid { IfOk result (λ e. e ≡ Taken → world.new.left < world.old.left) }
+    ensures seen { (program : Program) (s : State) → Stands program world.old → world.old.end ≡ None → (world_of world.old).threads 0 ≡ alive s
+        → IfOk result (SeenStep program (layout_of world.old.memory) 0 (world_of world.old) world.old.left world.new events.old.items events.new.items) }
+{
+    let loud = world.skip_silent(0)?;
+    if !loud {
+        return Ok(Entry::Spent);
+    }
+    let event = world.threads.next(0);
+    if !world.is_enabled(0, event) {
+        return Ok(Entry::Refused);
+    }
+    if !world.pay() {
+        return Ok(Entry::Spent);
+    }
+    act(world, events, event)
+}
+
+// An entry of thread 0, where the program has not ended.
+fn step(world: &mut World<'_>, events: &mut Vec<Event>) -> Result<Entry, AllocError>
+    ensures less { OnOk result (world.new.left ≤ world.old.left) }
+    ensures paid { IfOk result (λ e. e ≡ Taken → world.new.left < world.old.left) }
+    ensures seen { (program : Program) → Stands program world.old → world.old.end ≡ None
+        → IfOk result (SeenStep program (layout_of world.old.memory) 0 (world_of world.old) world.old.left world.new events.old.items events.new.items) }
+{
+    if world.threads.is_going(0) {
+        step_of(world, events)
+    } else {
+        Ok(Entry::Refused)
+    }
+}
+
+// What is told of a run that stopped so.
+fn told(world: World<'_>, events: Vec<Event>, most: u32, stopped: AloneEnd) -> AloneRun
+    requires { world.left ≤ most }
+    ensures events { result.events.items ≡ events.items }
+    ensures out { result.out.items ≡ world.entry.out.items }
+    ensures stopped { result.stopped ≡ stopped }
+    ensures cost { result.cost + world.entry.left ≡ most }
+{
+    let World { out, left, .. } = world;
+    AloneRun {
+        events,
+        out,
+        stopped,
+        cost: most - left,
+    }
+}
+
+/// Runs thread 0 by itself, for at most `most` steps: each entry is its own, silent steps and then one event or one whole
+/// atomic block. Of an entry that does not come to its end the events are told that came, also those in its block.
 pub fn run_alone<'a>(
     alloc: Global,
     bound: &'a Bound<'a>,
@@ -201,34 +202,18 @@ pub fn run_alone<'a>(
     most: u32,
 ) -> Result<AloneRun, AllocError>
     requires { CanBind (typed (given bound.now)) }
-    ensures { IfOk result (λ r. r.cost ≤ most) }
+    ensures { IfOk result (RunsAlone (given bound.now) input.now most) }
 {
-    let mut solo = Solo {
-        alloc,
-        thread: SourceThread::main(alloc, bound)?,
-        memory: first_memory(alloc, bound, 1)?,
-        input,
-        events: Vec::new(alloc),
-        out: Vec::new(alloc),
-        end: None,
-        left: most,
-    };
-    for _taken in 0..most {
-        if !solo.step()? {
-            break;
+    let mut world = World::new(alloc, bound, input, most)?;
+    let mut events = Vec::new(alloc);
+    'entries: loop {
+        if let Some(end) = world.end {
+            return Ok(told(world, events, most, AloneEnd::Ended(end)));
+        }
+        match step(&mut world, &mut events)? {
+            Entry::Taken => {}
+            Entry::Refused => return Ok(told(world, events, most, AloneEnd::NotEnabled)),
+            Entry::Spent => return Ok(told(world, events, most, AloneEnd::Spent)),
         }
     }
-    let Solo {
-        events,
-        out,
-        end,
-        left,
-        ..
-    } = solo;
-    Ok(AloneRun {
-        events,
-        out,
-        end,
-        cost: most - left,
-    })
 }

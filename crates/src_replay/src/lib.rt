@@ -16,5 +16,5 @@ pub mod replaying;
 mod threads;
 mod world;
 
-pub use alone::{AloneRun, run_alone};
+pub use alone::{AloneEnd, AloneRun, run_alone};
 pub use replaying::{ReplayFault, Replayed, replay};

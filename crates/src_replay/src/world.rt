@@ -54,7 +54,7 @@ pub(crate) struct World<'a> {
 }
 
 // Whether an event is silent.
-fn is_silent(event: Event) -> bool
+pub(crate) fn is_silent(event: Event) -> bool
     ensures { result ≡ is_silent_event event }
 {
     match event {
@@ -115,7 +115,7 @@ impl<'a> World<'a> {
     }
 
     // One step is taken, if one is left.
-    fn pay(&mut self) -> bool
+    pub(crate) fn pay(&mut self) -> bool
         ensures paid { result ≡ true → self.new.left + 1 ≡ self.old.left }
         ensures spent { result ≡ false → self.old.left ≡ 0 }
         ensures less { self.new.left ≤ self.old.left }
@@ -169,7 +169,7 @@ impl<'a> World<'a> {
     }
 
     // Takes the silent steps of a thread: `false` where more come than are left.
-    fn skip_silent(&mut self, t: u8) -> Result<bool, AllocError>
+    pub(crate) fn skip_silent(&mut self, t: u8) -> Result<bool, AllocError>
         requires { t < length self.old.threads.alive.items }
         ensures less { OnOk result (self.new.left ≤ self.old.left) }
         ensures count { OnOk result (length self.new.threads.alive.items ≡ length self.old.threads.alive.items) }
@@ -207,7 +207,7 @@ impl<'a> World<'a> {
     }
 
     // Whether an event of a thread may come now.
-    fn is_enabled(&self, t: u8, event: Event) -> bool
+    pub(crate) fn is_enabled(&self, t: u8, event: Event) -> bool
         ensures { length self.now.threads.alive.items ≤ 256 → result ≡ is_enabled_in t (world_of self.now) event }
     {
         match event {
@@ -220,7 +220,7 @@ impl<'a> World<'a> {
     }
 
     // The program ends so.
-    fn halt(&mut self, end: End) -> Result<Entry, AllocError>
+    pub(crate) fn halt(&mut self, end: End) -> Result<Entry, AllocError>
         ensures left { self.new.left ≡ self.old.left }
         ensures halted { IfOk result (λ e. (e ≡ Taken) × (self.new ≡ record self.old { end = Some end })) }
     {
@@ -240,7 +240,7 @@ impl<'a> World<'a> {
     }
 
     // An enabled event comes.
-    fn act(&mut self, t: u8, event: Event) -> Result<Entry, AllocError>
+    pub(crate) fn act(&mut self, t: u8, event: Event) -> Result<Entry, AllocError>
         requires { t < length self.old.threads.alive.items }
         ensures less { OnOk result (self.new.left ≤ self.old.left) }
         ensures acted { (program : Program) (w : Worlds State) (s : State) → Stands program self.old → w.end ≡ None → world_of self.old ≡ goes t w s → s.event ≡ event
@@ -447,7 +447,7 @@ impl<'a> World<'a> {
     }
 
     // One step in a block.
-    fn step_in_block(&mut self, t: u8, nested: &mut Nested) -> Result<Step, AllocError>
+    pub(crate) fn step_in_block(&mut self, t: u8, nested: &mut Nested) -> Result<Step, AllocError>
         requires at { t < length self.old.threads.alive.items }
         requires nested { IsNested (layout_of self.old.memory) nested.old }
         requires open { nested.old.marks.items ≢ [] }
