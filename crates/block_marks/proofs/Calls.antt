@@ -62,14 +62,14 @@ pub enters_pointed : (p : Program) (safe : ℕ → ℕ → Bool) (m : IsTame p s
 enters_pointed p safe m h ws None k q = halts p safe h _ k
 enters_pointed p safe m h ws (Some n) k q = enters_found p safe h ws (p.func n) k (m.funcs n) q
 
-spawns : (p : Program) (safe : ℕ → ℕ → Bool) (h : Here) (f : Option ℕ) (address arg : ℕ) (k : List Frame) → is_outside k ≡ true → Good p safe h k → Marked p safe (spawn h f address arg k)
-spawns p safe h None address arg k i q = halts p safe h _ k
-spawns p safe h (Some n) address arg k i q = record { hidden = i; good = q }
+spawns : (p : Program) (safe : ℕ → ℕ → Bool) (h : Here) (f : Option ℕ) (arg : ℕ) (k : List Frame) → is_outside k ≡ true → Good p safe h k → Marked p safe (spawn h f arg k)
+spawns p safe h None arg k i q = halts p safe h _ k
+spawns p safe h (Some n) arg k i q = record { hidden = i; good = q }
 
 builds_in : (p : Program) (safe : ℕ → ℕ → Bool) (h : Here) (b : Builtin) (ws : List ℕ) (k : List Frame) → (is_abort b || is_outside k) ≡ true → Good p safe h k → Marked p safe (built_in p h b ws k)
 builds_in p safe h PutChar ws k i q = record { hidden = i; good = q }
 builds_in p safe h GetChar ws k i q = record { hidden = i; good = q }
-builds_in p safe h SpawnThread ws k i q = spawns p safe h _ _ _ k i q
+builds_in p safe h SpawnThread ws k i q = spawns p safe h _ _ k i q
 builds_in p safe h JoinThread ws k i q = record { hidden = i; good = q }
 builds_in p safe h AbortProgram ws k i q = halts p safe h _ k
 
