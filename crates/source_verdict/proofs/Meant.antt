@@ -1,5 +1,5 @@
 -- What elaboration says of units, said of the texts that they were read from.
-use Rattle.std.proofs.Common.{◌≡◌, ℕ, suc, true, false, List, [], ◌∷◌, length, sym, ap, subst, ◌∙◌, Ok}
+use Rattle.std.proofs.Common.{◌≡◌, ℕ, suc, true, false, List, [], ◌∷◌, length, sym, ap, subst, ◌∙◌, Ok, arith}
 use Rattle.cpp_ast.specs.declared.units.Unit.{Unit as UnitRecord}
 use Rattle.cpp_ast.specs.Trees.{Trees}
 use Rattle.cpp_lex.specs.Tokens.{Lexeme, IsTokens}
@@ -46,7 +46,7 @@ all_read one n [] [] [] long read first = tt
 all_read one n [] [] (x ∷ xs) long read first = elim first [ ]
 all_read one n [] (u ∷ us) xs long read first = elim read [ ]
 all_read one n (text ∷ texts) [] xs long read first = elim read [ ]
-all_read one n (text ∷ texts) (u ∷ us) [] long read first = absurd long
+all_read one n (text ∷ texts) (u ∷ us) [] long read first = let e : ⊥ = omega (arith, long) in absurd e
 all_read one n (text ∷ texts) (u ∷ us) (x ∷ xs) long read first = (source_read one n text u x read.0 first.0, all_read one (suc n) texts us xs (let e : length xs ≡ length us = omega (arith, long) in e) read.1 first.1)
 
 pub program_meant : OneWhole → (texts : List (List ℕ)) (us : List UnitRecord) (p : TypedProgram) → AreRead 0 texts us → IsProgram us p → HasProgram texts p
