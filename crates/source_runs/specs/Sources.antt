@@ -1,10 +1,11 @@
 -- A run of a program's source.
-use Rattle.std.specs.Prelude.{◌≡◌, ℕ, List, Option, Some, None}
+use Rattle.std.specs.Prelude.{◌≡◌, ◌≤◌, ℕ, List, Option, Some, None}
 use Rattle.cpp_tree.specs.Units.{program_of}
 use Rattle.cpp_tree.specs.declared.program.Program.{Program}
 use Rattle.src_bind.specs.Tables.{Given}
 use Rattle.src_bind.specs.declared.choices.Choices.{Choices}
 use Rattle.src_link.specs.Slots.{AreChoices}
+use Rattle.src_mean.specs.Cost.{cost}
 use Rattle.src_mean.specs.Frames.{State}
 use Rattle.src_mean.specs.Source.{source}
 use Rattle.src_replay.specs.Orders.{program_in, layout_in, first_in}
@@ -27,6 +28,11 @@ pub record RunsTo (g : Given) (input order out : List ℕ) (end : End) : Type 0 
   pub out_is : out ≡ world.out
   pub end_is : end ≡ end_in world.end
 
+-- and the threads take no more than so many steps, each silent one and each event counted as one
+pub record RunsWithin (most : ℕ) (g : Given) (input order out : List ℕ) (end : End) : Type 0 where
+  pub runs : RunsTo g input order out end
+  pub within : cost (source (program_in g)) (layout_in g) (first_in g input) order runs.world runs.replays ≤ most
+
 -- So does a program, linked by its own choices: its safe functions have safe bodies, slots name the final overriders, and thread 0 starts in `main`.
 pub record IsSourceRun (p : Program) (input order out : List ℕ) (end : End) : Type 0 where
   pub choices : Choices
@@ -48,3 +54,11 @@ OfLinked g input (Some ran) = RunsTo g input ran.order.items ran.out.items ran.e
 
 abbrev pub IsOfLinked : Given → List ℕ → Answer → Type 0
 IsOfLinked g input a = OfLinked g input a.ran
+
+-- within so many steps
+abbrev pub OfLinkedWithin : ℕ → Given → List ℕ → Option (Ran Here) → Type 0
+OfLinkedWithin most g input None = Unit {0}
+OfLinkedWithin most g input (Some ran) = RunsWithin most g input ran.order.items ran.out.items ran.end
+
+abbrev pub IsOfLinkedWithin : ℕ → Given → List ℕ → Answer → Type 0
+IsOfLinkedWithin most g input a = OfLinkedWithin most g input a.ran

@@ -1,8 +1,8 @@
 //! Whether a run is one of its source: its order, replayed with the threads of the source, has its output and its end.
 #![tactic(auto)]
 
-ghost use Rattle.std.specs.Prelude.{◌≡◌, IfOk, true};
-ghost use Rattle.source_runs.specs.Sources.{RunsTo, IsOfLinked, end_in};
+ghost use Rattle.std.specs.Prelude.{◌≡◌, IfOk, true, false};
+ghost use Rattle.source_runs.specs.Sources.{RunsWithin, IsOfLinked, IsOfLinkedWithin, end_in};
 ghost use Rattle.src_bind.specs.Bounds.{given};
 ghost use Rattle.src_bind.specs.Tables.{CanBind, typed};
 
@@ -28,6 +28,7 @@ fn end_of(end: Option<End>) -> End
 fn agrees(replayed: &Replayed, out: &[u8], end: End) -> bool
     ensures out { result ≡ true → out.now ≡ replayed.now.out.items }
     ensures end { result ≡ true → end ≡ end_in replayed.now.end }
+    ensures no { result ≡ false → out.now ≡ replayed.now.out.items → end ≡ end_in replayed.now.end → ⊥ }
 {
     replayed.out.as_slice() == out && end_of(replayed.end) == end
 }
@@ -42,19 +43,22 @@ fn bound_runs<'a>(
     end: End,
 ) -> Result<bool, AllocError>
     requires { CanBind (typed (given bound.now)) }
-    ensures { IfOk result (λ yes. yes ≡ true → RunsTo (given bound.now) input.now order.now out.now end) }
+    ensures yes { IfOk result (λ yes. yes ≡ true → RunsWithin 4294967295 (given bound.now) input.now order.now out.now end) }
+    ensures no { IfOk result (λ yes. yes ≡ false → RunsWithin 4294967295 (given bound.now) input.now order.now out.now end → ⊥) }
 {
     match replay(alloc, bound, input, order, u32::MAX) {
         Ok(replayed) => Ok(agrees(&replayed, out, end)),
-        Err(ReplayFault::NotARun { .. }) | Err(ReplayFault::Spent { .. }) => Ok(false),
+        Err(ReplayFault::NotARun { .. }) => Ok(false),
+        Err(ReplayFault::Spent { .. }) => Ok(false),
         Err(ReplayFault::Memory) => Err(AllocError),
     }
 }
 
 /// Whether the threads of the program's source, run in this order, write this and end so: each entry is one step of the thread of that
 /// number, or one whole outermost atomic block, and `StepsOut` says that the program has not ended. The program is linked by these choices.
-/// Each step of a thread counts one, and of a run that takes more than 4,294,967,295 the answer is no, as of a program that cannot be bound.
-/// The time grows with the steps.
+///
+/// No means that there is no such run, or that its threads take more than 4,294,967,295 steps, each silent one and each event counted as one.
+/// A program of which `can_bind` says no counts as want of memory. The time grows with the steps.
 pub fn is_source_run(
     alloc: Global,
     program: &Program,
@@ -64,17 +68,18 @@ pub fn is_source_run(
     out: &[u8],
     end: End,
 ) -> Result<bool, AllocError>
-    ensures { IfOk result (λ yes. yes ≡ true → RunsTo (record { program = program.now; choices = choices.now }) input.now order.now out.now end) }
+    ensures yes { IfOk result (λ yes. yes ≡ true → RunsWithin 4294967295 (record { program = program.now; choices = choices.now }) input.now order.now out.now end) }
+    ensures no { IfOk result (λ yes. yes ≡ false → RunsWithin 4294967295 (record { program = program.now; choices = choices.now }) input.now order.now out.now end → ⊥) }
 {
     if !can_bind(alloc, program)? {
-        return Ok(false);
+        return Err(AllocError);
     }
     let bound = bind(alloc, program, choices)?;
     bound_runs(alloc, &bound, input, order, out, end)
 }
 
 /// Whether what was run, if anything was, is a run of the program's source: the order of the answer, replayed on the source, has its output and
-/// its end.
+/// its end. No means that it is no such run, or one that takes more than 4,294,967,295 steps of the source.
 pub fn is_of_source(
     alloc: Global,
     program: &Program,
@@ -82,7 +87,9 @@ pub fn is_of_source(
     input: &[u8],
     answer: &Answer,
 ) -> Result<bool, AllocError>
-    ensures { IfOk result (λ yes. yes ≡ true → IsOfLinked (record { program = program.now; choices = choices.now }) input.now answer.now) }
+    ensures yes { IfOk result (λ yes. yes ≡ true → IsOfLinked (record { program = program.now; choices = choices.now }) input.now answer.now) }
+    ensures within { IfOk result (λ yes. yes ≡ true → IsOfLinkedWithin 4294967295 (record { program = program.now; choices = choices.now }) input.now answer.now) }
+    ensures no { IfOk result (λ yes. yes ≡ false → IsOfLinkedWithin 4294967295 (record { program = program.now; choices = choices.now }) input.now answer.now → ⊥) }
 {
     match &answer.ran {
         Some(ran) => is_source_run(
