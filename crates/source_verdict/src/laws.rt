@@ -1,5 +1,5 @@
 //! What holds of the programs that are accepted. A function here does nothing: its clauses are the laws.
-ghost use Rattle.std.specs.Prelude.{ℕ, List, Option};
+ghost use Rattle.std.specs.Prelude.{◌≡◌, ℕ, List, Option};
 ghost use Rattle.cpp_tree.specs.declared.program.Program.{Program};
 ghost use Rattle.cpp_tree.specs.Units.{SlotFunc, program_of};
 ghost use Rattle.safe_blocks.specs.UnsafeFree.{safely_linked, LinksSafely, HidesBlocks, EntersSafe};
@@ -10,4 +10,10 @@ ghost use Rattle.source_verdict.specs.Verdict.{Accepts};
 pub fn accepted_is_unsafe_free()
     ensures hides { (texts : List (List ℕ)) (p : Program) (symbol : SlotFunc → Option (List ℕ)) (entry : List ℕ) → Accepts texts p → LinksSafely (program_of p) → HidesBlocks (safely_linked symbol entry (program_of p)) }
     ensures enters { (texts : List (List ℕ)) (p : Program) (symbol : SlotFunc → Option (List ℕ)) (entry : List ℕ) → Accepts texts p → LinksSafely (program_of p) → EntersSafe (safely_linked symbol entry (program_of p)) }
+{}
+
+/// Texts have at most one program: what is accepted of the same texts is the same typed program (C++14 2.2, clause 2 and
+/// annex A leave one reading of a text, and elaboration is a function of it).
+pub fn one_program()
+    ensures { (texts : List (List ℕ)) (p q : Program) → Accepts texts p → Accepts texts q → program_of p ≡ program_of q }
 {}
