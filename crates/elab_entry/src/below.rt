@@ -17,7 +17,6 @@ pub use cpp_types::Ty;
 pub use cpp_types::copy;
 pub use cpp_types::copy_function;
 pub use cpp_types::copyability::held_class;
-pub use cpp_types::is_in_order;
 pub use elab_stmt::below::Body;
 pub use elab_stmt::below::Builtin;
 pub use elab_stmt::below::Capture;
