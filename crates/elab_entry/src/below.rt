@@ -63,7 +63,7 @@ pub use elab_stmt::below::TParam;
 pub use elab_stmt::below::This;
 pub use elab_stmt::below::Tokens;
 pub use elab_stmt::below::Traits;
-pub use elab_stmt::below::TypeName;
+pub use elab_stmt::below::TypeNames;
 pub use elab_stmt::below::Unit;
 pub use elab_stmt::below::UnitTree;
 pub use elab_stmt::below::Work;
