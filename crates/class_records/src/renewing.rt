@@ -11,7 +11,7 @@ ghost use Rattle.class_records.specs.Within.{may_stand as may_stand_of, may_foll
 
 use crate::within::{is_after_parts, is_class_below};
 use cpp_types::{ClassRec, Ty};
-use elab_init::below::{Env, Traits, TypeName, completion};
+use elab_init::below::{Env, Traits, completion};
 use std::alloc::{AllocError, Global};
 
 // Whether a class may stand, complete, in the place of one that is only declared.
@@ -94,11 +94,11 @@ pub fn add_class(alloc: Global, env: &mut Env, name: Vec<u8>) -> Result<(), Allo
     Ok(())
 }
 
-/// One more name of a type, before those that were there.
+/// One more name of a type, among those that were there.
 pub fn add_name(env: &mut Env, name: Vec<u8>, ty: Ty) -> Result<(), AllocError>
     ensures { OnOk result (ctx_of env.new ≡ with_type (ctx_of env.old) name.items (typ_of ty)) }
 {
-    env.types.insert(0, TypeName { name, ty })?;
+    env.types.add(name, ty)?;
     Ok(())
 }
 

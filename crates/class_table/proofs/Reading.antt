@@ -9,7 +9,7 @@ use Rattle.elab_expr.specs.elab_ctx.Steps.{and_then}
 use Rattle.elab_expr.specs.elab_rules.Statements.{State, Lambdas}
 use Rattle.elab_expr.specs.elab_rules.Functions.{text_sized}
 use Rattle.elab_expr.specs.elab_rules.Classes.{Home, Members, Begun, begun, members_of, completed, closed_class, class_text}
-use Rattle.elab_expr.specs.elab_rules.Members.{base_named, has_final, members_among, all_early, all_late, class_defined, class_with, class_closed}
+use Rattle.elab_expr.specs.elab_rules.Members.{base_named, has_final, members_among, all_defaults, all_late, class_defined, class_with, class_closed}
 use Rattle.class_table.specs.Written.{ClassRead, class_read, read_members, read_closed, class_stood}
 
 pub both_steps : {A B C : Type 0} (x : Result A ElabFault) (f : A → Result B ElabFault) (g : B → Result C ElabFault) → and_then (and_then x f) g ≡ and_then x (λ a. and_then (f a) g)
@@ -20,9 +20,9 @@ pub same_then : {A B : Type 0} (x : Result A ElabFault) (f g : A → Result B El
 same_then (Ok a) f g h = h a
 same_then (Err e) f g h = refl
 
--- what stands in the bodies and initialisers of its members
+-- the initialisers of its members, and then their bodies
 abbrev pub behind_brace : Lambdas → List Lexeme → Trees → ClassRead → Result State ElabFault
-behind_brace lams s members x = and_then (all_early lams s x.home.number x.state members) (λ (st : State). all_late lams s x.home.number x.home.name st members)
+behind_brace lams s members x = and_then (all_defaults lams s x.home.number x.state members) (λ (st : State). all_late lams s x.home.number x.home.name st members)
 
 closed_is : (lams : Lambdas) (s : List Lexeme) (home : Home) (at : At) (r : Members) (members : Trees) → class_closed lams s home at r members ≡ and_then (read_closed at home r) (behind_brace lams s members)
 closed_is lams s home at r members = sym (both_steps (closed_class at home.number (completed r.state.ctx home at r.members r.initialised)) (λ (c : Ctx). Ok (class_stood (record r.state { ctx = c }) home)) (behind_brace lams s members))

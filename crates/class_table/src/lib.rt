@@ -5,7 +5,7 @@
 //! class_members; `marks_from`, `has_initialiser`, `has_equal`, `started_from`, `text_between`, `definition_between`,
 //! `body_in`, `last_token`, `class_text`, `member_named`, `within_bounds`, `header_in` and `special_header` in class_texts;
 //! `method_of` in `methods`; `member_of` and `members_of` in `member_walk`. Of `Members`: `declared_only`, `has_final`,
-//! `base_named`, `members_among`, and `class_defined` up to the completed class, in `class_walk`. Not here: `all_early`,
+//! `base_named`, `members_among`, and `class_defined` up to the completed class, in `class_walk`. Not here: `all_defaults`,
 //! `all_late` and `member_defined`, which go over bodies and initialisers.
 #![tactic(auto)]
 

@@ -51,7 +51,7 @@ pub use elab_forms::below::This;
 pub use elab_forms::below::Tokens;
 pub use elab_forms::below::Traits;
 pub use elab_forms::below::Ty;
-pub use elab_forms::below::TypeName;
+pub use elab_forms::below::TypeNames;
 pub use elab_forms::below::Unit;
 pub use elab_forms::below::UnitTree;
 pub use elab_forms::below::Variable;

@@ -6,7 +6,7 @@ pub use elab_rules::below::{
     IllRule, InitCell, IntKind, Label, Labels, Lambda, LimitKind, Linkage, MemberRec, NameFault,
     NoBest, Node, NodeId, NodeKind, Nodes, Operand, OverrideRule, Program, Returns, Scopes, Shape,
     SizeAlign, SlotRec, Special, TFunc, TGlobal, TKind, TNode, TNodeId, TParam, This, Token,
-    Tokens, Traits, Ty, TypeName, Unit, UnitTree, Variable, Work, add_binary, add_item, add_leaf,
+    Tokens, Traits, Ty, TypeNames, Unit, UnitTree, Variable, Work, add_binary, add_item, add_leaf,
     add_node, add_unary, choose, class_at, completion, conversion_between, convert, copy,
     copy_function, cpp_lex_int_type, equal_kinds, equal_shapes, equal_types, extent, function_at,
     has_pointer, held_class, kids_at, node_at, offset, promote, size_align, size_of,

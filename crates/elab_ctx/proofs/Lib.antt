@@ -4,3 +4,4 @@ pub use Rattle.cpp_tree.proofs.cpp_types as cpp_types
 pub mod Looks
 pub mod Making
 pub mod Sizes
+pub mod TypeEntries

@@ -5,13 +5,13 @@ use Rattle.cpp_tree.specs.cpp_types.Class.{Class, Function, classes_of, function
 use Rattle.cpp_tree.specs.cpp_types.declared.classes.At.{At}
 use Rattle.cpp_names.specs.Names.{Names, with_name}
 use Rattle.cpp_names.specs.declared.entity.Entity.{Entity}
+use Rattle.elab_ctx.specs.Types.{Named, named_of}
 use Rattle.cpp_tree.specs.declared.kinds.Builtin.{Builtin}
 use Rattle.cpp_tree.specs.declared.program.FuncKind.{FuncKind}
 use Rattle.cpp_tree.specs.declared.program.Linkage.{Linkage}
 use Rattle.cpp_tree.specs.Trees.{Tree}
 use Rattle.cpp_tree.specs.Arena.{tree_at, trees_of}
 use Rattle.cpp_tree.specs.Units.{Param, param_of, Global, global_of, SlotFunc, slot_of}
-use Rattle.elab_ctx.specs.declared.env.TypeName.{TypeName}
 use Rattle.elab_ctx.specs.declared.env.FuncDecl.{FuncDecl}
 use Rattle.elab_ctx.specs.declared.env.EnumRec.{EnumRec}
 use Rattle.elab_ctx.specs.declared.env.DefaultInit.{DefaultInit}
@@ -29,11 +29,6 @@ use Rattle.elab_ctx.specs.declared.env.Lambda.{Lambda as LambdaRec}
 use Rattle.elab_ctx.specs.declared.env.Closure.{Closure as ClosureRec}
 use Rattle.elab_ctx.specs.declared.env.Env.{Env}
 use Rattle.elab_ctx.specs.declared.env.Work.{Work as WorkRec}
-
--- a name of a type
-pub record Named : Type 0 where
-  pub name : List ℕ
-  pub typ : Typ
 
 -- a function of the unit; a member function has a class
 pub record Func : Type 0 where
@@ -122,6 +117,7 @@ pub record Ctx : Type 0 where
   pub source : ℕ
   -- the enclosing scopes, the innermost first
   pub scopes : List Names
+  -- the names of types, in the order of their declaration
   pub types : List Named
   pub classes : List Class
   -- of each class what holds of it once it is complete, and its final overriders
@@ -148,9 +144,6 @@ pub record Work : Type 0 where
   pub globals : List Global
 
 -- What the records of the code show
-
-abbrev pub named_of : TypeName → Named
-named_of n = record { name = n.name.items; typ = typ_of n.ty }
 
 abbrev pub func_of : FuncDecl → Func
 func_of f = record { declared = function_of f.rec; kind = f.kind; class = f.class; linkage = f.linkage; implicit = f.implicit; is_defined = f.is_defined; builtin = f.builtin; params = map param_of f.params.items; text = f.text.items; closed_at = f.closed_at }
@@ -192,7 +185,7 @@ abbrev pub closure_of : ClosureRec → Closure
 closure_of c = record { at = c.at; class = c.class; captures = map capture_of c.captures.items }
 
 abbrev pub ctx_of : Env → Ctx
-ctx_of e = record { source = e.source; scopes = e.scopes; types = map named_of e.types.items; classes = classes_of e.classes.items; traits = map traits_of e.traits.items; slots = map (λ slots. map slot_of slots.items) e.slots.items; defaults = map (default_of (trees_of e.default_nodes.items)) e.defaults.items; funcs = map func_of e.funcs.items; enumerators = map enumerator_of e.enumerators.items; variables = map variable_of e.variables.items; this = option_map this_of e.this; class = e.class; returns = returns_of e.returns; breaks = e.breaks; continues = e.continues; label = e.label; labels = labels_of e.labels; lambda = option_map lambda_of e.lambda; closures = map closure_of e.closures.items }
+ctx_of e = record { source = e.source; scopes = e.scopes; types = map named_of e.types; classes = classes_of e.classes.items; traits = map traits_of e.traits.items; slots = map (λ slots. map slot_of slots.items) e.slots.items; defaults = map (default_of (trees_of e.default_nodes.items)) e.defaults.items; funcs = map func_of e.funcs.items; enumerators = map enumerator_of e.enumerators.items; variables = map variable_of e.variables.items; this = option_map this_of e.this; class = e.class; returns = returns_of e.returns; breaks = e.breaks; continues = e.continues; label = e.label; labels = labels_of e.labels; lambda = option_map lambda_of e.lambda; closures = map closure_of e.closures.items }
 
 abbrev pub work_of : WorkRec → Work
 work_of w = record { frame = map typ_of w.frame.items; globals = map global_of w.globals.items }

@@ -11,3 +11,4 @@ pub mod Operands
 pub mod Says
 pub mod Sized
 pub mod Steps
+pub mod Types

@@ -4,16 +4,10 @@ ghost use Rattle.std.specs.Prelude.{◌≡◌, true};
 ghost use Rattle.cpp_tree.specs.cpp_types.Class.{classes_of};
 ghost use Rattle.cpp_tree.specs.cpp_types.Order.{all_consistent};
 
+use crate::type_names::TypeNames;
 use cpp_names::Scopes;
 use cpp_tree::below::{At, ClassRec, FuncRec, Ty};
 use cpp_tree::{Builtin, FuncKind, Linkage, SlotRec, TGlobal, TNode, TNodeId, TParam};
-
-/// A name of a type: of a class, an enum or an alias (C++14 7.1.3, 9.1).
-#[derive(Drop)]
-pub struct TypeName {
-    pub name: Vec<u8>,
-    pub ty: Ty,
-}
 
 /// A function of the unit, a member function too.
 #[derive(Drop)]
@@ -166,7 +160,7 @@ pub struct Closure {
 pub struct Env {
     pub source: u32,
     pub scopes: Scopes,
-    pub types: Vec<TypeName>,
+    pub types: TypeNames,
     pub classes: Vec<ClassRec>,
     /// For each class what holds of it once it is complete.
     pub traits: Vec<Traits>,

@@ -6,13 +6,15 @@ pub mod env;
 pub mod lookups;
 pub mod nodes;
 pub mod operand;
+pub mod type_names;
 pub mod work;
 
 pub use env::{
     Capture, Closure, DefaultInit, EnumRec, Env, FuncDecl, Label, Labels, Lambda, Returns, Special,
-    This, Traits, TypeName, Variable, Work,
+    This, Traits, Variable, Work,
 };
 pub use lookups::{class_at, completion, extent, function_at, size_of, traits_of_class};
 pub use nodes::{kids_at, node_at};
 pub use operand::Operand;
+pub use type_names::TypeNames;
 pub use work::add_item;

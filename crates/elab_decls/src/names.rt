@@ -19,8 +19,8 @@ ghost use Rattle.elab_decls.specs.Says.{changed, counted, declared_as, is_fresh_
 use crate::declarations::declare;
 use cpp_types::{At, Shape, Ty, copy, equal_types};
 use elab_expr::below::{
-    ElabFault, Entity, EntityKind, EnumRec, Env, IllRule, IntKind, TypeName, has_auto, ill,
-    type_named, word_of,
+    ElabFault, Entity, EntityKind, EnumRec, Env, IllRule, IntKind, has_auto, ill, type_named,
+    word_of,
 };
 use elab_sizes::typ_sized;
 use std::alloc::{AllocError, Global};
@@ -38,13 +38,13 @@ fn type_agrees(env: &Env, at: At, name: &[u8], ty: &Ty) -> Result<bool, ElabFaul
     Ok(true)
 }
 
-/// A name of a type, in front of those that are known.
+/// A name of a type, among those that are known.
 pub fn with_type(alloc: Global, env: &mut Env, name: &[u8], ty: &Ty) -> Result<(), AllocError>
     ensures { OnOk result (ctx_of env.new ≡ with_type_of (ctx_of env.old) name.now (typ_of ty.now)) }
 {
     let name = Vec::from_slice(alloc, name)?;
     let ty = copy(alloc, ty)?;
-    env.types.insert(0, TypeName { name, ty })?;
+    env.types.add(name, ty)?;
     Ok(())
 }
 

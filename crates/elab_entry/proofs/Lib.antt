@@ -6,7 +6,6 @@ pub use Rattle.elab_stmt.proofs.elab_make as elab_make
 pub use Rattle.elab_stmt.proofs.elab_scopes as elab_scopes
 pub use Rattle.elab_stmt.proofs.elab_types as elab_types
 pub mod Copies
-pub mod Cutting
 pub mod Endings
 pub mod Entering
 pub mod Frames

@@ -13,4 +13,3 @@ pub mod Ends
 pub mod Parameters
 pub mod Round
 pub mod Says
-pub mod Undone

@@ -8,11 +8,9 @@ pub mod copying;
 pub mod ends;
 pub mod items;
 pub mod parameters;
-pub mod undoing;
 
 pub use around::{Around, Inside, enter_function, enter_lambda, leave_function};
 pub use bodies::{body_made, function_body};
 pub use copying::copy_tree;
 pub use ends::end_of;
 pub use parameters::with_parameters;
-pub use undoing::{Checkpoint, checkpoint_here, undo};

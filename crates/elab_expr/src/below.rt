@@ -53,7 +53,7 @@ pub use elab_rows::below::This;
 pub use elab_rows::below::Tokens;
 pub use elab_rows::below::Traits;
 pub use elab_rows::below::Ty;
-pub use elab_rows::below::TypeName;
+pub use elab_rows::below::TypeNames;
 pub use elab_rows::below::Unit;
 pub use elab_rows::below::UnitTree;
 pub use elab_rows::below::Variable;

@@ -51,7 +51,7 @@ pub use elab_make::below::This;
 pub use elab_make::below::Tokens;
 pub use elab_make::below::Traits;
 pub use elab_make::below::Ty;
-pub use elab_make::below::TypeName;
+pub use elab_make::below::TypeNames;
 pub use elab_make::below::Unit;
 pub use elab_make::below::UnitTree;
 pub use elab_make::below::Variable;

@@ -8,7 +8,7 @@ pub use elab_conv::below::{
     Entity, EntityKind, EnumRec, Env, FuncDecl, FuncKind, IllRule, InitCell, IntKind, Label,
     Labels, Lambda, LimitKind, Linkage, NameFault, Node, NodeId, NodeKind, Nodes, Operand,
     OverrideRule, Program, Returns, Scopes, SlotRec, Special, TFunc, TGlobal, TKind, TNode,
-    TNodeId, TParam, This, Token, Tokens, Traits, TypeName, Unit, UnitTree, Variable, Work,
+    TNodeId, TParam, This, Token, Tokens, Traits, TypeNames, Unit, UnitTree, Variable, Work,
     add_binary, add_item, add_leaf, add_node, add_unary, class_at, completion, convert,
     cpp_lex_int_type, extent, function_at, has_pointer, kids_at, node_at, promote, size_align,
     size_of, traits_of_class, usual, value_of_word, word_of,

@@ -9,7 +9,8 @@ use Rattle.elab_rules.specs.cpp_ast.Trees as syntax
 use Rattle.elab_rules.specs.cpp_tree.declared.kinds.TKind.TheVariants as forms
 use Rattle.elab_rules.specs.cpp_tree.declared.faults.IllRule.TheVariants.{Incomplete}
 use Rattle.elab_rules.specs.cpp_tree.Trees.{Tree}
-use Rattle.elab_rules.specs.elab_ctx.Ctx.{Named, Default, Enumerator, Variable, Closure}
+use Rattle.elab_rules.specs.elab_ctx.Ctx.{Default, Enumerator, Variable, Closure}
+use Rattle.elab_rules.specs.elab_ctx.Types.{Named}
 use Rattle.elab_rules.specs.elab_ctx.Steps.{and_then, check, at_of}
 use Rattle.elab_rules.specs.Objects.{followed_by}
 use Rattle.elab_rules.specs.Initialising.{signature_result}

@@ -6,7 +6,8 @@ use Rattle.elab_rules.specs.cpp_names.Names.{Names}
 use Rattle.elab_rules.specs.cpp_types.Class.{Class}
 use Rattle.elab_rules.specs.cpp_tree.Units.{Global, SlotFunc}
 use Rattle.elab_rules.specs.cpp_tree.declared.faults.ElabFault.{ElabFault}
-use Rattle.elab_rules.specs.elab_ctx.Ctx.{Named, Traits, Default, Func, Enumerator, Variable}
+use Rattle.elab_rules.specs.elab_ctx.Ctx.{Traits, Default, Func, Enumerator, Variable}
+use Rattle.elab_rules.specs.elab_ctx.Types.{Named}
 use Rattle.elab_rules.specs.Statements.{Body, State, Lambdas}
 
 -- the second list begins with the first

@@ -62,7 +62,7 @@ pub use elab_scopes::below::This;
 pub use elab_scopes::below::Tokens;
 pub use elab_scopes::below::Traits;
 pub use elab_scopes::below::Ty;
-pub use elab_scopes::below::TypeName;
+pub use elab_scopes::below::TypeNames;
 pub use elab_scopes::below::Unit;
 pub use elab_scopes::below::UnitTree;
 pub use elab_scopes::below::Variable;

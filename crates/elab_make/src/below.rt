@@ -54,7 +54,7 @@ pub use elab_init::below::This;
 pub use elab_init::below::Tokens;
 pub use elab_init::below::Traits;
 pub use elab_init::below::Ty;
-pub use elab_init::below::TypeName;
+pub use elab_init::below::TypeNames;
 pub use elab_init::below::Unit;
 pub use elab_init::below::UnitTree;
 pub use elab_init::below::Variable;

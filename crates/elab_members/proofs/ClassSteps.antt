@@ -23,10 +23,10 @@ use Rattle.class_members.specs.Shown.{home_of}
 use Rattle.class_members.specs.declared.records.Home.{Home as HomeRec}
 use Rattle.class_table.specs.Written.{ClassRead, class_read, class_stood}
 use Rattle.elab_members.specs.Bodies.{method_body}
-use Rattle.elab_members.specs.Initialisers.{all_defaults, Finds}
-use Rattle.elab_members.specs.Whole.{late_with, late_method, late_function, late_kind, late_defaults, late_of, all_late, behind_brace, class_defined, class_initialised, Stood, Stands, Refuses, Defines}
+use Rattle.elab_members.specs.Initialisers.{all_defaults}
+use Rattle.elab_members.specs.Whole.{late_with, late_method, late_function, late_kind, late_of, all_late, behind_brace, class_defined, Stood, Stands}
 use Rattle.elab_members.proofs.ObjectBodies.{same_trees, state_fails}
-use Rattle.elab_members.proofs.FoundFaults.{changes_so}
+use Rattle.elab_members.proofs.DeclarationSteps.{changed_so, changes_so}
 
 -- A class that is only declared
 
@@ -59,11 +59,11 @@ late_bodiless lams s a n name those at kind kids m q e f = record { grown = grow
 pub late_unknown : (lams : Lambdas) (s : List Lexeme) (st : State) (n : ℕ) (name those : List ℕ) (at : At) (kind : FuncKind) (kids : syntax.Trees) (e : ElabFault) → those ≡ name → Faults e (method_of s st n those at kind kids) → Faults e (late_function lams s st n name at kind kids)
 late_unknown lams s st n name those at kind kids e q f = state_fails e (method_of s st n name at kind kids) (λ (y : Method). late_method lams s st n kind y (body_in kids)) (subst (λ (z : List ℕ). Faults e (method_of s st n z at kind kids)) q f)
 
-abbrev late_by : Lambdas → List Lexeme → ℕ → List ℕ → State → syntax.Tree → SyntaxAt → syntax.Trees → Option FuncKind → Result State ElabFault
-late_by lams s n name st tree p kids (Some kind) = late_function lams s st n name (at_of p) kind kids
-late_by lams s n name st tree p kids None = late_defaults lams s n st tree
+abbrev late_by : Lambdas → List Lexeme → ℕ → List ℕ → State → SyntaxAt → syntax.Trees → Option FuncKind → Result State ElabFault
+late_by lams s n name st p kids (Some kind) = late_function lams s st n name (at_of p) kind kids
+late_by lams s n name st p kids None = Ok st
 
-late_is : (lams : Lambdas) (s : List Lexeme) (n : ℕ) (name : List ℕ) (st : State) (kind : NodeKind) (p : SyntaxAt) (token : Option ℕ) (kids : syntax.Trees) → late_of lams s n name st (syntax.node kind p token kids) ≡ late_by lams s n name st (syntax.node kind p token kids) p kids (late_kind kind)
+late_is : (lams : Lambdas) (s : List Lexeme) (n : ℕ) (name : List ℕ) (st : State) (kind : NodeKind) (p : SyntaxAt) (token : Option ℕ) (kids : syntax.Trees) → late_of lams s n name st (syntax.node kind p token kids) ≡ late_by lams s n name st p kids (late_kind kind)
 late_is lams s n name st k.FunctionDefinition p token kids = refl
 late_is lams s n name st k.ConstructorDefinition p token kids = refl
 late_is lams s n name st k.DestructorDefinition p token kids = refl
@@ -72,44 +72,32 @@ late_is lams s n name st kind p token kids = refl
 pub late_some : (lams : Lambdas) (s : List Lexeme) (a c : StateRec) (n : ℕ) (name : List ℕ) (tree : syntax.Tree) (kind : NodeKind) (p : SyntaxAt) (token : Option ℕ) (kids those : syntax.Trees) (o : Option FuncKind) (f : FuncKind) (at : At) (r : Result (Unit {0}) ElabFault) → tree ≡ syntax.node kind p token kids → o ≡ late_kind kind → o ≡ Some f → at ≡ at_of p → those ≡ kids_of tree → Changes a c r (late_function lams s (state_of a) n name at f those) → Changes a c r (late_of lams s n name (state_of a) tree)
 late_some lams s a c n name tree kind p token kids those o f at r e g h q t m =
     let same : those ≡ kids = t ∙ ap kids_of e in
-    changes_so a c r _ _ (ap (late_of lams s n name (state_of a)) e ∙ late_is lams s n name (state_of a) kind p token kids ∙ ap (late_by lams s n name (state_of a) (syntax.node kind p token kids) p kids) (sym g ∙ h) ∙ ap (λ (z : At). late_function lams s (state_of a) n name z f kids) (sym q) ∙ ap (late_function lams s (state_of a) n name at f) (sym same)) m
+    changes_so a c r _ _ (ap (late_of lams s n name (state_of a)) e ∙ late_is lams s n name (state_of a) kind p token kids ∙ ap (late_by lams s n name (state_of a) p kids) (sym g ∙ h) ∙ ap (λ (z : At). late_function lams s (state_of a) n name z f kids) (sym q) ∙ ap (late_function lams s (state_of a) n name at f) (sym same)) m
 
-pub late_other : (lams : Lambdas) (s : List Lexeme) (a c : StateRec) (n : ℕ) (name : List ℕ) (tree : syntax.Tree) (kind : NodeKind) (p : SyntaxAt) (token : Option ℕ) (kids : syntax.Trees) (o : Option FuncKind) (r : Result (Unit {0}) ElabFault) → tree ≡ syntax.node kind p token kids → o ≡ late_kind kind → o ≡ None → Changes a c r (late_defaults lams s n (state_of a) tree) → Changes a c r (late_of lams s n name (state_of a) tree)
-late_other lams s a c n name tree kind p token kids o r e g h m = changes_so a c r _ _ (ap (late_of lams s n name (state_of a)) e ∙ late_is lams s n name (state_of a) kind p token kids ∙ ap (late_by lams s n name (state_of a) (syntax.node kind p token kids) p kids) (sym g ∙ h) ∙ ap (late_defaults lams s n (state_of a)) (sym e)) m
+pub late_other : (lams : Lambdas) (s : List Lexeme) (a : StateRec) (n : ℕ) (name : List ℕ) (tree : syntax.Tree) (kind : NodeKind) (p : SyntaxAt) (token : Option ℕ) (kids : syntax.Trees) (o : Option FuncKind) → tree ≡ syntax.node kind p token kids → o ≡ late_kind kind → o ≡ None → Changed a a (late_of lams s n name (state_of a) tree)
+late_other lams s a n name tree kind p token kids o e g h = changed_so a _ (ap (late_of lams s n name (state_of a)) e ∙ late_is lams s n name (state_of a) kind p token kids ∙ ap (late_by lams s n name (state_of a) p kids) (sym g ∙ h))
 
 -- The class
 
-pub refuses_so : (e : ElabFault) (y x : Result State ElabFault) → Faults e x → Refuses e y x
-refuses_so e (Ok st) x f = f
-refuses_so e (Err d) x f = tt
-
-pub refuses_found : (e f : ElabFault) (y x : Result State ElabFault) → y ≡ Err f → Refuses e y x
-refuses_found e f y x h = subst (λ (z : Result State ElabFault). Refuses e z x) (sym h) tt
-
-pub defines_fail : (a c : StateRec) (r : Result (Unit {0}) ElabFault) (e : ElabFault) (y x : Result State ElabFault) → r ≡ Err e → Refuses e y x → Defines a c r y x
-defines_fail a c r e y x h f = subst (λ (z : Result (Unit {0}) ElabFault). Defines a c z y x) (sym h) f
-
 module _ (lams : Lambdas) (s : List Lexeme) (a b : StateRec) (at : At) (name : List ℕ) (kids members : syntax.Trees) (h : HomeRec) (read : class_read s (state_of a) at name kids ≡ Ok (class_stood (state_of b) (home_of h))) (same : members ≡ members_among kids) where
-  initialised_is : class_initialised lams s (state_of a) at name kids ≡ all_defaults lams s h.number (state_of b) members
-  initialised_is = ap (λ (z : Result ClassRead ElabFault). and_then z (λ (x : ClassRead). all_defaults lams s x.home.number x.state (members_among kids))) read ∙ ap (all_defaults lams s h.number (state_of b)) (sym same)
-
   defined_is : class_defined lams s (state_of a) at name kids ≡ and_then (all_defaults lams s h.number (state_of b) members) (λ (st : State). all_late lams s h.number h.name.items st members)
   defined_is = ap (λ (z : Result ClassRead ElabFault). and_then z (behind_brace lams s (members_among kids))) read ∙ ap (λ (z : syntax.Trees). behind_brace lams s z (class_stood (state_of b) (home_of h))) (sym same)
 
-  pub class_done : (c d : StateRec) (o : Option ElabFault) → made b ≡ made a → Finds b c o (all_defaults lams s h.number (state_of b) members) → o ≡ None → Changed c d (all_late lams s h.number h.name.items (state_of c) members) → Stood a d (class_defined lams s (state_of a) at name kids)
-  class_done c d o t m e n =
-      let first : Changed b c (all_defaults lams s h.number (state_of b) members) = subst (λ (z : Option ElabFault). Finds b c z (all_defaults lams s h.number (state_of b) members)) e m in
-      record {
-        trees = grows_trans (same_trees (made a) (made b) t) (grows_trans first.grown.trees n.grown.trees);
-        is = defined_is ∙ ap (λ (z : Result State ElabFault). and_then z (λ (st : State). all_late lams s h.number h.name.items st members)) first.is ∙ n.is;
-      }
+  -- where the initialisers are well, what the bodies say
+  bodies_are : (c : StateRec) → Changed b c (all_defaults lams s h.number (state_of b) members) → class_defined lams s (state_of a) at name kids ≡ all_late lams s h.number h.name.items (state_of c) members
+  bodies_are c m = defined_is ∙ ap (λ (z : Result State ElabFault). and_then z (λ (st : State). all_late lams s h.number h.name.items st members)) m.is
 
-  pub class_found : (c : StateRec) (o : Option ElabFault) (f e : ElabFault) → Finds b c o (all_defaults lams s h.number (state_of b) members) → o ≡ Some f → Refuses e (class_initialised lams s (state_of a) at name kids) (class_defined lams s (state_of a) at name kids)
-  class_found c o f e m h2 = refuses_found e f _ _ (initialised_is ∙ subst (λ (z : Option ElabFault). Finds b c z (all_defaults lams s h.number (state_of b) members)) h2 m)
+  pub class_done : (c d : StateRec) → made b ≡ made a → Changed b c (all_defaults lams s h.number (state_of b) members) → Changed c d (all_late lams s h.number h.name.items (state_of c) members) → Stood a d (class_defined lams s (state_of a) at name kids)
+  class_done c d t m n = record {
+    trees = grows_trans (same_trees (made a) (made b) t) (grows_trans m.grown.trees n.grown.trees);
+    is = bodies_are c m ∙ n.is;
+  }
 
-  pub class_refused : (c : StateRec) (o : Option ElabFault) (e : ElabFault) → Finds b c o (all_defaults lams s h.number (state_of b) members) → Faults e (all_late lams s h.number h.name.items (state_of c) members) → Refuses e (class_initialised lams s (state_of a) at name kids) (class_defined lams s (state_of a) at name kids)
-  class_refused c (Some f) e m n = class_found c (Some f) f e m refl
-  class_refused c None e m n = refuses_so e _ _ (subst (Faults e) (sym (defined_is ∙ ap (λ (z : Result State ElabFault). and_then z (λ (st : State). all_late lams s h.number h.name.items st members)) m.is)) n)
+  pub class_unmade : (e : ElabFault) → Faults e (all_defaults lams s h.number (state_of b) members) → Faults e (class_defined lams s (state_of a) at name kids)
+  class_unmade e f = subst (Faults e) (sym defined_is) (state_fails e (all_defaults lams s h.number (state_of b) members) (λ (st : State). all_late lams s h.number h.name.items st members) f)
 
-pub class_unread : (lams : Lambdas) (s : List Lexeme) (st : State) (at : At) (name : List ℕ) (kids : syntax.Trees) (e : ElabFault) → Faults e (class_read s st at name kids) → Refuses e (class_initialised lams s st at name kids) (class_defined lams s st at name kids)
-class_unread lams s st at name kids e f = refuses_so e _ _ (state_fails e (class_read s st at name kids) (behind_brace lams s (members_among kids)) f)
+  pub class_refused : (c : StateRec) (e : ElabFault) → Changed b c (all_defaults lams s h.number (state_of b) members) → Faults e (all_late lams s h.number h.name.items (state_of c) members) → Faults e (class_defined lams s (state_of a) at name kids)
+  class_refused c e m f = subst (Faults e) (sym (bodies_are c m)) f
+
+pub class_unread : (lams : Lambdas) (s : List Lexeme) (st : State) (at : At) (name : List ℕ) (kids : syntax.Trees) (e : ElabFault) → Faults e (class_read s st at name kids) → Faults e (class_defined lams s st at name kids)
+class_unread lams s st at name kids e f = state_fails e (class_read s st at name kids) (behind_brace lams s (members_among kids)) f

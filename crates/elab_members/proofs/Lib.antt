@@ -1,5 +1,5 @@
 pub mod ClassSteps
-pub mod FoundFaults
+pub mod DeclarationSteps
 pub mod GivenSteps
 pub mod InitialiserSteps
 pub mod ObjectBodies

@@ -39,7 +39,7 @@ use Rattle.class_table.proofs.Reading.{both_steps, same_then}
 use Rattle.elab_members.specs.Bodies.{method_body}
 use Rattle.elab_members.specs.Outside.{inline_at, outside_plain, outside_special, outside_declared, outside_body, outside_with, outside_started, member_defined}
 use Rattle.elab_members.proofs.ObjectBodies.{then_fails, same_trees, state_fails}
-use Rattle.elab_members.proofs.FoundFaults.{changes_so}
+use Rattle.elab_members.proofs.DeclarationSteps.{changes_so}
 
 pub says_refused : {A B : Type 0} (show : A → B) (r : Result A ElabFault) (e : ElabFault) (x : Result B ElabFault) → r ≡ Err e → Faults e x → Says show r x
 says_refused show r e x h f = subst (λ z. Says show z x) (sym h) f

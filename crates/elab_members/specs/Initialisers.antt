@@ -1,5 +1,5 @@
--- Initialisers of members in the class, as the code makes them: with `left_by` of elab_entry where elab_rules says `leaving`, and read again for their faults with what that made cut away.
-use Rattle.std.specs.Prelude.{◌≡◌, ℕ, nat_lt, Bool, true, false, List, ◌∷◌, [], ◌++◌, length, take, drop, Option, Some, None, Result, Ok, Err, slice_get}
+-- Initialisers of members in the class, as the code makes them: with `left_by` of elab_entry where elab_rules says `leaving`.
+use Rattle.std.specs.Prelude.{ℕ, nat_lt, Bool, true, false, List, ◌∷◌, [], ◌++◌, drop, Option, Some, None, Result, Ok, slice_get}
 use Rattle.std.specs.List.{list_all}
 use Rattle.elab_entry.specs.cpp_types.Typ.{Typ}
 use Rattle.elab_entry.specs.cpp_lex.Tokens.{Lexeme}
@@ -7,7 +7,6 @@ use Rattle.elab_entry.specs.cpp_ast.Trees as syntax
 use Rattle.elab_entry.specs.cpp_ast.declared.kinds.NodeKind.{NodeKind}
 use Rattle.elab_entry.specs.cpp_ast.declared.kinds.NodeKind.TheVariants as k
 use Rattle.elab_entry.specs.cpp_tree.declared.faults.ElabFault.{ElabFault}
-use Rattle.elab_entry.specs.cpp_tree.declared.faults.ElabFault.TheVariants.{Memory}
 use Rattle.elab_entry.specs.cpp_tree.Trees.{Tree, one}
 use Rattle.elab_entry.specs.elab_ctx.Ctx.{Ctx}
 use Rattle.elab_entry.specs.elab_ctx.declared.env.DefaultInit.{DefaultInit}
@@ -17,8 +16,6 @@ use Rattle.elab_entry.specs.elab_rules.Lambdas.{kids_of}
 use Rattle.elab_entry.specs.elab_rules.Braces.{is_char_array, string_token, syntax_place}
 use Rattle.elab_entry.specs.elab_rules.Statements.{State, Done, done, Full, Lambdas, full, with_work, full_operand, copy_initialised}
 use Rattle.elab_entry.specs.elab_rules.Members.{default_value, first_tree, initialiser_in, member_index, member_type}
-use Rattle.elab_entry.specs.elab_scopes.declared.state.State.{State as StateRec}
-use Rattle.elab_entry.specs.elab_scopes.Says.{Changed}
 use Rattle.elab_entry.specs.Round.{round_function, left_by}
 use Rattle.elab_implicit.specs.Implied.{in_object}
 
@@ -96,34 +93,8 @@ defaults_of lams s n st t = Ok st
 abbrev pub all_defaults : Lambdas → List Lexeme → ℕ → State → syntax.Trees → Result State ElabFault
 all_defaults lams s n = each_of (defaults_of lams s n)
 
--- the initialisers were made, or the first fault of one was found
-abbrev pub Finds : StateRec → StateRec → Option ElabFault → Result State ElabFault → Type 0
-Finds old new None x = Changed old new x
-Finds old new (Some e) x = x ≡ Err e
-
-abbrev pub is_memory : ElabFault → Bool
-is_memory Memory = true
-is_memory e = false
-
--- the first of two faults
-abbrev pub first_fault : Option ElabFault → Option ElabFault → Option ElabFault
-first_fault (Some e) o = Some e
-first_fault None o = o
-
 -- What stands in the list of the code
 
 -- each initialiser is one of the first nodes
 abbrev pub are_known : ℕ → List DefaultInit → Bool
 are_known n ds = list_all (λ (d : DefaultInit). nat_lt d.init.0 n) ds
-
--- What is read again for its faults: only so much is left as there was before, and no lambdas of the full-expression at hand
-
-abbrev pub cut_back : State → State → State
-cut_back before st = record {
-  ctx = record st.ctx { classes = take (length before.ctx.classes) st.ctx.classes; traits = take (length before.ctx.traits) st.ctx.traits; slots = take (length before.ctx.slots) st.ctx.slots; defaults = take (length before.ctx.defaults) st.ctx.defaults; funcs = take (length before.ctx.funcs) st.ctx.funcs; closures = [] };
-  work = record st.work { globals = take (length before.work.globals) st.work.globals };
-  bodies = take (length before.bodies) st.bodies;
-}
-
-abbrev pub read_again : State → Result State ElabFault → Result State ElabFault
-read_again st r = and_then r (λ (x : State). Ok (cut_back st x))

@@ -18,7 +18,7 @@ use Rattle.elab_entry.specs.elab_scopes.declared.state.State.{State as StateRec}
 use Rattle.elab_entry.specs.elab_scopes.States.{state_of, made}
 use Rattle.class_table.specs.Written.{ClassRead, class_read}
 use Rattle.elab_members.specs.Bodies.{method_body}
-use Rattle.elab_members.specs.Initialisers.{defaults_of, all_defaults, read_again}
+use Rattle.elab_members.specs.Initialisers.{all_defaults}
 
 -- Behind the brace, in the order of the text
 
@@ -33,10 +33,6 @@ late_method lams s st n kind m None = Ok st
 abbrev pub late_function : Lambdas → List Lexeme → State → ℕ → List ℕ → At → FuncKind → syntax.Trees → Result State ElabFault
 late_function lams s st n name at kind kids = and_then (method_of s st n name at kind kids) (λ (m : Method). late_method lams s st n kind m (body_in kids))
 
--- of an initialiser, which was made before, only its fault counts
-abbrev pub late_defaults : Lambdas → List Lexeme → ℕ → State → syntax.Tree → Result State ElabFault
-late_defaults lams s n st t = read_again st (defaults_of lams s n st t)
-
 -- which function a node defines, if it defines one
 abbrev pub late_kind : NodeKind → Option FuncKind
 late_kind k.FunctionDefinition = Some Plain
@@ -44,28 +40,24 @@ late_kind k.ConstructorDefinition = Some Constructor
 late_kind k.DestructorDefinition = Some Destructor
 late_kind kind = None
 
--- a member's body or initialiser
+-- a member's body, if it has one
 abbrev pub late_of : Lambdas → List Lexeme → ℕ → List ℕ → State → syntax.Tree → Result State ElabFault
 late_of lams s n name st (syntax.node k.FunctionDefinition p token kids) = late_function lams s st n name (at_of p) Plain kids
 late_of lams s n name st (syntax.node k.ConstructorDefinition p token kids) = late_function lams s st n name (at_of p) Constructor kids
 late_of lams s n name st (syntax.node k.DestructorDefinition p token kids) = late_function lams s st n name (at_of p) Destructor kids
-late_of lams s n name st t = late_defaults lams s n st t
+late_of lams s n name st t = Ok st
 
 abbrev pub all_late : Lambdas → List Lexeme → ℕ → List ℕ → State → syntax.Trees → Result State ElabFault
 all_late lams s n name = each_of (late_of lams s n name)
 
 -- The class
 
--- all initialisers of its members, then what stands behind the brace
+-- all initialisers of its members, then their bodies
 abbrev pub behind_brace : Lambdas → List Lexeme → syntax.Trees → ClassRead → Result State ElabFault
 behind_brace lams s members x = and_then (all_defaults lams s x.home.number x.state members) (λ (st : State). all_late lams s x.home.number x.home.name st members)
 
 abbrev pub class_defined : Lambdas → List Lexeme → State → At → List ℕ → syntax.Trees → Result State ElabFault
 class_defined lams s st at name kids = and_then (class_read s st at name kids) (behind_brace lams s (members_among kids))
-
--- the class with all initialisers of its members
-abbrev pub class_initialised : Lambdas → List Lexeme → State → At → List ℕ → syntax.Trees → Result State ElabFault
-class_initialised lams s st at name kids = and_then (class_read s st at name kids) (λ (x : ClassRead). all_defaults lams s x.home.number x.state (members_among kids))
 
 -- the state is what is to be answered, and the trees that were made stay
 pub record Stood (old new : StateRec) (x : Result State ElabFault) : Type 0 where
@@ -75,13 +67,3 @@ pub record Stood (old new : StateRec) (x : Result State ElabFault) : Type 0 wher
 abbrev pub Stands : StateRec → StateRec → Result (Unit {0}) ElabFault → Result State ElabFault → Type 0
 Stands old new (Ok u) x = Stood old new x
 Stands old new (Err e) x = Faults e x
-
--- the fault is the one that is to be answered, where no initialiser of a member has one; which fault is told first of a class in which one has, is left open
-abbrev pub Refuses : ElabFault → Result State ElabFault → Result State ElabFault → Type 0
-Refuses e (Ok st) x = Faults e x
-Refuses e (Err f) x = Unit {0}
-
--- a class that is defined, with its initialisers and as a whole
-abbrev pub Defines : StateRec → StateRec → Result (Unit {0}) ElabFault → Result State ElabFault → Result State ElabFault → Type 0
-Defines old new (Ok u) y x = Stood old new x
-Defines old new (Err e) y x = Refuses e y x

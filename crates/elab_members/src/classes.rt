@@ -6,9 +6,9 @@ ghost use Rattle.elab_entry.specs.cpp_lex.Tokens.{lexemes_of};
 ghost use Rattle.elab_entry.specs.elab_rules.Members.{declared_only};
 ghost use Rattle.elab_entry.specs.elab_types.Syntax.{syntax_of, trees_at};
 ghost use Rattle.elab_entry.specs.elab_scopes.States.{state_of};
-ghost use Rattle.elab_members.specs.Whole.{Stands, Defines, class_initialised, class_defined as class_defined_of};
+ghost use Rattle.elab_members.specs.Whole.{Stands, class_defined as class_defined_of};
 
-use crate::early::all_early;
+use crate::declarations::all_defaults;
 use crate::late::all_late;
 use class_table::{class_read, members_among};
 use elab_implicit::below::{At, ElabFault, MakeLambdas, NodeId, Nodes, State, Tokens};
@@ -22,7 +22,8 @@ pub fn class_declared(alloc: Global, st: &mut State, at: At, name: &[u8]) -> Res
     Ok(())
 }
 
-/// A class that is defined, by the kids of its node.
+/// A class that is defined, by the kids of its node: all initialisers of its members are made before the bodies, which
+/// use them.
 pub fn class_defined<L: MakeLambdas>(
     alloc: Global,
     lams: &L,
@@ -34,15 +35,11 @@ pub fn class_defined<L: MakeLambdas>(
     kids: &[NodeId],
 ) -> Result<(), ElabFault>
     requires { are_below (length nodes.now) kids.now ≡ true }
-    ensures { Defines st.old st.new result (class_initialised (L.lambdas lams.now) (lexemes_of tokens.now) (state_of st.old) at name.now (trees_at (syntax_of nodes.now) kids.now)) (class_defined_of (L.lambdas lams.now) (lexemes_of tokens.now) (state_of st.old) at name.now (trees_at (syntax_of nodes.now) kids.now)) }
+    ensures { Stands st.old st.new result (class_defined_of (L.lambdas lams.now) (lexemes_of tokens.now) (state_of st.old) at name.now (trees_at (syntax_of nodes.now) kids.now)) }
 {
     let home = class_read(alloc, &mut st.env, tokens, nodes, at, name, kids, &st.work)?;
     let members = members_among(nodes, kids);
-    let found = all_early(alloc, lams, tokens, nodes, st, home.number, members)?;
+    all_defaults(alloc, lams, tokens, nodes, st, home.number, members)?;
     all_late(alloc, lams, tokens, nodes, st, &home, members)?;
-    // Of a fault that was found early only one that is not found again in the order of the text is left.
-    match found {
-        Some(fault) => Err(fault),
-        None => Ok(()),
-    }
+    Ok(())
 }

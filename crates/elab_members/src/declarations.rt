@@ -1,25 +1,23 @@
-// The initialisers of a declaration of members, made or read again for their faults.
+// The initialisers of the members of a class, declaration by declaration.
 
-ghost use Rattle.std.specs.Prelude.{◌≡◌, ◌<◌, ◌≤◌, length, take, true, OnOk};
+ghost use Rattle.std.specs.Prelude.{◌≡◌, ◌<◌, length, true};
 ghost use Rattle.elab_entry.specs.cpp_ast.Orders.{are_below};
 ghost use Rattle.elab_entry.specs.cpp_lex.Tokens.{lexemes_of};
 ghost use Rattle.elab_entry.specs.elab_ctx.Steps.{each_of};
 ghost use Rattle.elab_entry.specs.elab_types.Syntax.{syntax_of, tree_at, trees_at};
 ghost use Rattle.elab_entry.specs.elab_scopes.States.{state_of};
 ghost use Rattle.elab_entry.specs.elab_scopes.Says.{Changes};
-ghost use Rattle.elab_members.specs.Initialisers.{default_of as default_of_of, defaults_of as defaults_of_of, declares_members, are_known};
-ghost use Rattle.elab_members.specs.Whole.{late_defaults as late_defaults_of};
+ghost use Rattle.elab_members.specs.Initialisers.{default_of as default_of_of, defaults_of as defaults_of_of, all_defaults as all_defaults_of, declares_members};
 
-use crate::defaults::{are_first, default_of};
+use crate::defaults::default_of;
 use crate::syntax::kids_in;
 use elab_implicit::below::{
-    DefaultInit, ElabFault, Env, MakeLambdas, NodeId, NodeKind, Nodes, State, Tokens,
-    checkpoint_here, elab_types_node_at as node_at, undo,
+    ElabFault, MakeLambdas, NodeId, NodeKind, Nodes, State, Tokens, elab_types_node_at as node_at,
 };
-use std::alloc::{AllocError, Global};
+use std::alloc::Global;
 
-/// Whether a node declares data members.
-pub fn is_declaration(kind: NodeKind) -> bool
+// Whether a node declares data members.
+fn is_declaration(kind: NodeKind) -> bool
     ensures { result ≡ declares_members kind }
 {
     match kind {
@@ -66,44 +64,21 @@ fn defaults_of<L: MakeLambdas>(
     defaults_among(alloc, lams, tokens, nodes, st, class, kids_in(nodes, id))
 }
 
-// The first initialisers of a list.
-fn first_defaults(list: &[DefaultInit], count: usize) -> &[DefaultInit]
-    ensures { result.now ≡ take count list.now }
-{
-    &list[..count.min(list.len())]
-}
-
-// Tests that the first initialisers that are known stand among the first nodes; one that does not counts as want of
-// memory.
-fn known_before(env: &Env, count: usize, first: usize) -> Result<(), AllocError>
-    ensures within { OnOk result (first ≤ length env.now.default_nodes.items) }
-    ensures known { OnOk result (are_known first (take count env.now.defaults.items) ≡ true) }
-{
-    if first > env.default_nodes.len() {
-        return Err(AllocError);
-    }
-    are_first(first_defaults(&env.defaults, count), first)
-}
-
-/// The initialisers of a declaration once more, for their faults: what was made before stays, what they make is taken
-/// away.
-pub fn late_defaults<L: MakeLambdas>(
+/// The initialisers of the members of a class, in the order of the text.
+pub fn all_defaults<L: MakeLambdas>(
     alloc: Global,
     lams: &L,
     tokens: &Tokens,
     nodes: &Nodes,
     st: &mut State,
     class: u32,
-    id: NodeId,
+    ids: &[NodeId],
 ) -> Result<(), ElabFault>
-    requires { id.0 < length nodes.now }
-    ensures { Changes st.old st.new result (late_defaults_of (L.lambdas lams.now) (lexemes_of tokens.now) class (state_of st.old) (tree_at (syntax_of nodes.now) id)) }
+    requires { are_below (length nodes.now) ids.now ≡ true }
+    ensures { Changes st.old st.new result (all_defaults_of (L.lambdas lams.now) (lexemes_of tokens.now) class (state_of st.old) (trees_at (syntax_of nodes.now) ids.now)) }
 {
-    let mark = checkpoint_here(st);
-    let count = st.env.defaults.len();
-    let first = st.env.default_nodes.len();
-    defaults_of(alloc, lams, tokens, nodes, st, class, id)?;
-    known_before(&st.env, count, first)?;
-    undo(st, mark)?;
+    for id in ids {
+        defaults_of(alloc, lams, tokens, nodes, st, class, *id)?;
+    }
     Ok(())
 }

@@ -88,8 +88,8 @@ fn behind_this(frame: Vec<Ty>) -> Vec<Ty>
     items
 }
 
-/// Tests that initialisers stand among the first nodes; one that does not counts as want of memory.
-pub fn are_first(list: &[DefaultInit], count: usize) -> Result<(), AllocError>
+// Tests that initialisers stand among the first nodes; one that does not counts as want of memory.
+fn are_first(list: &[DefaultInit], count: usize) -> Result<(), AllocError>
     ensures { OnOk result (are_known count list.now ≡ true) }
 {
     for found in list {
@@ -159,8 +159,8 @@ fn member_token(kind: NodeKind, token: Option<u32>) -> Option<u32>
     }
 }
 
-/// The data member that a declarator declares, if it declares one.
-pub fn declared_member(
+// The data member that a declarator declares, if it declares one.
+fn declared_member(
     tokens: &Tokens,
     nodes: &Nodes,
     env: &Env,

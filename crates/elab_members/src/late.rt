@@ -13,7 +13,6 @@ ghost use Rattle.class_members.specs.Shown.{header_of};
 ghost use Rattle.class_table.specs.Written.{method_shown};
 ghost use Rattle.elab_members.specs.Whole.{late_with, late_function as late_function_of, late_kind as late_kind_of, late_of as late_of_of, all_late as all_late_of};
 
-use crate::declarations::late_defaults;
 use crate::methods::method_body;
 use crate::syntax::kids_in;
 use class_table::kids::rest_from;
@@ -127,7 +126,7 @@ fn late_kind(kind: NodeKind) -> Option<FuncKind>
     }
 }
 
-// A member's body or initialiser.
+// A member's body, if it has one.
 fn late_of<L: MakeLambdas>(
     alloc: Global,
     lams: &L,
@@ -156,11 +155,11 @@ fn late_of<L: MakeLambdas>(
                 kids_in(nodes, id),
             )
         }
-        None => late_defaults(alloc, lams, tokens, nodes, st, home.number, id),
+        None => Ok(()),
     }
 }
 
-/// The bodies and initialisers of the members of a class, in the order of the text.
+/// The bodies of the members of a class, in the order of the text.
 pub fn all_late<L: MakeLambdas>(
     alloc: Global,
     lams: &L,

@@ -9,7 +9,6 @@ pub mod declarations;
 pub mod defaults;
 pub mod defining;
 pub mod destructors;
-pub mod early;
 pub mod late;
 pub mod methods;
 pub mod outside;

@@ -49,7 +49,7 @@ pub use elab_casts::below::This;
 pub use elab_casts::below::Tokens;
 pub use elab_casts::below::Traits;
 pub use elab_casts::below::Ty;
-pub use elab_casts::below::TypeName;
+pub use elab_casts::below::TypeNames;
 pub use elab_casts::below::Unit;
 pub use elab_casts::below::UnitTree;
 pub use elab_casts::below::Variable;

@@ -32,7 +32,8 @@ use Rattle.elab_ctx.specs.cpp_tree.Trees.{Tree, node, Trees, none, more, one, ty
 use Rattle.elab_ctx.specs.cpp_tree.Units.{Global, Cell}
 use Rattle.elab_ctx.specs.cpp_tree.Notation.{plain}
 use Rattle.elab_ctx.specs.cpp_tree.Typing.{form_in, unqualified}
-use Rattle.elab_ctx.specs.Ctx.{Ctx, Work, Func, Named, Enumerator, Special, trivial}
+use Rattle.elab_ctx.specs.Ctx.{Ctx, Work, Func, Enumerator, Special, trivial}
+use Rattle.elab_ctx.specs.Types.{named_too}
 use Rattle.elab_ctx.specs.Steps.{and_then, expect, check, Operand, Made, Typed, TypedAll, at_of, spelling}
 use Rattle.elab_rules.specs.Objects.{element_of, traits_at}
 use Rattle.elab_rules.specs.Initialising.{class_number, func_at, signature_parameters}
@@ -215,7 +216,7 @@ type_agrees at t (Some u) = check at Redeclared (typ_eq t u)
 type_agrees at t None = Ok true
 
 abbrev pub with_type : Ctx → List ℕ → Typ → Ctx
-with_type c name t = record c { types = record { name = name; typ = t } ∷ c.types }
+with_type c name t = record c { types = named_too c.types name t }
 
 -- an alias (C++14 7.1.3)
 abbrev pub alias_declared : State → At → List ℕ → Typ → Result State ElabFault

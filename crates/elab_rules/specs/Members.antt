@@ -97,26 +97,9 @@ abbrev pub defaults_of : Lambdas → List Lexeme → ℕ → State → syntax.Tr
 defaults_of lams s n st (syntax.node k.MemberDeclaration p token kids) = each_of (default_of lams s n) st kids
 defaults_of lams s n st t = Ok st
 
--- All initialisers are made before the bodies, which use them; a fault in one is found in the order of the text, so one that has a fault stands here as nothing.
-
-abbrev pub with_nothing : State → ℕ → Option ℕ → State
-with_nothing st n (Some i) = record st { ctx = record st.ctx { defaults = st.ctx.defaults ++ record { class = n; member = i; init = first_tree (record { source = 0; offset = 0 }) none; frame = [] } ∷ [] } }
-with_nothing st n None = st
-
-abbrev pub default_or_nothing : State → ℕ → Option ℕ → Result State ElabFault → Result State ElabFault
-default_or_nothing st n i (Ok x) = Ok x
-default_or_nothing st n i (Err e) = Ok (with_nothing st n i)
-
-abbrev pub early_declarator : Lambdas → List Lexeme → ℕ → State → syntax.Tree → Result State ElabFault
-early_declarator lams s n st (syntax.node k.MemberDeclarator p (Some t) kids) = default_or_nothing st n (member_index 0 (spelling s t) (members_in (slice_get st.ctx.classes n))) (default_of lams s n st (syntax.node k.MemberDeclarator p (Some t) kids))
-early_declarator lams s n st t = Ok st
-
-abbrev pub early_of : Lambdas → List Lexeme → ℕ → State → syntax.Tree → Result State ElabFault
-early_of lams s n st (syntax.node k.MemberDeclaration p token kids) = each_of (early_declarator lams s n) st kids
-early_of lams s n st t = Ok st
-
-abbrev pub all_early : Lambdas → List Lexeme → ℕ → State → syntax.Trees → Result State ElabFault
-all_early lams s n = each_of (early_of lams s n)
+-- All are made behind the brace, in the order of the text, and before the bodies, which use them; so an initialiser sees only those before it, and its fault comes before those of the bodies.
+abbrev pub all_defaults : Lambdas → List Lexeme → ℕ → State → syntax.Trees → Result State ElabFault
+all_defaults lams s n = each_of (defaults_of lams s n)
 
 -- Constructors (12.6.2)
 
@@ -270,16 +253,12 @@ late_method lams s st n kind m None = Ok st
 abbrev pub late_function : Lambdas → List Lexeme → State → ℕ → List ℕ → At → FuncKind → syntax.Trees → Result State ElabFault
 late_function lams s st n name at kind kids = and_then (method_of s st n name at kind kids) (λ (m : Method). late_method lams s st n kind m (body_in kids))
 
--- of an initialiser, which was made before, only its fault counts
-abbrev pub same_if_well : State → Result State ElabFault → Result State ElabFault
-same_if_well st r = and_then r (λ x. Ok st)
-
--- a member's body or initialiser
+-- a member's body, if it has one
 abbrev pub late_of : Lambdas → List Lexeme → ℕ → List ℕ → State → syntax.Tree → Result State ElabFault
 late_of lams s n name st (syntax.node k.FunctionDefinition p token kids) = late_function lams s st n name (at_of p) Plain kids
 late_of lams s n name st (syntax.node k.ConstructorDefinition p token kids) = late_function lams s st n name (at_of p) Constructor kids
 late_of lams s n name st (syntax.node k.DestructorDefinition p token kids) = late_function lams s st n name (at_of p) Destructor kids
-late_of lams s n name st t = same_if_well st (defaults_of lams s n st t)
+late_of lams s n name st t = Ok st
 
 abbrev pub all_late : Lambdas → List Lexeme → ℕ → List ℕ → State → syntax.Trees → Result State ElabFault
 all_late lams s n name = each_of (late_of lams s n name)
@@ -375,7 +354,7 @@ members_among (syntax.more (syntax.node k.MemberSpecification p token members) t
 members_among (syntax.more t ts) = members_among ts
 
 abbrev pub class_closed : Lambdas → List Lexeme → Home → At → Members → syntax.Trees → Result State ElabFault
-class_closed lams s home at r members = and_then (closed_class at home.number (completed r.state.ctx home at r.members r.initialised)) (λ (c : Ctx). and_then (all_early lams s home.number (record r.state { ctx = c }) members) (λ (st : State). all_late lams s home.number home.name st members))
+class_closed lams s home at r members = and_then (closed_class at home.number (completed r.state.ctx home at r.members r.initialised)) (λ (c : Ctx). and_then (all_defaults lams s home.number (record r.state { ctx = c }) members) (λ (st : State). all_late lams s home.number home.name st members))
 
 abbrev pub class_with : Lambdas → List Lexeme → State → At → Home → syntax.Trees → Result State ElabFault
 class_with lams s st at home members = and_then (members_of s home (record { state = st; members = []; initialised = [] }) members) (λ (r : Members). class_closed lams s home at r members)

@@ -17,7 +17,8 @@ use Rattle.elab_ctx.specs.cpp_tree.declared.faults.LimitKind.TheVariants.{Size, 
 use Rattle.elab_ctx.specs.cpp_tree.declared.faults.IllRule.TheVariants.{BadDeclaration, OutOfProfile, NotTriviallyCopyable, AbstractObject, UnknownName, NotConstant}
 use Rattle.elab_ctx.specs.cpp_tree.Notation.{plain}
 use Rattle.elab_ctx.specs.cpp_tree.Typing.{form_in, qualified, unqualified, is_void}
-use Rattle.elab_ctx.specs.Ctx.{Ctx, Named}
+use Rattle.elab_ctx.specs.Ctx.{Ctx}
+use Rattle.elab_ctx.specs.Types.{Named, type_called}
 use Rattle.elab_ctx.specs.Steps.{and_then, expect, check, spelling}
 use Rattle.elab_rules.specs.Objects.{size_of, traits_at}
 use Rattle.elab_rules.specs.Operators.{is_complete}
@@ -49,8 +50,7 @@ abbrev mutual
 -- Specifiers
 
 abbrev pub type_named : List ℕ → List Named → Option Typ
-type_named name [] = None
-type_named name (n ∷ ns) = if bytes_eq n.name name then Some n.typ else type_named name ns
+type_named name ns = type_called name ns
 
 -- what the specifiers of a type say so far
 pub record Specifiers : Type 0 where

@@ -12,6 +12,6 @@ pub use elab_ctx::below::{
 };
 pub use elab_ctx::{
     Capture, Closure, DefaultInit, EnumRec, Env, FuncDecl, Label, Labels, Lambda, Operand, Returns,
-    Special, This, Traits, TypeName, Variable, Work, add_item, class_at, completion, extent,
+    Special, This, Traits, TypeNames, Variable, Work, add_item, class_at, completion, extent,
     function_at, kids_at, node_at, size_of, traits_of_class,
 };

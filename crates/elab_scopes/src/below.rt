@@ -47,7 +47,7 @@ pub use elab_expr::below::This;
 pub use elab_expr::below::Tokens;
 pub use elab_expr::below::Traits;
 pub use elab_expr::below::Ty;
-pub use elab_expr::below::TypeName;
+pub use elab_expr::below::TypeNames;
 pub use elab_expr::below::Unit;
 pub use elab_expr::below::UnitTree;
 pub use elab_expr::below::Variable;

@@ -47,7 +47,7 @@ pub use elab_locals::below::TParam;
 pub use elab_locals::below::This;
 pub use elab_locals::below::Tokens;
 pub use elab_locals::below::Traits;
-pub use elab_locals::below::TypeName;
+pub use elab_locals::below::TypeNames;
 pub use elab_locals::below::Unit;
 pub use elab_locals::below::UnitTree;
 pub use elab_locals::below::Variable;

@@ -4,14 +4,15 @@ ghost use Rattle.std.specs.Prelude.{◌≡◌, MatchOption, None, Some, IfOk, ma
 ghost use Rattle.cpp_types.specs.Typ.{typ_of};
 ghost use Rattle.cpp_types.specs.Class.{held, classes_of, completion_of};
 ghost use Rattle.elab_conv.specs.cpp_tree.Typing.{form_in, is_void, qualified};
-ghost use Rattle.elab_conv.specs.elab_ctx.Ctx.{ctx_of, named_of};
+ghost use Rattle.elab_conv.specs.elab_ctx.Ctx.{ctx_of};
+ghost use Rattle.elab_conv.specs.elab_ctx.Types.{named_of};
 ghost use Rattle.elab_conv.specs.elab_rules.Objects.{traits_at};
 ghost use Rattle.elab_conv.specs.elab_rules.Operators.{is_complete};
 ghost use Rattle.elab_conv.specs.elab_rules.Types.{has_auto as has_auto_of, type_named as type_named_of, with_qualifiers as with_qualifiers_of, may_be_thrown as may_be_thrown_of, is_reference_form, is_array_form, is_function_form, is_element as is_element_of, is_result as is_result_of, adjusted as adjusted_of, is_abstract_type as is_abstract_of};
 
 use cpp_types::copyability::held_class;
 use cpp_types::{Shape, Ty, copy};
-use elab_conv::below::{Env, TypeName};
+use elab_conv::below::{Env, TypeNames};
 use elab_conv::types::pointer_to;
 use std::alloc::{AllocError, Global};
 
@@ -99,15 +100,10 @@ pub fn has_auto(ty: &Ty) -> bool
 }
 
 /// The type with a name.
-pub fn type_named<'a>(types: &'a [TypeName], name: &[u8]) -> Option<&'a Ty>
+pub fn type_named<'a>(types: &'a TypeNames, name: &[u8]) -> Option<&'a Ty>
     ensures { MatchOption result (type_named_of name.now (map named_of types.now) ≡ None) (λ t. type_named_of name.now (map named_of types.now) ≡ Some (typ_of t.now)) }
 {
-    for found in types {
-        if found.name.as_slice() == name {
-            return Some(&found.ty);
-        }
-    }
-    None
+    types.find(name)
 }
 
 /// A type with further qualifiers: an array has those of its elements, a reference and a function none.

@@ -3,7 +3,8 @@ use Rattle.std.specs.Prelude.{ℕ, suc, List, [], ◌∷◌, map, Option, Some, 
 use Rattle.elab_entry.specs.cpp_types.Typ.{Typ, typ, class}
 use Rattle.elab_entry.specs.cpp_types.Class.{Class}
 use Rattle.elab_entry.specs.cpp_tree.Units.{Func as TypedFunc, Definition, global_of}
-use Rattle.elab_entry.specs.elab_ctx.Ctx.{named_of, func_of}
+use Rattle.elab_entry.specs.elab_ctx.Ctx.{func_of}
+use Rattle.elab_entry.specs.elab_ctx.Types.{named_of}
 use Rattle.elab_entry.specs.elab_rules.Statements.{State, Body}
 use Rattle.elab_entry.specs.elab_rules.Programs.{body_of}
 use Rattle.elab_entry.specs.elab_scopes.States.{body_of as body_shown}
@@ -22,7 +23,7 @@ with_bodies i (f ∷ fs) bs = with_body f (body_of i bs) ∷ with_bodies (suc i)
 -- a state in which this was made, and these are the classes
 abbrev pub state_with : State → Made → List Class → State
 state_with st m classes = record {
-  ctx = record st.ctx { types = map named_of m.types.items; classes = classes; funcs = map func_of m.funcs.items };
+  ctx = record st.ctx { types = map named_of m.types; classes = classes; funcs = map func_of m.funcs.items };
   work = record st.work { globals = map global_of m.globals.items };
   bodies = map body_shown m.bodies.items;
 }

@@ -15,7 +15,8 @@ ghost use Rattle.elab_units.specs.Begun.{one_or_two, long_typ, program_with, tra
 pub use crate::known::Classes;
 use elab_entry::below::{
     At, Builtin, Entity, EntityKind, Env, FnTy, FuncDecl, FuncKind, FuncRec, IntKind, Label,
-    Labels, Linkage, Returns, Safety, Scopes, Shape, State, Ty, Work, plain_type, pointer_to,
+    Labels, Linkage, Returns, Safety, Scopes, Shape, State, Ty, TypeNames, Work, plain_type,
+    pointer_to,
 };
 use std::alloc::{AllocError, Global};
 
@@ -193,7 +194,7 @@ pub fn start_behind(alloc: Global, source: u32, known: Classes) -> Result<State,
     let env = Env {
         source,
         scopes,
-        types: Vec::new(alloc),
+        types: TypeNames::new(alloc),
         classes: known.classes,
         traits: known.traits,
         slots: known.slots,

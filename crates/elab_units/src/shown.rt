@@ -10,7 +10,8 @@ ghost use Rattle.elab_entry.specs.cpp_ast.declared.arena.At.{At as SyntaxAt};
 ghost use Rattle.elab_entry.specs.elab_ctx.Steps.{spelling as spelling_of};
 ghost use Rattle.elab_entry.specs.cpp_tree.Trees.{Tree};
 ghost use Rattle.elab_entry.specs.cpp_tree.Units.{func_of as typed_func_of, definition_of, unit_of};
-ghost use Rattle.elab_entry.specs.elab_ctx.Ctx.{Ctx, func_of, named_of};
+ghost use Rattle.elab_entry.specs.elab_ctx.Ctx.{Ctx, func_of};
+ghost use Rattle.elab_entry.specs.elab_ctx.Types.{named_of};
 ghost use Rattle.elab_entry.specs.cpp_tree.Typing.{is_class_typ};
 ghost use Rattle.elab_entry.specs.elab_rules.Initialising.{signature_result};
 ghost use Rattle.elab_entry.specs.elab_rules.Types.{type_named as type_named_of};
@@ -27,7 +28,7 @@ use crate::readable::readable_unit;
 use class_table::class_text;
 use elab_entry::below::{
     Body, ClassDef, ClassRec, FuncDecl, NodeId, NodeKind, Nodes, Shape, TFunc, TGlobal, Tokens, Ty,
-    TypeName, UnitTree, is_class_type, spelling, type_named,
+    TypeNames, UnitTree, is_class_type, spelling, type_named,
 };
 use elab_globals::symbol_of;
 use std::alloc::{AllocError, Global};
@@ -171,7 +172,7 @@ fn class_in(ty: &Ty) -> Option<u32>
 }
 
 // The class that a name stands for.
-fn class_named(types: &[TypeName], name: &[u8]) -> Option<u32>
+fn class_named(types: &TypeNames, name: &[u8]) -> Option<u32>
     ensures { result ≡ class_called (type_named_of name.now (map named_of types.now)) }
 {
     match type_named(types, name) {
@@ -203,7 +204,7 @@ fn keep_named(
     alloc: Global,
     tokens: &Tokens,
     nodes: &Nodes,
-    types: &[TypeName],
+    types: &TypeNames,
     token: u32,
     kids: &[NodeId],
     list: &mut Vec<ClassDef>,
@@ -225,7 +226,7 @@ fn keep_definition(
     alloc: Global,
     tokens: &Tokens,
     nodes: &Nodes,
-    types: &[TypeName],
+    types: &TypeNames,
     id: NodeId,
     list: &mut Vec<ClassDef>,
 ) -> Result<(), AllocError>
@@ -244,7 +245,7 @@ fn definitions_in(
     alloc: Global,
     tokens: &Tokens,
     nodes: &Nodes,
-    types: &[TypeName],
+    types: &TypeNames,
     ids: &[NodeId],
 ) -> Result<Vec<ClassDef>, AllocError>
     requires { are_below (length nodes.now) ids.now ≡ true }
@@ -260,7 +261,7 @@ fn definitions_in(
 /// What a unit has made: its functions with their bodies, its globals, and the classes that it defines.
 #[derive(Drop)]
 pub struct Made {
-    pub types: Vec<TypeName>,
+    pub types: TypeNames,
     pub funcs: Vec<FuncDecl>,
     pub globals: Vec<TGlobal>,
     pub bodies: Vec<Body>,

@@ -68,12 +68,29 @@ pub fn load(kind: IntKind, volatile: bool) -> Instr {
     }
 }
 
-/// Writes a scalar of this kind.
-pub fn store(kind: IntKind, volatile: bool) -> Instr {
-    let kind = kind_number(kind);
+/// The number of the kind that tells which bytes of a word a scalar of this kind is. A `bool` is the lowest byte: the word was converted before.
+pub fn bytes_number(kind: IntKind) -> u8 {
+    match kind {
+        IntKind::Bool => kind_number(IntKind::UChar),
+        _ => kind_number(kind),
+    }
+}
+
+// Writes a scalar of the kind of this number.
+fn store_number(kind: u8, volatile: bool) -> Instr {
     if volatile {
         Instr::VStore(kind)
     } else {
         Instr::Store(kind)
     }
+}
+
+/// Writes the bytes of a word that a scalar of this kind is.
+pub fn store(kind: IntKind, volatile: bool) -> Instr {
+    store_number(bytes_number(kind), volatile)
+}
+
+/// Converts a word to this kind and writes it.
+pub fn store_converted(kind: IntKind, volatile: bool) -> Instr {
+    store_number(kind_number(kind), volatile)
 }

@@ -6,7 +6,7 @@ use cpp_tree::below::{At, IntKind, Shape, Ty};
 use cpp_tree::{TKind, TNode, TNodeId};
 use low_code::caught::{caught_classes, referred};
 use low_code::nodes::{kid, node_at};
-use low_code::numbers::{kind_number, load, store};
+use low_code::numbers::{bytes_number, load, store};
 use low_code::types::{is_class_type, is_void};
 use low_code::{ScopeKind, Sort};
 use std::alloc::AllocError;
@@ -57,7 +57,7 @@ impl<'a> Lowering<'a> {
             self.put(load(kind, false), node.at)?;
         }
         let offset = offset_in(offset)?;
-        let kind = kind_number(kind);
+        let kind = bytes_number(kind);
         self.put(Instr::PutException { offset, kind }, node.at)
     }
 
@@ -139,7 +139,7 @@ impl<'a> Lowering<'a> {
             return Err(AllocError);
         };
         self.put(Instr::FrameAddr(address), at)?;
-        let number = kind_number(kind);
+        let number = bytes_number(kind);
         let get = Instr::GetException {
             offset: offset_in(offset)?,
             kind: number,

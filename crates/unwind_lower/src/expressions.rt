@@ -3,7 +3,7 @@
 use crate::items::{Item, Way};
 use crate::lowering::Lowering;
 use cpp_tree::{TKind, TNode, TNodeId};
-use low_code::numbers::{ADDRESS, kind_number, load, operator_number, store};
+use low_code::numbers::{ADDRESS, kind_number, load, operator_number, store, store_converted};
 use low_code::types::is_void;
 use low_code::{Owner, ScopeKind};
 use std::alloc::AllocError;
@@ -77,7 +77,7 @@ impl<'a> Lowering<'a> {
         };
         let op = operator_number(op);
         let kind = kind_number(operation);
-        self.later(Item::Put(store(stored, volatile), node.at))?;
+        self.later(Item::Put(store_converted(stored, volatile), node.at))?;
         self.later(Item::Put(Instr::Bin { op, kind }, node.at))?;
         self.run_kid(node, 1, Way::Value)?;
         if old {

@@ -2,7 +2,8 @@ use Rattle.std.proofs.Common.{◌∙◌, ◌++◌, ◌+◌, List, map, drop, get
 use Rattle.elab_entry.specs.cpp_lex.Tokens.{lexemes_of}
 use Rattle.elab_entry.specs.cpp_ast.Trees.{Trees}
 use Rattle.elab_entry.specs.cpp_tree.Units.{Definition, definition_of}
-use Rattle.elab_entry.specs.elab_ctx.Ctx.{Ctx, named_of}
+use Rattle.elab_entry.specs.elab_ctx.Ctx.{Ctx}
+use Rattle.elab_entry.specs.elab_ctx.Types.{named_of}
 use Rattle.elab_entry.specs.elab_rules.Programs.{definition_in, definitions_in}
 use Rattle.elab_entry.specs.elab_types.Syntax.{syntax_of, tree_at, trees_at}
 use Rattle.elab_units.proofs.KidSteps.{trees_step, trees_past}

@@ -2,7 +2,8 @@ use Rattle.std.proofs.Common.{◌∙◌, ◌++◌, List, map, ap, sym, append-ni
 use Rattle.elab_entry.specs.cpp_lex.Tokens.{lexemes_of}
 use Rattle.elab_entry.specs.cpp_ast.declared.arena.NodeId.{NodeId}
 use Rattle.elab_entry.specs.cpp_tree.Units.{Definition, definition_of}
-use Rattle.elab_entry.specs.elab_ctx.Ctx.{Ctx, named_of}
+use Rattle.elab_entry.specs.elab_ctx.Ctx.{Ctx}
+use Rattle.elab_entry.specs.elab_ctx.Types.{named_of}
 use Rattle.elab_entry.specs.elab_ctx.Steps.{spelling}
 use Rattle.elab_entry.specs.elab_rules.Types.{type_named}
 use Rattle.elab_entry.specs.elab_rules.Programs.{definition_in, definition_if}

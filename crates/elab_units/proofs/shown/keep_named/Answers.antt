@@ -1,7 +1,7 @@
 use Rattle.std.proofs.Common.{◌≡◌, ◌∙◌, ◌++◌, ℕ, List, Option, None, Some, map, ap, sym, append-nil}
 use Rattle.elab_entry.specs.cpp_lex.Tokens.{lexemes_of}
 use Rattle.elab_entry.specs.cpp_tree.Units.{Definition, definition_of}
-use Rattle.elab_entry.specs.elab_ctx.Ctx.{named_of}
+use Rattle.elab_entry.specs.elab_ctx.Types.{named_of}
 use Rattle.elab_entry.specs.elab_ctx.Steps.{spelling}
 use Rattle.elab_entry.specs.elab_rules.Types.{type_named}
 use Rattle.elab_entry.specs.elab_rules.Classes.{class_text}
