@@ -67,15 +67,25 @@ pub record Runs (o : RunOptions) (image : ImageView) (input entries : List ℕ) 
   pub answer : a ≡ record { status = status_of ran.end; ran = Some ran; refusal = None }
   pub writes_are : writes ≡ run_writes image ran (option_map string_bytes o.order_file) (option_map string_bytes o.record_file)
 
+-- the image is run
+pub record RunsImage (o : RunOptions) (image : ImageView) (input entries : List ℕ) (a : Answer) (writes : List Written) : Type 0 where
+  pub ran : Ran Here
+  pub is : Runs o image input entries ran a writes
+
 -- the image is verified, and run
 pub data DecidesImage (o : RunOptions) (image : ImageView) (input entries : List ℕ) (a : Answer) (writes : List Written) : Type 0 where
   bad_code : (bad : BadCode) → Breaks image bad → RefusesCode bad a writes → DecidesImage o image input entries a writes
-  runs : (ran : Ran Here) → Runs o image input entries ran a writes → DecidesImage o image input entries a writes
+  runs : RunsImage o image input entries a writes → DecidesImage o image input entries a writes
 
 -- the objects are linked
 pub data DecidesObjects (o : RunOptions) (objects : List ObjectView) (input entries : List ℕ) (a : Answer) (writes : List Written) : Type 0 where
   faulty : (fault : LinkFault) → Faulty objects fault → RefusesLink fault a writes → DecidesObjects o objects input entries a writes
   linked : (image : ImageView) → ImageOf objects image → DecidesImage o image input entries a writes → DecidesObjects o objects input entries a writes
+
+-- Objects that sources were compiled to are linked, and their image is run. That code is not sound is no refusal of sources.
+pub data RunsObjects (o : RunOptions) (objects : List ObjectView) (input entries : List ℕ) (a : Answer) (writes : List Written) : Type 0 where
+  cannot_link : (fault : LinkFault) → Faulty objects fault → RefusesLink fault a writes → RunsObjects o objects input entries a writes
+  links : (image : ImageView) → ImageOf objects image → RunsImage o image input entries a writes → RunsObjects o objects input entries a writes
 
 -- the objects are read
 pub data DecidesTexts (e : Exec) (texts : List (List ℕ)) (input entries : List ℕ) (a : Answer) (writes : List Written) : Type 0 where

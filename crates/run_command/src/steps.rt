@@ -15,7 +15,7 @@ ghost use Rattle.run_command.specs.Runs.{Compiled, CompilesAndRuns, DecidesTexts
 
 use crate::laws::runs_of_compiled;
 use cpp_tree::Program;
-use exec_command::steps::with_objects;
+use exec_command::steps::with_compiled;
 use source_runs::is_of_source;
 use source_verdict::{Verdict, verdict_of};
 use src_bind::Choices;
@@ -41,7 +41,7 @@ fn with_all(
     requires threads { list_all (λ t. nat_lt t THREAD_LIMIT) entries.now ≡ true }
     ensures { IfOk result (λ d. RunsSome options.now input.items entries.now d.answer (map written_of d.writes.items)) }
 {
-    with_objects(alloc, options, objects, input, entries)
+    with_compiled(alloc, options, objects, input, entries)
 }
 
 /// What is compiled of a program: with `fold` the program that it folds to.

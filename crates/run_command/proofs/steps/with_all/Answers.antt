@@ -5,4 +5,4 @@ use Rattle.run_command.proofs.Objects.{all_views}
 use Rattle.run_command.proofs.steps.with_all.Goals as goal
 
 pub returns : goal.returns
-returns c = IfOk-weaker c.with_objects.result _ _ (λ d h. record { objects = map object_view c.args.objects.now; are_objects = all_views c.args.objects.now c.requires.objects; decides = h }) c.with_objects.ensures
+returns c = IfOk-weaker c.with_compiled.result _ _ (λ d h. record { objects = map object_view c.args.objects.now; are_objects = all_views c.args.objects.now c.requires.objects; decides = h }) c.with_compiled.ensures
