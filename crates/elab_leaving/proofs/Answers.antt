@@ -29,12 +29,3 @@ each_holds P f r (syntax.more t ts) h k = bind P P (f r t) _ (k r t h) (λ x i. 
 pub each_same : {R : Type 0} (P : R → Type 0) (f g : R → syntax.Tree → Result R ElabFault) (r : R) (ts : syntax.Trees) → P r → ((x : R) (t : syntax.Tree) → P x → f x t ≡ g x t) → ((x : R) (t : syntax.Tree) → P x → On P (g x t)) → each_of f r ts ≡ each_of g r ts
 each_same P f g r syntax.none h e k = refl
 each_same P f g r (syntax.more t ts) h e k = ap (λ z. and_then z (λ x. each_of f x ts)) (e r t h) ∙ same_after P (g r t) _ _ (k r t h) (λ x i. each_same P f g x ts i e k)
-
--- what goes well goes well so
-step_well : {R : Type 0} (a : Result R ElabFault) (b : Result R ElabFault) (f g : R → Result R ElabFault) (z : R) → ((y : R) → a ≡ Ok y → b ≡ Ok y) → ((x : R) → f x ≡ Ok z → g x ≡ Ok z) → and_then a f ≡ Ok z → and_then b g ≡ Ok z
-step_well (Ok y) b f g z h k e = ap (λ w. and_then w g) (h y refl) ∙ k y e
-step_well (Err e) b f g z h k i = absurd cc
-
-pub each_well : {R : Type 0} (f g : R → syntax.Tree → Result R ElabFault) (r : R) (ts : syntax.Trees) (z : R) → ((x : R) (t : syntax.Tree) (y : R) → f x t ≡ Ok y → g x t ≡ Ok y) → each_of f r ts ≡ Ok z → each_of g r ts ≡ Ok z
-each_well f g r syntax.none z h e = e
-each_well f g r (syntax.more t ts) z h e = step_well (f r t) (g r t) _ _ z (h r t) (λ x i. each_well f g x ts z h i) e

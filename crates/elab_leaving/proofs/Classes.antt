@@ -1,5 +1,5 @@
--- Classes as the code makes them are those of the definitions, where each initialiser of a member is well.
-use Rattle.std.proofs.Common.{◌≡◌, ℕ, Bool, true, false, List, [], refl, sym, ap, ◌∙◌, subst, Option, Some, None, Result, Ok, Err}
+-- Classes as the code makes them are those of the definitions.
+use Rattle.std.proofs.Common.{◌≡◌, ℕ, Bool, true, false, List, [], refl, sym, ap, ◌∙◌, subst, Option, Some, None, Result, Ok}
 use Rattle.std.specs.Prelude.{if◌then◌else◌, ◌&&◌, not, is_none, is_some, nat_le, ◌||◌}
 use Rattle.elab_rules.specs.cpp_types.Typ.{Typ, typ, Form, class, func}
 use Rattle.elab_rules.specs.cpp_types.Class.{Member, completion_of, held}
@@ -20,12 +20,11 @@ use Rattle.elab_rules.specs.Members as rules
 use Rattle.elab_rules.specs.Members.{place_of_header, base_named, has_final, members_among, all_given, in_object, parts_built}
 use Rattle.class_table.specs.Written.{ClassRead, class_read, read_members, read_closed}
 use Rattle.elab_members.specs.Whole as code
-use Rattle.elab_members.specs.Initialisers.{all_defaults}
 use Rattle.elab_leaving.specs.Kept.{On, Lawful}
 use Rattle.elab_leaving.proofs.Keeping.{bind, skip, either}
-use Rattle.elab_leaving.proofs.Answers.{same_behind, nest, each_holds, each_same}
+use Rattle.elab_leaving.proofs.Answers.{same_after, same_behind, nest, each_holds, each_same}
 use Rattle.elab_leaving.proofs.Objects.{method_same}
-use Rattle.elab_leaving.proofs.Defaults.{Settled, again_same, all_well, all_settled}
+use Rattle.elab_leaving.proofs.Defaults.{Settled, all_same, all_settled}
 use Rattle.elab_rules.specs.cpp_tree.declared.faults.IllRule.TheVariants.{AbstractObject, BadDeclaration, Incomplete, OutOfProfile, Redeclared}
 use Rattle.elab_rules.specs.cpp_layout.Layout.{class_extent}
 use Rattle.elab_rules.specs.Expressions.{declared_by, type_of_specifiers}
@@ -64,7 +63,7 @@ late_same : (lams : Lambdas) → Lawful lams → (s : List Lexeme) (n : ℕ) (na
 late_same lams q s n name st (syntax.node k.FunctionDefinition p token kids) e = late_function_same lams q s st n name (at_of p) Plain kids e
 late_same lams q s n name st (syntax.node k.ConstructorDefinition p token kids) e = late_function_same lams q s st n name (at_of p) Constructor kids e
 late_same lams q s n name st (syntax.node k.DestructorDefinition p token kids) e = late_function_same lams q s st n name (at_of p) Destructor kids e
-late_same lams q s n name st t e = again_same lams q s n st t e
+late_same lams q s n name st t e = refl
 
 late_method_settled : (lams : Lambdas) (s : List Lexeme) (st : State) (n : ℕ) (kind : FuncKind) (m : Method) (body : Option syntax.Tree) → Settled st → On Settled (rules.late_method lams s st n kind m body)
 late_method_settled lams s st n kind m (Some body) e = skip Settled (place_of_header st.ctx m.header) _ (λ place. method_settled lams s st n place kind m body e)
@@ -73,14 +72,11 @@ late_method_settled lams s st n kind m None e = e
 late_function_settled : (lams : Lambdas) (s : List Lexeme) (st : State) (n : ℕ) (name : List ℕ) (at : At) (kind : FuncKind) (kids : syntax.Trees) → Settled st → On Settled (rules.late_function lams s st n name at kind kids)
 late_function_settled lams s st n name at kind kids e = skip Settled (method_of s st n name at kind kids) _ (λ m. late_method_settled lams s st n kind m (body_in kids) e)
 
-again_settled : (st : State) (r : Result State ElabFault) → Settled st → On Settled (rules.same_if_well st r)
-again_settled st r e = skip Settled r _ (λ x. e)
-
 late_settled : (lams : Lambdas) (s : List Lexeme) (n : ℕ) (name : List ℕ) (st : State) (t : syntax.Tree) → Settled st → On Settled (rules.late_of lams s n name st t)
 late_settled lams s n name st (syntax.node k.FunctionDefinition p token kids) e = late_function_settled lams s st n name (at_of p) Plain kids e
 late_settled lams s n name st (syntax.node k.ConstructorDefinition p token kids) e = late_function_settled lams s st n name (at_of p) Constructor kids e
 late_settled lams s n name st (syntax.node k.DestructorDefinition p token kids) e = late_function_settled lams s st n name (at_of p) Destructor kids e
-late_settled lams s n name st t e = again_settled st (rules.defaults_of lams s n st t) e
+late_settled lams s n name st t e = e
 
 all_late_same : (lams : Lambdas) → Lawful lams → (s : List Lexeme) (n : ℕ) (name : List ℕ) (st : State) (ts : syntax.Trees) → Settled st → code.all_late lams s n name st ts ≡ rules.all_late lams s n name st ts
 all_late_same lams q s n name st ts e = each_same Settled (code.late_of lams s n name) (rules.late_of lams s n name) st ts e (λ x t i. late_same lams q s n name x t i) (λ x t i. late_settled lams s n name x t i)
@@ -170,44 +166,33 @@ class_settled s st at name kids e = skip ReadSettled (text_sized at (class_text 
 -- The class
 
 -- what the definitions have behind the brace
-abbrev early_brace : Lambdas → List Lexeme → syntax.Trees → ClassRead → Result State ElabFault
-early_brace lams s members x = and_then (rules.all_early lams s x.home.number x.state members) (λ (st : State). rules.all_late lams s x.home.number x.home.name st members)
+abbrev brace : Lambdas → List Lexeme → syntax.Trees → ClassRead → Result State ElabFault
+brace lams s members x = and_then (rules.all_defaults lams s x.home.number x.state members) (λ (st : State). rules.all_late lams s x.home.number x.home.name st members)
 
-closed_steps : (lams : Lambdas) (s : List Lexeme) (home : Home) (at : At) (r : Members) (members : syntax.Trees) → rules.class_closed lams s home at r members ≡ and_then (read_closed at home r) (early_brace lams s members)
-closed_steps lams s home at r members = sym (nest (closed_class at home.number (completed r.state.ctx home at r.members r.initialised)) _ (early_brace lams s members))
+closed_steps : (lams : Lambdas) (s : List Lexeme) (home : Home) (at : At) (r : Members) (members : syntax.Trees) → rules.class_closed lams s home at r members ≡ and_then (read_closed at home r) (brace lams s members)
+closed_steps lams s home at r members = sym (nest (closed_class at home.number (completed r.state.ctx home at r.members r.initialised)) _ (brace lams s members))
 
-members_steps : (lams : Lambdas) (s : List Lexeme) (st : State) (at : At) (home : Home) (members : syntax.Trees) → rules.class_with lams s st at home members ≡ and_then (read_members s st at home members) (early_brace lams s members)
+members_steps : (lams : Lambdas) (s : List Lexeme) (st : State) (at : At) (home : Home) (members : syntax.Trees) → rules.class_with lams s st at home members ≡ and_then (read_members s st at home members) (brace lams s members)
 members_steps lams s st at home members =
     same_behind (members_of s home (record { state = st; members = []; initialised = [] }) members) _ _ (λ r. closed_steps lams s home at r members)
-    ∙ sym (nest (members_of s home (record { state = st; members = []; initialised = [] }) members) (read_closed at home) (early_brace lams s members))
+    ∙ sym (nest (members_of s home (record { state = st; members = []; initialised = [] }) members) (read_closed at home) (brace lams s members))
 
-class_steps : (lams : Lambdas) (s : List Lexeme) (st : State) (at : At) (name : List ℕ) (kids : syntax.Trees) → rules.class_defined lams s st at name kids ≡ and_then (class_read s st at name kids) (early_brace lams s (members_among kids))
+class_steps : (lams : Lambdas) (s : List Lexeme) (st : State) (at : At) (name : List ℕ) (kids : syntax.Trees) → rules.class_defined lams s st at name kids ≡ and_then (class_read s st at name kids) (brace lams s (members_among kids))
 class_steps lams s st at name kids =
-    let g : ClassRead → Result State ElabFault = early_brace lams s (members_among kids) in
+    let g : ClassRead → Result State ElabFault = brace lams s (members_among kids) in
     same_behind (text_sized at (class_text s kids)) _ _ (λ z. same_behind (begun st.ctx at name true) _ _ (λ b. same_behind (base_named s b.ctx kids) _ _ (λ base. members_steps lams s (record st { ctx = b.ctx }) at (record { number = b.number; name = name; base = base; is_final = has_final kids }) (members_among kids))
     ∙ sym (nest (base_named s b.ctx kids) _ g)) ∙ sym (nest (begun st.ctx at name true) _ g)) ∙ sym (nest (text_sized at (class_text s kids)) _ g)
 
--- whether the initialisers go well
-well_or_not : (lams : Lambdas) → Lawful lams → (s : List Lexeme) (members : syntax.Trees) (x : ClassRead) (r : Result State ElabFault) (y : State) → Settled x.state → all_defaults lams s x.home.number x.state members ≡ r → r ≡ Ok y → code.behind_brace lams s members x ≡ early_brace lams s members x
-well_or_not lams q s members x r y e h i =
-    let f : State → Result State ElabFault = λ (st : State). code.all_late lams s x.home.number x.home.name st members in
-    let settled : On Settled (Ok y) = subst (On Settled) (h ∙ i) (all_settled lams q s x.home.number x.state members e) in
-    ap (λ z. and_then z f) (h ∙ i) ∙ all_late_same lams q s x.home.number x.home.name y members settled
-    ∙ ap (λ z. and_then z (λ (st : State). rules.all_late lams s x.home.number x.home.name st members)) (sym (all_well lams q s x.home.number x.state members y e (h ∙ i)))
+brace_same : (lams : Lambdas) → Lawful lams → (s : List Lexeme) (members : syntax.Trees) (x : ClassRead) → Settled x.state → code.behind_brace lams s members x ≡ brace lams s members x
+brace_same lams q s members x e = ap (λ z. and_then z (λ (st : State). code.all_late lams s x.home.number x.home.name st members)) (all_same lams q s x.home.number x.state members e)
+    ∙ same_after Settled (rules.all_defaults lams s x.home.number x.state members) _ _ (all_settled lams s x.home.number x.state members e) (λ y i. all_late_same lams q s x.home.number x.home.name y members i)
 
-class_well : (lams : Lambdas) → Lawful lams → (s : List Lexeme) (members : syntax.Trees) (r : Result ClassRead ElabFault) (y : State) → On ReadSettled r → and_then r (λ (x : ClassRead). all_defaults lams s x.home.number x.state members) ≡ Ok y → and_then r (code.behind_brace lams s members) ≡ and_then r (early_brace lams s members)
-class_well lams q s members (Ok x) y e h = well_or_not lams q s members x (Ok y) y e h refl
-class_well lams q s members (Err f) y e h = refl
+brace_settled : (lams : Lambdas) (s : List Lexeme) (members : syntax.Trees) (x : ClassRead) → Settled x.state → On Settled (brace lams s members x)
+brace_settled lams s members x e = bind Settled Settled (rules.all_defaults lams s x.home.number x.state members) _ (all_settled lams s x.home.number x.state members e) (λ y i. all_late_settled lams s x.home.number x.home.name y members i)
 
--- a class whose initialisers are well
-pub class_same : (lams : Lambdas) → Lawful lams → (s : List Lexeme) (st : State) (at : At) (name : List ℕ) (kids : syntax.Trees) (y : State) → Settled st → code.class_initialised lams s st at name kids ≡ Ok y → code.class_defined lams s st at name kids ≡ rules.class_defined lams s st at name kids
-class_same lams q s st at name kids y e h = class_well lams q s (members_among kids) (class_read s st at name kids) y (class_settled s st at name kids e) h ∙ sym (class_steps lams s st at name kids)
-
--- a class that is refused before its brace
-pub class_refused : (lams : Lambdas) (s : List Lexeme) (st : State) (at : At) (name : List ℕ) (kids : syntax.Trees) (f : ElabFault) → class_read s st at name kids ≡ Err f → code.class_defined lams s st at name kids ≡ rules.class_defined lams s st at name kids
-class_refused lams s st at name kids f h = ap (λ z. and_then z (code.behind_brace lams s (members_among kids))) h ∙ sym (ap (λ z. and_then z (early_brace lams s (members_among kids))) h) ∙ sym (class_steps lams s st at name kids)
+pub class_same : (lams : Lambdas) → Lawful lams → (s : List Lexeme) (st : State) (at : At) (name : List ℕ) (kids : syntax.Trees) → Settled st → code.class_defined lams s st at name kids ≡ rules.class_defined lams s st at name kids
+class_same lams q s st at name kids e = same_after ReadSettled (class_read s st at name kids) _ _ (class_settled s st at name kids e) (λ x h. brace_same lams q s (members_among kids) x h) ∙ sym (class_steps lams s st at name kids)
 
 -- behind a class no lambdas are at hand
-pub class_stands : (lams : Lambdas) → Lawful lams → (s : List Lexeme) (st : State) (at : At) (name : List ℕ) (kids : syntax.Trees) → Settled st → On Settled (code.class_defined lams s st at name kids)
-class_stands lams q s st at name kids e = bind ReadSettled Settled (class_read s st at name kids) _ (class_settled s st at name kids e) (λ x h. bind Settled Settled (all_defaults lams s x.home.number x.state (members_among kids)) _ (all_settled lams q s x.home.number x.state (members_among kids) h)
-    (λ y i. subst (On Settled) (sym (all_late_same lams q s x.home.number x.home.name y (members_among kids) i)) (all_late_settled lams s x.home.number x.home.name y (members_among kids) i)))
+pub class_stands : (lams : Lambdas) (s : List Lexeme) (st : State) (at : At) (name : List ℕ) (kids : syntax.Trees) → Settled st → On Settled (rules.class_defined lams s st at name kids)
+class_stands lams s st at name kids e = subst (On Settled) (sym (class_steps lams s st at name kids)) (bind ReadSettled Settled (class_read s st at name kids) _ (class_settled s st at name kids e) (λ x h. brace_settled lams s (members_among kids) x h))

@@ -1,5 +1,5 @@
--- Whole units as the code makes them are those of the definitions, where it is said which fault is told.
-use Rattle.std.proofs.Common.{◌≡◌, ℕ, suc, Bool, true, false, List, [], ◌∷◌, refl, sym, ap, ◌∙◌, subst, Option, Some, None, Result, Ok, Err}
+-- Whole units as the code makes them are those of the definitions.
+use Rattle.std.proofs.Common.{◌≡◌, ℕ, suc, Bool, true, false, List, [], ◌∷◌, refl, sym, ap, ◌∙◌, subst, Option, Some, None}
 use Rattle.std.proofs.Math.Path.{fun_ext}
 use Rattle.elab_rules.specs.cpp_types.Typ.{Typ, Form, func}
 use Rattle.elab_rules.specs.cpp_types.declared.classes.At.{At}
@@ -8,7 +8,6 @@ use Rattle.elab_rules.specs.cpp_ast.declared.kinds.NodeKind.TheVariants as k
 use Rattle.elab_rules.specs.cpp_ast.Trees as syntax
 use Rattle.elab_rules.specs.cpp_tree.declared.program.FuncKind.{FuncKind}
 use Rattle.elab_rules.specs.cpp_tree.declared.program.FuncKind.TheVariants.{Plain, Constructor, Destructor}
-use Rattle.elab_rules.specs.cpp_tree.declared.faults.ElabFault.{ElabFault}
 use Rattle.elab_rules.specs.cpp_tree.Typing.{form_in}
 use Rattle.elab_rules.specs.cpp_tree.Units.{TypedProgram}
 use Rattle.elab_rules.specs.elab_ctx.Ctx.{Traits}
@@ -17,7 +16,7 @@ use Rattle.elab_rules.specs.Types.{Declared}
 use Rattle.elab_rules.specs.Expressions.{type_of_specifiers, declared_by}
 use Rattle.elab_rules.specs.Statements.{State, Lambdas}
 use Rattle.elab_rules.specs.Functions as functions
-use Rattle.elab_rules.specs.Functions.{Storage, Header, Placed, no_storage, with_specifier, function_declared, with_definition, text_sized}
+use Rattle.elab_rules.specs.Functions.{Storage, Header, no_storage, with_specifier, function_declared, with_definition, text_sized}
 use Rattle.elab_rules.specs.Classes.{Started, started_from, body_in}
 use Rattle.elab_rules.specs.Lambdas as lambdas
 use Rattle.elab_rules.specs.Members as members
@@ -30,12 +29,8 @@ use Rattle.elab_entry.specs.Bodies as entry
 use Rattle.elab_lambdas.specs.Whole as code_lambdas
 use Rattle.elab_members.specs.Outside as code_members
 use Rattle.elab_members.specs.Whole as code_classes
-use Rattle.elab_implicit.specs.Implied as code_implied
-use Rattle.class_table.specs.Written.{ClassRead, class_read}
-use Rattle.elab_members.specs.Initialisers.{all_defaults}
 use Rattle.elab_leaving.specs.Declaring as code
-use Rattle.elab_leaving.specs.Declaring.{is_untold, are_untold, c_checked, c_words}
-use Rattle.elab_leaving.specs.Untold.{is_refused, if_refused}
+use Rattle.elab_leaving.specs.Declaring.{c_checked, c_words}
 use Rattle.elab_leaving.specs.Programs as code_programs
 use Rattle.elab_leaving.specs.Kept.{On}
 use Rattle.elab_leaving.proofs.Keeping.{bind, skip}
@@ -112,61 +107,13 @@ defined_settled s st whole x at first ts e = tt
 
 -- Classes
 
-well_of : {A : Type 0} (r : Result A ElabFault) → is_refused r ≡ false → (y : A) × (r ≡ Ok y)
-well_of (Ok y) h = (y, refl)
-well_of (Err e) h = absurd cc
-
-class_told : (s : List Lexeme) (st : State) (at : At) (name : List ℕ) (kids : syntax.Trees) → Settled st → is_refused (code_classes.class_initialised code_lambdas.lambdas_of s st at name kids) ≡ false → code_classes.class_defined code_lambdas.lambdas_of s st at name kids ≡ members.class_defined lambdas.lambdas_of s st at name kids
-class_told s st at name kids e h =
-    let w = well_of (code_classes.class_initialised code_lambdas.lambdas_of s st at name kids) h in
-    ap (λ (l : Lambdas). code_classes.class_defined l s st at name kids) lambdas_are
-    ∙ class_same lambdas.lambdas_of lambdas_lawful s st at name kids w.0 e (sym (ap (λ (l : Lambdas). code_classes.class_initialised l s st at name kids) lambdas_are) ∙ w.1)
+class_is : (s : List Lexeme) (st : State) (at : At) (name : List ℕ) (kids : syntax.Trees) → Settled st → code_classes.class_defined code_lambdas.lambdas_of s st at name kids ≡ members.class_defined lambdas.lambdas_of s st at name kids
+class_is s st at name kids e = ap (λ (l : Lambdas). code_classes.class_defined l s st at name kids) lambdas_are ∙ class_same lambdas.lambdas_of lambdas_lawful s st at name kids e
 
 class_clear : (s : List Lexeme) (st : State) (at : At) (name : List ℕ) (kids : syntax.Trees) → Settled st → On Settled (code_classes.class_defined code_lambdas.lambdas_of s st at name kids)
-class_clear s st at name kids e = subst (λ (l : Lambdas). On Settled (code_classes.class_defined l s st at name kids)) (sym lambdas_are) (class_stands lambdas.lambdas_of lambdas_lawful s st at name kids e)
-
--- a step that goes well, and what follows it
-two_well : {A B : Type 0} (r : Result A ElabFault) (f : A → Result B ElabFault) (y : B) → and_then r f ≡ Ok y → (z : A) × ((r ≡ Ok z) × (f z ≡ Ok y))
-two_well (Ok z) f y h = (z, (refl, h))
-two_well (Err e) f y h = absurd cc
-
-class_not_refused : (s : List Lexeme) (st : State) (at : At) (name : List ℕ) (kids : syntax.Trees) (y : State) → code_classes.class_defined code_lambdas.lambdas_of s st at name kids ≡ Ok y → is_refused (code_classes.class_initialised code_lambdas.lambdas_of s st at name kids) ≡ false
-class_not_refused s st at name kids y h =
-    let a = two_well (class_read s st at name kids) (code_classes.behind_brace code_lambdas.lambdas_of s (members.members_among kids)) y h in
-    let b = two_well (all_defaults code_lambdas.lambdas_of s a.0.home.number a.0.state (members.members_among kids)) _ y a.1.1 in
-    ap (λ r. is_refused (and_then r (λ (x : ClassRead). all_defaults code_lambdas.lambdas_of s x.home.number x.state (members.members_among kids)))) a.1.0 ∙ ap (λ (r : Result State ElabFault). is_refused r) b.1.0
+class_clear s st at name kids e = subst (On Settled) (sym (class_is s st at name kids e)) (class_stands lambdas.lambdas_of s st at name kids e)
 
 -- Declarations
-
--- a step of both, and what is untold of what follows
-told_behind : {A : Type 0} (r : Result A ElabFault) (f g : A → Result State ElabFault) (u : A → Bool) → if_refused r false u ≡ false → ((a : A) → u a ≡ false → f a ≡ g a) → and_then r f ≡ and_then r g
-told_behind (Ok a) f g u h m = m a h
-told_behind (Err e) f g u h m = refl
-
-told_if_well : {A : Type 0} (r : Result A ElabFault) (f : A → Result State ElabFault) (u : A → Bool) (b : Bool) (y : State) → and_then r f ≡ Ok y → ((a : A) → r ≡ Ok a → f a ≡ Ok y → u a ≡ false) → if_refused r b u ≡ false
-told_if_well (Ok a) f u b y h m = m a refl h
-told_if_well (Err e) f u b y h m = absurd cc
-
-mutual
-  -- where all is well, nothing is untold
-  declaration_told : (s : List Lexeme) (x : Storage) (st : State) (t : syntax.Tree) (y : State) → code.declaration_of s x st t ≡ Ok y → is_untold s x st t ≡ false
-  declaration_told s x st (syntax.node k.LinkageSpecification p (Some t) kids) y h = told_if_well (c_checked s (at_of p) t) (λ z. code.declarations_of s (c_words x false) st kids) (λ z. are_untold s (c_words x false) st kids) false y h (λ a i j. declarations_told s (c_words x false) st kids y j)
-  declaration_told s x st (syntax.node k.LinkageBlock p (Some t) kids) y h = told_if_well (c_checked s (at_of p) t) (λ z. code.declarations_of s (c_words x true) st kids) (λ z. are_untold s (c_words x true) st kids) false y h (λ a i j. declarations_told s (c_words x true) st kids y j)
-  declaration_told s x st (syntax.node k.ClassSpecifier p (Some t) kids) y h = class_not_refused s st (at_of p) (spelling s t) kids y h
-  declaration_told s x st t y h = refl
-
-  pub declarations_told : (s : List Lexeme) (x : Storage) (st : State) (ts : syntax.Trees) (y : State) → code.declarations_of s x st ts ≡ Ok y → are_untold s x st ts ≡ false
-  declarations_told s x st syntax.none y h = refl
-  declarations_told s x st (syntax.more t ts) y h = told_if_well (code.declaration_of s x st t) (λ (z : State). code.declarations_of s x z ts) (λ (z : State). are_untold s x z ts) (is_untold s x st t) y h (λ z i j. declarations_told s x z ts y j)
-
--- what is not untold of two steps
-told_first : {A : Type 0} (r : Result A ElabFault) (u : A → Bool) (b : Bool) → (((a : A) → r ≡ Ok a → b ≡ false)) → if_refused r b u ≡ false → b ≡ false
-told_first (Ok a) u b h i = h a refl
-told_first (Err e) u b h i = i
-
-told_rest : (r : Result State ElabFault) (f g : State → Result State ElabFault) (u : State → Bool) (b : Bool) → if_refused r b u ≡ false → On Settled r → ((z : State) → Settled z → u z ≡ false → f z ≡ g z) → and_then r f ≡ and_then r g
-told_rest (Ok z) f g u b h i m = m z i h
-told_rest (Err e) f g u b h i m = refl
 
 member_clear : (s : List Lexeme) (x : Storage) (st : State) (at : At) (kind : FuncKind) (first : ℕ) (kids : syntax.Trees) → Settled st → On Settled (code_members.member_defined code_lambdas.lambdas_of s x st at kind first kids)
 member_clear s x st at kind first kids e = subst (On Settled) (sym (member_same s x x st at kind first kids refl e)) (outside_settled lambdas.lambdas_of s x st at kind first kids e)
@@ -191,58 +138,36 @@ mutual
   declarations_clear s x st (syntax.more t ts) e = bind Settled Settled (code.declaration_of s x st t) _ (declaration_clear s x st t e) (λ y i. declarations_clear s x y ts i)
 
 mutual
-  declaration_same : (s : List Lexeme) (x : Storage) (st : State) (t : syntax.Tree) → Settled st → is_untold s x st t ≡ false → code.declaration_of s x st t ≡ rules.declaration_of s x st t
-  declaration_same s x st (syntax.node k.AliasDeclaration p (Some t) kids) e h = refl
-  declaration_same s x st (syntax.node k.EnumSpecifier p (Some t) kids) e h = refl
-  declaration_same s x st (syntax.node k.ClassDeclaration p (Some t) kids) e h = refl
-  declaration_same s x st (syntax.node k.FunctionDefinition p (Some t) kids) e h = defined_same s st x (at_of p) t kids e
-  declaration_same s x st (syntax.node k.LinkageSpecification p (Some t) kids) e h = told_behind (c_checked s (at_of p) t) (λ z. code.declarations_of s (c_words x false) st kids) (λ z. rules.declarations_of s (c_words x false) st kids) (λ z. are_untold s (c_words x false) st kids) h (λ a i. declarations_same s (c_words x false) st kids e i)
-  declaration_same s x st (syntax.node k.LinkageBlock p (Some t) kids) e h = told_behind (c_checked s (at_of p) t) (λ z. code.declarations_of s (c_words x true) st kids) (λ z. rules.declarations_of s (c_words x true) st kids) (λ z. are_untold s (c_words x true) st kids) h (λ a i. declarations_same s (c_words x true) st kids e i)
-  declaration_same s x st (syntax.node k.ClassSpecifier p (Some t) kids) e h = class_told s st (at_of p) (spelling s t) kids e h
-  declaration_same s x st (syntax.node k.ConstructorDefinition p (Some t) kids) e h = member_same s x x st (at_of p) Constructor t kids refl e
-  declaration_same s x st (syntax.node k.DestructorDefinition p (Some t) kids) e h = member_same s x x st (at_of p) Destructor t kids refl e
-  declaration_same s x st t e h = refl
+  declaration_same : (s : List Lexeme) (x : Storage) (st : State) (t : syntax.Tree) → Settled st → code.declaration_of s x st t ≡ rules.declaration_of s x st t
+  declaration_same s x st (syntax.node k.AliasDeclaration p (Some t) kids) e = refl
+  declaration_same s x st (syntax.node k.EnumSpecifier p (Some t) kids) e = refl
+  declaration_same s x st (syntax.node k.ClassDeclaration p (Some t) kids) e = refl
+  declaration_same s x st (syntax.node k.FunctionDefinition p (Some t) kids) e = defined_same s st x (at_of p) t kids e
+  declaration_same s x st (syntax.node k.LinkageSpecification p (Some t) kids) e = same_behind (c_checked s (at_of p) t) _ _ (λ y. declarations_same s (c_words x false) st kids e)
+  declaration_same s x st (syntax.node k.LinkageBlock p (Some t) kids) e = same_behind (c_checked s (at_of p) t) _ _ (λ y. declarations_same s (c_words x true) st kids e)
+  declaration_same s x st (syntax.node k.ClassSpecifier p (Some t) kids) e = class_is s st (at_of p) (spelling s t) kids e
+  declaration_same s x st (syntax.node k.ConstructorDefinition p (Some t) kids) e = member_same s x x st (at_of p) Constructor t kids refl e
+  declaration_same s x st (syntax.node k.DestructorDefinition p (Some t) kids) e = member_same s x x st (at_of p) Destructor t kids refl e
+  declaration_same s x st t e = refl
 
-  pub declarations_same : (s : List Lexeme) (x : Storage) (st : State) (ts : syntax.Trees) → Settled st → are_untold s x st ts ≡ false → code.declarations_of s x st ts ≡ rules.declarations_of s x st ts
-  declarations_same s x st syntax.none e h = refl
-  declarations_same s x st (syntax.more t ts) e h =
-      told_rest (code.declaration_of s x st t) (λ (z : State). code.declarations_of s x z ts) (λ (z : State). rules.declarations_of s x z ts) (λ (z : State). are_untold s x z ts) (is_untold s x st t) h (declaration_clear s x st t e) (λ z i j. declarations_same s x z ts i j)
-      ∙ ap (λ r. and_then r (λ (z : State). rules.declarations_of s x z ts)) (declaration_same s x st t e (told_first (code.declaration_of s x st t) (λ (z : State). are_untold s x z ts) (is_untold s x st t) (λ a i. declaration_told s x st t a i) h))
+  pub declarations_same : (s : List Lexeme) (x : Storage) (st : State) (ts : syntax.Trees) → Settled st → code.declarations_of s x st ts ≡ rules.declarations_of s x st ts
+  declarations_same s x st syntax.none e = refl
+  declarations_same s x st (syntax.more t ts) e =
+      same_after Settled (code.declaration_of s x st t) _ _ (declaration_clear s x st t e) (λ z i. declarations_same s x z ts i)
+      ∙ ap (λ r. and_then r (λ (z : State). rules.declarations_of s x z ts)) (declaration_same s x st t e)
 
 -- Units
 
-pub unit_same : (s : List Lexeme) (st : State) (decls : syntax.Trees) → Settled st → are_untold s no_storage st decls ≡ false → code_programs.unit_from s st decls ≡ rules.unit_from s st decls
-unit_same s st decls e h = same_after Settled (code.declarations_of s no_storage st decls) _ _ (declarations_clear s no_storage st decls e) (λ x i. implied_same x i) ∙ ap (λ r. and_then r with_implied) (declarations_same s no_storage st decls e h)
+pub unit_same : (s : List Lexeme) (st : State) (decls : syntax.Trees) → Settled st → code_programs.unit_from s st decls ≡ rules.unit_from s st decls
+unit_same s st decls e = same_after Settled (code.declarations_of s no_storage st decls) _ _ (declarations_clear s no_storage st decls e) (λ x i. implied_same x i) ∙ ap (λ r. and_then r with_implied) (declarations_same s no_storage st decls e)
 
 -- Programs
 
-unit_told : (s : List Lexeme) (st : State) (decls : syntax.Trees) (y : State) → code_programs.unit_from s st decls ≡ Ok y → are_untold s no_storage st decls ≡ false
-unit_told s st decls y h = let a = two_well (code.declarations_of s no_storage st decls) code_implied.with_implied y h in declarations_told s no_storage st decls a.0 a.1.0
+pub program_same : (i : ℕ) (p : TypedProgram) (traits : List Traits) (xs : List Source) → code_programs.program_from i p traits xs ≡ programs.program_from i p traits xs
+program_same i p traits [] = refl
+program_same i p traits (x ∷ xs) =
+    same_behind (code_programs.unit_from x.tokens (start_behind i p traits) x.decls) _ _ (λ y. program_same (suc i) (with_unit p x y) y.ctx.traits xs)
+    ∙ ap (λ r. and_then r (λ (y : State). programs.program_from (suc i) (with_unit p x y) y.ctx.traits xs)) (unit_same x.tokens (start_behind i p traits) x.decls refl)
 
-told_program : {A : Type 0} (r : Result A ElabFault) (f g : A → Result TypedProgram ElabFault) (u : A → Bool) (b : Bool) → if_refused r b u ≡ false → ((a : A) → u a ≡ false → f a ≡ g a) → and_then r f ≡ and_then r g
-told_program (Ok a) f g u b h m = m a h
-told_program (Err e) f g u b h m = refl
-
-pub program_same : (i : ℕ) (p : TypedProgram) (traits : List Traits) (xs : List Source) → code_programs.untold_from i p traits xs ≡ false → code_programs.program_from i p traits xs ≡ programs.program_from i p traits xs
-program_same i p traits [] h = refl
-program_same i p traits (x ∷ xs) h =
-    let st : State = start_behind i p traits in
-    let u : Bool = are_untold x.tokens no_storage st x.decls in
-    told_program (code_programs.unit_from x.tokens st x.decls) (λ (y : State). code_programs.program_from (suc i) (with_unit p x y) y.ctx.traits xs) (λ (y : State). programs.program_from (suc i) (with_unit p x y) y.ctx.traits xs) (λ (y : State). code_programs.untold_from (suc i) (with_unit p x y) y.ctx.traits xs) u h (λ y j. program_same (suc i) (with_unit p x y) y.ctx.traits xs j)
-    ∙ ap (λ r. and_then r (λ (y : State). programs.program_from (suc i) (with_unit p x y) y.ctx.traits xs)) (unit_same x.tokens st x.decls refl (told_first (code_programs.unit_from x.tokens st x.decls) (λ (y : State). code_programs.untold_from (suc i) (with_unit p x y) y.ctx.traits xs) u (λ y j. unit_told x.tokens st x.decls y j) h))
-
--- the whole program, where it is said which fault is told
-pub whole_same : (xs : List Source) → code_programs.is_fault_untold xs ≡ false → code_programs.program_of xs ≡ programs.program_of xs
-whole_same xs h = program_same 0 code_programs.no_units [] xs h
-
-told_whole : {A : Type 0} (r : Result A ElabFault) (f : A → Result TypedProgram ElabFault) (u : A → Bool) (b : Bool) (q : TypedProgram) → and_then r f ≡ Ok q → ((a : A) → f a ≡ Ok q → u a ≡ false) → if_refused r b u ≡ false
-told_whole (Ok a) f u b q h m = m a h
-told_whole (Err e) f u b q h m = absurd cc
-
-program_told : (i : ℕ) (p : TypedProgram) (traits : List Traits) (xs : List Source) (q : TypedProgram) → code_programs.program_from i p traits xs ≡ Ok q → code_programs.untold_from i p traits xs ≡ false
-program_told i p traits [] q h = refl
-program_told i p traits (x ∷ xs) q h = told_whole (code_programs.unit_from x.tokens (start_behind i p traits) x.decls) (λ (y : State). code_programs.program_from (suc i) (with_unit p x y) y.ctx.traits xs) (λ (y : State). code_programs.untold_from (suc i) (with_unit p x y) y.ctx.traits xs) (are_untold x.tokens no_storage (start_behind i p traits) x.decls) q h (λ y j. program_told (suc i) (with_unit p x y) y.ctx.traits xs q j)
-
--- a program that the code accepts is the program of the definitions
-pub accepted_same : (xs : List Source) (q : TypedProgram) → code_programs.program_of xs ≡ Ok q → programs.program_of xs ≡ Ok q
-accepted_same xs q h = sym (whole_same xs (program_told 0 code_programs.no_units [] xs q h)) ∙ h
+pub whole_same : (xs : List Source) → code_programs.program_of xs ≡ programs.program_of xs
+whole_same xs = program_same 0 code_programs.no_units [] xs

@@ -23,8 +23,7 @@ use Rattle.elab_rules.specs.Units.{header_of, declared_of_type, file_declarators
 use Rattle.elab_entry.specs.Bodies.{function_body}
 use Rattle.elab_lambdas.specs.Whole.{lambdas_of}
 use Rattle.elab_members.specs.Outside.{member_defined}
-use Rattle.elab_members.specs.Whole.{class_initialised, class_defined}
-use Rattle.elab_leaving.specs.Untold.{is_refused, if_refused}
+use Rattle.elab_members.specs.Whole.{class_defined}
 
 -- Parts of the rules that these write in line
 
@@ -125,16 +124,3 @@ abbrev mutual
   pub declarations_of : List Lexeme → Storage → State → syntax.Trees → Result State ElabFault
   declarations_of s x st syntax.none = Ok st
   declarations_of s x st (syntax.more t ts) = and_then (declaration_of s x st t) (λ (y : State). declarations_of s x y ts)
-
--- Which fault is told of a class is left open where an initialiser of a member has one: whether the first declaration that is refused is such a class
-
-abbrev mutual
-  pub is_untold : List Lexeme → Storage → State → syntax.Tree → Bool
-  is_untold s x st (syntax.node k.LinkageSpecification p (Some t) kids) = if_refused (c_checked s (at_of p) t) false (λ y. are_untold s (c_words x false) st kids)
-  is_untold s x st (syntax.node k.LinkageBlock p (Some t) kids) = if_refused (c_checked s (at_of p) t) false (λ y. are_untold s (c_words x true) st kids)
-  is_untold s x st (syntax.node k.ClassSpecifier p (Some t) kids) = is_refused (class_initialised lambdas_of s st (at_of p) (spelling s t) kids)
-  is_untold s x st (syntax.node kind p token kids) = false
-
-  pub are_untold : List Lexeme → Storage → State → syntax.Trees → Bool
-  are_untold s x st syntax.none = false
-  are_untold s x st (syntax.more t ts) = if_refused (declaration_of s x st t) (is_untold s x st t) (λ (y : State). are_untold s x y ts)

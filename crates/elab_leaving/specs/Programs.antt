@@ -1,5 +1,5 @@
 -- The typed program of some units as the code makes it, and what `elaborate` says of it. Declarations are those of `Declaring`; the rest is `Programs` of elab_rules.
-use Rattle.std.specs.Prelude.{ℕ, suc, Bool, false, List, [], ◌∷◌, Result, Ok}
+use Rattle.std.specs.Prelude.{ℕ, suc, List, [], ◌∷◌, Result, Ok}
 use Rattle.elab_rules.specs.cpp_lex.Tokens.{Lexeme}
 use Rattle.elab_rules.specs.cpp_ast.Trees as syntax
 use Rattle.elab_rules.specs.cpp_tree.declared.faults.ElabFault.{ElabFault}
@@ -10,8 +10,7 @@ use Rattle.elab_rules.specs.Functions.{no_storage}
 use Rattle.elab_rules.specs.Statements.{State}
 use Rattle.elab_rules.specs.Programs.{Source, start_behind, with_unit}
 use Rattle.elab_implicit.specs.Implied.{with_implied}
-use Rattle.elab_leaving.specs.Declaring.{declarations_of, are_untold}
-use Rattle.elab_leaving.specs.Untold.{if_refused}
+use Rattle.elab_leaving.specs.Declaring.{declarations_of}
 
 -- The program
 
@@ -29,11 +28,3 @@ no_units = record { units = []; classes = []; slots = [] }
 -- the typed program of all units, or the first fault
 abbrev pub program_of : List Source → Result TypedProgram ElabFault
 program_of xs = program_from 0 no_units [] xs
-
--- whether the first fault is one of a class in which an initialiser of a member has one, so that it is not said which is told
-abbrev pub untold_from : ℕ → TypedProgram → List Traits → List Source → Bool
-untold_from i p traits [] = false
-untold_from i p traits (x ∷ xs) = if_refused (unit_from x.tokens (start_behind i p traits) x.decls) (are_untold x.tokens no_storage (start_behind i p traits) x.decls) (λ (st : State). untold_from (suc i) (with_unit p x st) st.ctx.traits xs)
-
-abbrev pub is_fault_untold : List Source → Bool
-is_fault_untold xs = untold_from 0 no_units [] xs

@@ -1,16 +1,12 @@
 //! Laws of elaboration. A function here does nothing: its clause is the law.
-ghost use Rattle.std.specs.Prelude.{◌≡◌, ℕ, List, [], Option, Err, Ok, false};
+ghost use Rattle.std.specs.Prelude.{◌≡◌, ℕ, List, [], Option};
 ghost use Rattle.elab_rules.specs.cpp_ast.Trees as syntax;
 ghost use Rattle.elab_rules.specs.cpp_lex.Tokens.{Lexeme};
-ghost use Rattle.elab_rules.specs.cpp_tree.Units.{TypedProgram};
-ghost use Rattle.elab_rules.specs.cpp_tree.declared.faults.ElabFault.TheVariants.{Ill};
-ghost use Rattle.elab_rules.specs.cpp_tree.declared.faults.ElabFault.{ElabFault};
-ghost use Rattle.elab_rules.specs.cpp_tree.declared.faults.IllRule.TheVariants.{NoDefault};
 ghost use Rattle.elab_rules.specs.cpp_tree.declared.program.FuncKind.{FuncKind};
 ghost use Rattle.elab_rules.specs.cpp_types.Typ.{Typ};
 ghost use Rattle.elab_rules.specs.cpp_types.declared.classes.At.{At};
 ghost use Rattle.elab_rules.specs.Functions as rules_functions;
-ghost use Rattle.elab_rules.specs.Functions.{Header, Storage, leaving, no_storage};
+ghost use Rattle.elab_rules.specs.Functions.{Header, Storage, leaving};
 ghost use Rattle.elab_rules.specs.Implicit as rules_implicit;
 ghost use Rattle.elab_rules.specs.Lambdas as rules_lambdas;
 ghost use Rattle.elab_rules.specs.Members as rules_members;
@@ -24,13 +20,8 @@ ghost use Rattle.elab_implicit.specs.Implied as implied_members;
 ghost use Rattle.elab_lambdas.specs.Whole as made_lambdas;
 ghost use Rattle.elab_members.specs.Outside as outside_members;
 ghost use Rattle.elab_members.specs.Whole as whole_classes;
-ghost use Rattle.class_table.specs.Written.{class_read};
-ghost use Rattle.elab_leaving.specs.Declaring.{are_untold};
 ghost use Rattle.elab_leaving.specs.Kept.{Begins, Inside, Lawful, Leaves, On};
 ghost use Rattle.elab_leaving.specs.Programs as made_programs;
-ghost use Rattle.elab_leaving.specs.Programs.{is_fault_untold};
-ghost use Rattle.elab_leaving.specs.WellLater as well_later;
-ghost use Rattle.elab_leaving.specs.Untold.{is_refused};
 
 /// Statements leave types, initialisers, enumerators and the scopes round the innermost as they are, and add to the rest
 /// at the end, where whatever makes their lambdas does.
@@ -61,11 +52,9 @@ pub fn members_outside()
     ensures { (lams : Lambdas) → Lawful lams → (s : List Lexeme) (x : Storage) (st : State) (at : At) (kind : FuncKind) (first : ℕ) (kids : syntax.Trees) → st.ctx.closures ≡ [] → outside_members.member_defined lams s x st at kind first kids ≡ rules_members.member_defined lams s x st at kind first kids }
 {}
 
-/// A class as the code makes it is that of the definitions, where each initialiser of its members is well or the class is
-/// refused before them.
+/// A class as the code makes it is that of the definitions.
 pub fn classes()
-    ensures well { (lams : Lambdas) → Lawful lams → (s : List Lexeme) (st : State) (at : At) (name : List ℕ) (kids : syntax.Trees) (y : State) → st.ctx.closures ≡ [] → whole_classes.class_initialised lams s st at name kids ≡ Ok y → whole_classes.class_defined lams s st at name kids ≡ rules_members.class_defined lams s st at name kids }
-    ensures refused { (lams : Lambdas) (s : List Lexeme) (st : State) (at : At) (name : List ℕ) (kids : syntax.Trees) (f : ElabFault) → class_read s st at name kids ≡ Err f → whole_classes.class_defined lams s st at name kids ≡ rules_members.class_defined lams s st at name kids }
+    ensures { (lams : Lambdas) → Lawful lams → (s : List Lexeme) (st : State) (at : At) (name : List ℕ) (kids : syntax.Trees) → st.ctx.closures ≡ [] → whole_classes.class_defined lams s st at name kids ≡ rules_members.class_defined lams s st at name kids }
 {}
 
 /// The bodies of implicit members as the code makes them are those of the definitions.
@@ -73,20 +62,12 @@ pub fn implicit_members()
     ensures { (st : State) → st.ctx.closures ≡ [] → implied_members.with_implied st ≡ rules_implicit.with_implied st }
 {}
 
-/// A unit as the code makes it is that of the definitions, where it is said which fault is told.
+/// A unit as the code makes it is that of the definitions.
 pub fn units()
-    ensures { (s : List Lexeme) (st : State) (decls : syntax.Trees) → st.ctx.closures ≡ [] → are_untold s no_storage st decls ≡ false → made_programs.unit_from s st decls ≡ rules_units.unit_from s st decls }
+    ensures { (s : List Lexeme) (st : State) (decls : syntax.Trees) → st.ctx.closures ≡ [] → made_programs.unit_from s st decls ≡ rules_units.unit_from s st decls }
 {}
 
-/// A program as the code makes it is that of the definitions, where it is said which fault is told; one that the code
-/// accepts is.
+/// A program as the code makes it is that of the definitions, and so is its first fault.
 pub fn programs()
-    ensures told { (xs : List Source) → is_fault_untold xs ≡ false → made_programs.program_of xs ≡ rules_programs.program_of xs }
-    ensures accepted { (xs : List Source) (p : TypedProgram) → made_programs.program_of xs ≡ Ok p → rules_programs.program_of xs ≡ Ok p }
-{}
-
-/// A unit that the definitions accept and the code refuses, since an initialiser of a member is well only by one behind it.
-pub fn definitions_differ()
-    ensures definitions { is_refused (rules_units.unit_of well_later.tokens 0 well_later.decls) ≡ false }
-    ensures code { made_programs.unit_from well_later.tokens (rules_units.start 0) well_later.decls ≡ Err (Ill (record { source = 0; offset = 32 }) NoDefault) }
+    ensures { (xs : List Source) → made_programs.program_of xs ≡ rules_programs.program_of xs }
 {}

@@ -10,14 +10,13 @@ use Rattle.elab_entry.specs.cpp_ast.declared.kinds.NodeKind.TheVariants as k
 use Rattle.elab_entry.specs.cpp_ast.Trees.{Tree, node, Trees, more, none}
 use Rattle.elab_entry.specs.cpp_tree.declared.program.FuncKind.TheVariants.{Plain}
 use Rattle.elab_entry.specs.cpp_tree.declared.faults.ElabFault.{ElabFault}
-use Rattle.elab_entry.specs.cpp_tree.declared.faults.ElabFault.TheVariants.{Ill, Override, JumpIntoBlock, Limit, Memory}
+use Rattle.elab_entry.specs.cpp_tree.declared.faults.ElabFault.TheVariants.{Ill}
 use Rattle.elab_entry.specs.cpp_tree.declared.faults.IllRule.TheVariants.{BadDeclaration, OutOfProfile}
 use Rattle.elab_entry.specs.elab_ctx.Says.{Faults}
 use Rattle.elab_entry.specs.elab_ctx.Steps.{and_then, each_of, at_of, spelling}
 use Rattle.elab_entry.specs.elab_rules.Types.{Declared}
-use Rattle.elab_entry.specs.elab_rules.Statements.{State, Lambdas, name_of, bound_by_initialiser}
+use Rattle.elab_entry.specs.elab_rules.Statements.{State, name_of, bound_by_initialiser}
 use Rattle.elab_entry.specs.elab_rules.Functions.{Storage, Header, with_specifier, text_sized}
-use Rattle.elab_entry.specs.elab_rules.Members.{members_among}
 use Rattle.elab_entry.specs.elab_rules.Classes.{header_in, started_from}
 use Rattle.elab_entry.specs.elab_rules.Globals.{global_declared}
 use Rattle.elab_entry.specs.elab_rules.Units.{header_of, definition_text, declared_of_type, file_declarator, file_declaration}
@@ -28,13 +27,8 @@ use Rattle.elab_entry.specs.elab_types.Syntax.{trees_at, tree_at}
 use Rattle.class_members.specs.Shown.{Answers}
 use Rattle.elab_decls.proofs.Steps.{faults_then}
 use Rattle.elab_units.proofs.KidSteps.{trees_step, trees_past}
-use Rattle.elab_members.specs.Initialisers.{all_defaults}
-use Rattle.elab_members.specs.Whole.{class_initialised, class_defined, all_late, Defines}
-use Rattle.class_table.specs.Written.{ClassRead, class_read}
-use Rattle.elab_leaving.specs.Untold.{is_refused, if_refused}
-use Rattle.elab_units.specs.Outcomes.{AnswersUnless}
-use Rattle.elab_units.proofs.Outcomes.{faults_on, faults_at, unless_done, unless_err, err_unless, unless_same}
-use Rattle.elab_leaving.specs.Declaring.{is_function_form, file_header, has_trees, only_declared, declarator_by, file_started, defined_with, defined_header, defined_steps, defined_typed, are_three, declaration_of, declarations_of, is_untold, are_untold}
+use Rattle.elab_members.specs.Whole.{Stands}
+use Rattle.elab_leaving.specs.Declaring.{is_function_form, file_header, has_trees, only_declared, declarator_by, file_started, defined_with, defined_header, defined_steps, defined_typed, are_three, declaration_of, declarations_of}
 
 -- Trees, one behind the other
 
@@ -53,36 +47,21 @@ pub changes_answers : (a b : StateRec) (r : Result (Unit {0}) ElabFault) (x : Re
 changes_answers a b (Ok u) x h = h.is
 changes_answers a b (Err e) x h = h
 
--- Where a fault may be left open
+pub stands_answers : (a b : StateRec) (r : Result (Unit {0}) ElabFault) (x : Result State ElabFault) → Stands a b r x → Answers (state_of b) r x
+stands_answers a b (Ok u) x h = h.is
+stands_answers a b (Err e) x h = h
 
--- a class: whether an initialiser of a member has a fault
-pub class_answers : (a b : StateRec) (r : Result (Unit {0}) ElabFault) (y x : Result State ElabFault) → (is_refused y ≡ true → is_refused x ≡ true) → Defines a b r y x → AnswersUnless (is_refused y) (state_of b) r x
-class_answers a b (Ok u) (Ok st) x k h = h.is
-class_answers a b (Ok u) (Err f) x k h = h.is
-class_answers a b (Err e) (Ok st) x k h = h
-class_answers a b (Err (Ill at rule)) (Err f) x k h = k refl
-class_answers a b (Err (Override at rule)) (Err f) x k h = k refl
-class_answers a b (Err (JumpIntoBlock at)) (Err f) x k h = k refl
-class_answers a b (Err (Limit at which)) (Err f) x k h = k refl
-class_answers a b (Err Memory) (Err f) x k h = tt
+pub answers_so : {B : Type 0} (b : B) (r : Result (Unit {0}) ElabFault) (x y : Result B ElabFault) → y ≡ x → Answers b r x → Answers b r y
+answers_so {B} b r x y e h = subst (λ (z : Result B ElabFault). Answers b r z) (sym e) h
 
--- a class in which an initialiser is refused is refused
-both_refused : {A : Type 0} (r : Result A ElabFault) (all : A → Result State ElabFault) (late : A → State → Result State ElabFault) → is_refused (and_then r all) ≡ true → is_refused (and_then r (λ (x : A). and_then (all x) (late x))) ≡ true
-both_refused (Err e) all late h = refl
-both_refused (Ok a) all late h = one (all a) (late a) h
-  where
-    one : (y : Result State ElabFault) (f : State → Result State ElabFault) → is_refused y ≡ true → is_refused (and_then y f) ≡ true
-    one (Ok st) f g = let k : false ≡ true = g in absurd cc
-    one (Err e) f g = refl
+err_answers : (b : State) (r : Result (Unit {0}) ElabFault) (e : ElabFault) (x : Result State ElabFault) → r ≡ Err e → Faults e x → Answers b r x
+err_answers b r e x g h = subst (λ (z : Result (Unit {0}) ElabFault). Answers b z x) (sym g) h
 
-pub class_refused_too : (lams : Lambdas) (s : List Lexeme) (st : State) (at : At) (name : List ℕ) (kids : Trees) → is_refused (class_initialised lams s st at name kids) ≡ true → is_refused (class_defined lams s st at name kids) ≡ true
-class_refused_too lams s st at name kids h = both_refused (class_read s st at name kids) (λ (x : ClassRead). all_defaults lams s x.home.number x.state (members_among kids)) (λ (x : ClassRead) (y : State). all_late lams s x.home.number x.home.name y (members_among kids)) h
+pub linkage_fails : (c : State) (r : Result (Unit {0}) ElabFault) (e : ElabFault) (d : Result Bool ElabFault) (rest : Bool → Result State ElabFault) → r ≡ Err e → Faults e d → Answers c r (and_then d rest)
+linkage_fails c r e d rest g h = err_answers c r e (and_then d rest) g (faults_then e d rest h)
 
-pub linkage_fails : (c : State) (r : Result (Unit {0}) ElabFault) (e : ElabFault) (d : Result Bool ElabFault) (f : Bool → Bool) (rest : Bool → Result State ElabFault) → r ≡ Err e → Faults e d → AnswersUnless (if_refused d false f) c r (and_then d rest)
-linkage_fails c r e d f rest g h = err_unless (if_refused d false f) c r e (and_then d rest) g (faults_at e d f rest h)
-
-pub linkage_goes : (c : State) (r : Result (Unit {0}) ElabFault) (b : Bool) (d : Result Bool ElabFault) (f : Bool → Bool) (rest : Bool → Result State ElabFault) → d ≡ Ok b → AnswersUnless (f b) c r (rest b) → AnswersUnless (if_refused d false f) c r (and_then d rest)
-linkage_goes c r b d f rest g h = subst (λ (z : Result Bool ElabFault). AnswersUnless (if_refused z false f) c r (and_then z rest)) (sym g) h
+pub linkage_goes : (c : State) (r : Result (Unit {0}) ElabFault) (b : Bool) (d : Result Bool ElabFault) (rest : Bool → Result State ElabFault) → d ≡ Ok b → Answers c r (rest b) → Answers c r (and_then d rest)
+linkage_goes c r b d rest g h = subst (λ (z : Result Bool ElabFault). Answers c r (and_then z rest)) (sym g) h
 
 -- Functions and variables
 
@@ -234,41 +213,21 @@ parts_refused s st known whole x at first (more a (more b (more c (more d ts))))
 -- so far declarations have led from a state to another, and the rest is left
 pub record DeclaredTo (s : List Lexeme) (x : Storage) (first st : State) (ts rest : Trees) : Type 0 where
   pub is : declarations_of s x first ts ≡ declarations_of s x st rest
-  pub untold : are_untold s x first ts ≡ are_untold s x st rest
 
 pub declared_none : (s : List Lexeme) (x : Storage) (st : State) (ts : Trees) → DeclaredTo s x st st ts ts
-declared_none s x st ts = record { is = refl; untold = refl }
+declared_none s x st ts = record { is = refl }
 
 module _ (s : List Lexeme) (x : Storage) (first st : State) (trees : List Tree) (ids : List NodeId) (i : ℕ) (all : DeclaredTo s x first st (trees_at trees ids) (trees_at trees (drop i ids))) where
   pub declared_more : (d : NodeId) (next : State) → i < length ids → declaration_of s x st (tree_at trees (get_or ids i d)) ≡ Ok next → DeclaredTo s x first next (trees_at trees ids) (trees_at trees (drop (i + 1) ids))
   declared_more d next l m =
-      let t = tree_at trees (get_or ids i d) in
       let rest = trees_at trees (drop (i + 1) ids) in
-      let step : trees_at trees (drop i ids) ≡ more t rest = trees_step trees ids i d l in
-      record {
-        is = all.is ∙ ap (declarations_of s x st) step ∙ ap (λ (z : Result State ElabFault). and_then z (λ (y : State). declarations_of s x y rest)) m;
-        untold = all.untold ∙ ap (are_untold s x st) step ∙ ap (λ (z : Result State ElabFault). if_refused z (is_untold s x st t) (λ (y : State). are_untold s x y rest)) m;
-      }
+      record { is = all.is ∙ ap (declarations_of s x st) (trees_step trees ids i d l) ∙ ap (λ (z : Result State ElabFault). and_then z (λ (y : State). declarations_of s x y rest)) m }
 
-  pub declared_fails : (d : NodeId) (b c : State) (r : Result (Unit {0}) ElabFault) (e : ElabFault) → i < length ids → r ≡ Err e → AnswersUnless (is_untold s x st (tree_at trees (get_or ids i d))) b (Err e) (declaration_of s x st (tree_at trees (get_or ids i d))) → AnswersUnless (are_untold s x first (trees_at trees ids)) c r (declarations_of s x first (trees_at trees ids))
-  declared_fails d b c r e l g m =
-      let t = tree_at trees (get_or ids i d) in
+  pub declared_fails : (d : NodeId) (c : State) (r : Result (Unit {0}) ElabFault) (e : ElabFault) → i < length ids → r ≡ Err e → Faults e (declaration_of s x st (tree_at trees (get_or ids i d))) → Answers c r (declarations_of s x first (trees_at trees ids))
+  declared_fails d c r e l g m =
       let rest = trees_at trees (drop (i + 1) ids) in
-      let step : trees_at trees (drop i ids) ≡ more t rest = trees_step trees ids i d l in
-      unless_same (are_untold s x first (trees_at trees ids)) (are_untold s x st (more t rest)) c r (declarations_of s x first (trees_at trees ids)) (declarations_of s x st (more t rest))
-      (all.untold ∙ ap (are_untold s x st) step) (all.is ∙ ap (declarations_of s x st) step)
-      (err_unless (are_untold s x st (more t rest)) c r e (declarations_of s x st (more t rest)) g
-      (faults_on (is_untold s x st t) e (declaration_of s x st t) (λ (y : State). are_untold s x y rest) (λ (y : State). declarations_of s x y rest) (unless_err (is_untold s x st t) b e (declaration_of s x st t) m)))
+      err_answers c r e (declarations_of s x first (trees_at trees ids)) g
+      (subst (Faults e) (sym (all.is ∙ ap (declarations_of s x st) (trees_step trees ids i d l))) (faults_then e (declaration_of s x st (tree_at trees (get_or ids i d))) (λ (y : State). declarations_of s x y rest) m))
 
-  pub declared_last : (u : Unit {0}) → length ids ≤ i → AnswersUnless (are_untold s x first (trees_at trees ids)) st (Ok u) (declarations_of s x first (trees_at trees ids))
-  declared_last u l = unless_done (are_untold s x first (trees_at trees ids)) st u (declarations_of s x first (trees_at trees ids)) (all.is ∙ ap (declarations_of s x st) (trees_past trees ids i l))
-
--- where all declarations are well, nothing is left open
-
-told_step : (d : Result State ElabFault) (u : Bool) (f : State → Bool) (rest : State → Result State ElabFault) (end : State) → ((y : State) → rest y ≡ Ok end → f y ≡ false) → and_then d rest ≡ Ok end → if_refused d u f ≡ false
-told_step (Ok a) u f rest end k h = k a h
-told_step (Err e) u f rest end k h = let g : Err e ≡ Ok end = h in absurd cc
-
-pub all_told : (s : List Lexeme) (x : Storage) (st : State) (ts : Trees) (end : State) → declarations_of s x st ts ≡ Ok end → are_untold s x st ts ≡ false
-all_told s x st none end h = refl
-all_told s x st (more t ts) end h = told_step (declaration_of s x st t) (is_untold s x st t) (λ (y : State). are_untold s x y ts) (λ (y : State). declarations_of s x y ts) end (λ y g. all_told s x y ts end g) h
+  pub declared_last : (u : Unit {0}) → length ids ≤ i → Answers st (Ok u) (declarations_of s x first (trees_at trees ids))
+  declared_last u l = all.is ∙ ap (declarations_of s x st) (trees_past trees ids i l)

@@ -1,5 +1,5 @@
 -- Units, one behind the other.
-use Rattle.std.proofs.Common.{◌≡◌, ◌∙◌, ◌≤◌, ◌+◌, ◌++◌, ℕ, suc, Bool, true, false, List, [], ◌∷◌, Some, Result, Ok, Err, length, map, slice_get, ap, sym, subst, arith, refl, append_assoc, append-nil}
+use Rattle.std.proofs.Common.{◌≡◌, ◌∙◌, ◌≤◌, ◌+◌, ◌++◌, ℕ, suc, List, [], ◌∷◌, Some, Result, Ok, Err, length, map, slice_get, ap, sym, subst, arith, refl, append_assoc, append-nil}
 use Rattle.std.proofs.lemmas.List.{length-append}
 use Rattle.cpp_ast.specs.declared.units.Unit.{Unit as UnitRecord}
 use Rattle.elab_entry.specs.cpp_lex.Tokens.{Lexeme}
@@ -21,20 +21,19 @@ use Rattle.elab_entry.specs.elab_scopes.declared.state.State.{State as StateRec}
 use Rattle.elab_entry.specs.elab_scopes.States.{state_of}
 use Rattle.elab_entry.specs.elab_types.Syntax.{trees_at}
 use Rattle.elab_implicit.specs.Implied.{with_implied}
-use Rattle.elab_leaving.proofs.Units.{whole_same, accepted_same}
+use Rattle.elab_leaving.proofs.Units.{whole_same}
 use Rattle.elab_units.specs.declared.known.Classes.{Classes}
 use Rattle.elab_units.specs.declared.programs.Behind.{Behind}
 use Rattle.elab_units.specs.declared.shown.Made.{Made}
 use Rattle.elab_units.specs.Begun.{program_with, traits_known, begun_behind}
-use Rattle.elab_leaving.specs.Declaring.{declarations_of, are_untold}
+use Rattle.elab_leaving.specs.Declaring.{declarations_of}
 use Rattle.elab_units.specs.Made.{state_with}
-use Rattle.elab_leaving.specs.Untold.{if_refused}
-use Rattle.elab_units.specs.Outcomes.{FaultsUnless, AnswersUnless, UnlessMemory}
+use Rattle.elab_units.specs.Outcomes.{UnlessMemory}
 use Rattle.elab_units.specs.Sources.{IsSource, AreFirst}
-use Rattle.elab_leaving.specs.Programs.{unit_from, program_from, no_units, program_of, untold_from, is_fault_untold}
-use Rattle.elab_units.specs.Programs.{IsProgram, IsFaultOf, IsFault, Elaborates, IsKept, IsUnit, IsFaulty, Keeps}
-use Rattle.elab_units.proofs.Outcomes.{faults_on, faults_before, faults_like, unless_err, unless_memory, unless_so}
-use Rattle.elab_units.proofs.Declarings.{all_told}
+use Rattle.elab_leaving.specs.Programs.{unit_from, program_from, no_units, program_of}
+use Rattle.elab_units.specs.Programs.{IsProgram, IsFault, Elaborates, IsKept, IsUnit, IsFaulty, Keeps}
+use Rattle.elab_decls.proofs.Steps.{faults_then}
+use Rattle.elab_units.proofs.Outcomes.{unless_memory, unless_so}
 use Rattle.elab_units.proofs.Joins.{map_more}
 
 -- What is kept of a unit
@@ -47,13 +46,11 @@ kept_unit s trees ids those st m cs u d e f h = h ∙ ap (λ (z : List NodeId). 
 pub unit_done : (s : List Lexeme) (before started declared done : State) (decls : Trees) → started ≡ before → declarations_of s no_storage started decls ≡ Ok declared → with_implied declared ≡ Ok done → unit_from s before decls ≡ Ok done
 unit_done s before started declared done decls e f g = ap (λ (z : State). unit_from s z decls) (sym e) ∙ ap (λ (z : Result State ElabFault). and_then z with_implied) f ∙ g
 
-pub unit_undeclared : (s : List Lexeme) (before started declared : State) (decls : Trees) (e : ElabFault) → started ≡ before → AnswersUnless (are_untold s no_storage started decls) declared (Err e) (declarations_of s no_storage started decls) → FaultsUnless (are_untold s no_storage before decls) e (unit_from s before decls)
-unit_undeclared s before started declared decls e g h = subst (λ (z : State). FaultsUnless (are_untold s no_storage z decls) e (unit_from s z decls)) g (faults_before (are_untold s no_storage started decls) e (declarations_of s no_storage started decls) with_implied (unless_err (are_untold s no_storage started decls) declared e (declarations_of s no_storage started decls) h))
+pub unit_undeclared : (s : List Lexeme) (before started : State) (decls : Trees) (e : ElabFault) → started ≡ before → Faults e (declarations_of s no_storage started decls) → Faults e (unit_from s before decls)
+unit_undeclared s before started decls e g h = subst (λ (z : State). Faults e (unit_from s z decls)) g (faults_then e (declarations_of s no_storage started decls) with_implied h)
 
-pub unit_unimplied : (s : List Lexeme) (before started declared : State) (decls : Trees) (e : ElabFault) → started ≡ before → declarations_of s no_storage started decls ≡ Ok declared → Faults e (with_implied declared) → FaultsUnless (are_untold s no_storage before decls) e (unit_from s before decls)
-unit_unimplied s before started declared decls e g f h =
-    let well : declarations_of s no_storage before decls ≡ Ok declared = ap (λ (z : State). declarations_of s no_storage z decls) (sym g) ∙ f in
-    faults_like (are_untold s no_storage before decls) false e (unit_from s before decls) (with_implied declared) (all_told s no_storage before decls declared well) (ap (λ (z : Result State ElabFault). and_then z with_implied) well) h
+pub unit_unimplied : (s : List Lexeme) (before started declared : State) (decls : Trees) (e : ElabFault) → started ≡ before → declarations_of s no_storage started decls ≡ Ok declared → Faults e (with_implied declared) → Faults e (unit_from s before decls)
+unit_unimplied s before started declared decls e g f h = subst (λ (z : State). Faults e (unit_from s z decls)) g (subst (λ (z : Result State ElabFault). Faults e (and_then z with_implied)) (sym f) h)
 
 pub keeps_fault : (u : UnitRecord) (i : ℕ) (k : Classes) (r : Result Behind ElabFault) (e : ElabFault) → r ≡ Err e → IsFaulty u i k e → Keeps u i k r
 keeps_fault u i k r e h f = subst (λ (z : Result Behind ElabFault). Keeps u i k z) (sym h) (unless_memory e (IsFaulty u i k e) f)
@@ -80,7 +77,6 @@ pub record SoFar (us : List UnitRecord) (i : ℕ) (trees : List UnitTree) (k : C
   pub count : length sources ≡ i
   pub are : AreFirst us sources
   pub program : (rest : List Source) → program_of (sources ++ rest) ≡ program_from i (program_with (map unit_of trees) k) (traits_known k) rest
-  pub untold : (rest : List Source) → is_fault_untold (sources ++ rest) ≡ untold_from i (program_with (map unit_of trees) k) (traits_known k) rest
 
 pub none_yet : (us : List UnitRecord) (trees : List UnitTree) (k : Classes) → trees ≡ [] → program_with [] k ≡ no_units → traits_known k ≡ [] → SoFar us 0 trees k
 none_yet us trees k e f g =
@@ -90,7 +86,6 @@ none_yet us trees k e f g =
       count = refl;
       are = tt;
       program = λ rest. sym (ap (λ (z : TypedProgram). program_from 0 z (traits_known k) rest) program ∙ ap (λ (z : List Traits). program_from 0 no_units z rest) g);
-      untold = λ rest. sym (ap (λ (z : TypedProgram). untold_from 0 z (traits_known k) rest) program ∙ ap (λ (z : List Traits). untold_from 0 no_units z rest) g);
     }
 
 -- the program with one more unit
@@ -119,17 +114,7 @@ one_more us i j n before all k u b h at e f m w =
           ∙ ap (λ (z : ℕ). program_from z (with_unit p x st) st.ctx.traits rest) next
           ∙ ap (λ (z : TypedProgram). program_from n z st.ctx.traits rest) program
           ∙ ap (λ (z : List Traits). program_from n (program_with (map unit_of all) b.known) z rest) (sym m.kept.traits);
-      untold = λ rest. ap is_fault_untold (append_assoc h.sources (x ∷ []) rest) ∙ h.untold (x ∷ rest)
-          ∙ ap (λ (z : Result State ElabFault). if_refused z (are_untold x.tokens no_storage (start_behind i p (traits_known k)) x.decls) (λ (y : State). untold_from (suc i) (with_unit p x y) y.ctx.traits rest)) made
-          ∙ ap (λ (z : ℕ). untold_from z (with_unit p x st) st.ctx.traits rest) next
-          ∙ ap (λ (z : TypedProgram). untold_from n z st.ctx.traits rest) program
-          ∙ ap (λ (z : List Traits). untold_from n (program_with (map unit_of all) b.known) z rest) (sym m.kept.traits);
     }
-
--- as elab_rules says it
-fault_is : (u : Bool) (e : ElabFault) (xs : List Source) → is_fault_untold xs ≡ u → FaultsUnless u e (program_of xs) → IsFaultOf u e xs
-fault_is false e xs h f = subst (Faults e) (whole_same xs h) f
-fault_is true e xs h f = f
 
 pub one_faulty : (us : List UnitRecord) (i j : ℕ) (before : List UnitTree) (k : Classes) (u : UnitRecord) (e : ElabFault) → SoFar us i before k → slice_get us i ≡ Some u → j ≡ i → IsFaulty u j k e → IsFault us e
 one_faulty us i j before k u e h at same m =
@@ -137,11 +122,10 @@ one_faulty us i j before k u e h at same m =
     let p = program_with (map unit_of before) k in
     let start = start_behind i p (traits_known k) in
     let there : slice_get us (length h.sources) ≡ Some u = ap (slice_get us) h.count ∙ at in
-    let faulty : FaultsUnless (are_untold x.tokens no_storage start x.decls) e (unit_from x.tokens start x.decls) = subst (λ (z : ℕ). FaultsUnless (are_untold x.tokens no_storage (begun_behind z k) x.decls) e (unit_from x.tokens (begun_behind z k) x.decls)) same m.is in
+    let faulty : Faults e (unit_from x.tokens start x.decls) = subst (λ (z : ℕ). Faults e (unit_from x.tokens (begun_behind z k) x.decls)) same m.is in
     let all = h.sources ++ x ∷ [] in
-    let is : FaultsUnless (is_fault_untold all) e (program_of all) = faults_like (is_fault_untold all) (untold_from i p (traits_known k) (x ∷ [])) e (program_of all) (program_from i p (traits_known k) (x ∷ [])) (h.untold (x ∷ [])) (h.program (x ∷ []))
-    (faults_on (are_untold x.tokens no_storage start x.decls) e (unit_from x.tokens start x.decls) (λ (y : State). untold_from (suc i) (with_unit p x y) y.ctx.traits []) (λ (y : State). program_from (suc i) (with_unit p x y) y.ctx.traits []) faulty) in
-    record { sources = all; are = first_more us h.sources u x h.are there m.shows; is = fault_is (is_fault_untold all) e all refl is }
+    let made : Faults e (program_of all) = subst (Faults e) (sym (h.program (x ∷ []))) (faults_then e (unit_from x.tokens start x.decls) (λ (y : State). program_from (suc i) (with_unit p x y) y.ctx.traits []) faulty) in
+    record { sources = all; are = first_more us h.sources u x h.are there m.shows; is = subst (Faults e) (whole_same all) made }
 
 pub refused_at : (us : List UnitRecord) (i j : ℕ) (before : List UnitTree) (k : Classes) (u : UnitRecord) (r : Result Program ElabFault) (e : ElabFault) → r ≡ Err e → SoFar us i before k → slice_get us i ≡ Some u → j ≡ i → UnlessMemory e (IsFaulty u j k e) → Elaborates us r
 refused_at us i j before k u r e w h at same m = subst (λ (z : Result Program ElabFault). Elaborates us z) (sym w) (unless_so e (IsFaulty u j k e) (IsFault us e) (one_faulty us i j before k u e h at same) m)
@@ -153,5 +137,5 @@ all_units us i trees k l h =
       sources = h.sources;
       all = (let count = h.count in omega (arith, l, within, count));
       are = h.are;
-      is = accepted_same h.sources (program_with (map unit_of trees) k) (ap program_of (sym (append-nil h.sources)) ∙ h.program []);
+      is = sym (whole_same h.sources) ∙ ap program_of (sym (append-nil h.sources)) ∙ h.program [];
     }

@@ -1,20 +1,18 @@
 -- What `elaborate` says: the program of the units, or their fault, is that of elab_rules (`Programs`).
-use Rattle.std.specs.Prelude.{◌≡◌, ℕ, Bool, true, false, List, length, map, Result, Ok, Err}
+use Rattle.std.specs.Prelude.{◌≡◌, ℕ, List, length, map, Result, Ok, Err}
 use Rattle.cpp_ast.specs.declared.units.Unit.{Unit as UnitRecord}
 use Rattle.elab_entry.specs.cpp_types.Class.{classes_of}
 use Rattle.elab_entry.specs.cpp_tree.declared.faults.ElabFault.{ElabFault}
 use Rattle.elab_entry.specs.cpp_tree.declared.program.Program.{Program}
 use Rattle.elab_entry.specs.cpp_tree.Units.{TypedProgram, unit_of, slot_of, program_of as typed_program}
 use Rattle.elab_entry.specs.elab_ctx.Says.{Faults}
-use Rattle.elab_entry.specs.elab_rules.Functions.{no_storage}
 use Rattle.elab_entry.specs.elab_rules.Statements.{State}
 use Rattle.elab_entry.specs.elab_rules.Programs.{Source, unit_shown, program_of}
-use Rattle.elab_leaving.specs.Declaring.{are_untold}
-use Rattle.elab_leaving.specs.Programs.{unit_from, program_of as program_made, is_fault_untold}
+use Rattle.elab_leaving.specs.Programs.{unit_from}
 use Rattle.elab_units.specs.declared.known.Classes.{Classes}
 use Rattle.elab_units.specs.declared.programs.Behind.{Behind}
 use Rattle.elab_units.specs.Begun.{begun_behind, traits_known}
-use Rattle.elab_units.specs.Outcomes.{FaultsSome, FaultsUnless, UnlessMemory}
+use Rattle.elab_units.specs.Outcomes.{UnlessMemory}
 use Rattle.elab_units.specs.Sources.{IsSource, AreFirst}
 
 -- What is answered
@@ -26,16 +24,11 @@ pub record IsProgram (us : List UnitRecord) (p : TypedProgram) : Type 0 where
   pub are : AreFirst us sources
   pub is : program_of sources ≡ Ok p
 
--- the fault is that of these sources. Where it is untold, a class has an initialiser of a member with a fault; it is refused by the definition of the code (elab_leaving), and which fault is told is left open
-abbrev pub IsFaultOf : Bool → ElabFault → List Source → Type 0
-IsFaultOf false e xs = Faults e (program_of xs)
-IsFaultOf true e xs = FaultsSome e (program_made xs)
-
 -- the fault is that of the first units, up to the one that has it
 pub record IsFault (us : List UnitRecord) (e : ElabFault) : Type 0 where
   pub sources : List Source
   pub are : AreFirst us sources
-  pub is : IsFaultOf (is_fault_untold sources) e sources
+  pub is : Faults e (program_of sources)
 
 abbrev pub Elaborates : List UnitRecord → Result Program ElabFault → Type 0
 Elaborates us (Ok p) = IsProgram us (typed_program p)
@@ -62,7 +55,7 @@ pub record IsUnit (u : UnitRecord) (i : ℕ) (k : Classes) (b : Behind) : Type 0
 pub record IsFaulty (u : UnitRecord) (i : ℕ) (k : Classes) (e : ElabFault) : Type 0 where
   pub source : Source
   pub shows : IsSource u source
-  pub is : FaultsUnless (are_untold source.tokens no_storage (begun_behind i k) source.decls) e (unit_from source.tokens (begun_behind i k) source.decls)
+  pub is : Faults e (unit_from source.tokens (begun_behind i k) source.decls)
 
 abbrev pub Keeps : UnitRecord → ℕ → Classes → Result Behind ElabFault → Type 0
 Keeps u i k (Ok b) = IsUnit u i k b

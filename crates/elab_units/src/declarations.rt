@@ -24,9 +24,8 @@ ghost use Rattle.elab_entry.specs.elab_scopes.States.{state_of};
 ghost use Rattle.elab_entry.specs.elab_types.Shown.{Says, declared_of};
 ghost use Rattle.elab_entry.specs.elab_types.Syntax.{syntax_of, tree_at, trees_at};
 ghost use Rattle.class_members.specs.Shown.{Answers, header_of as header_shown, storage_of};
-ghost use Rattle.elab_units.specs.Outcomes.{AnswersUnless};
-ghost use Rattle.elab_leaving.specs.Declaring.{is_function_form, file_header, has_trees, declarator_by, file_typed, c_words as c_words_of, c_checked, declaration_of as declaration_of_of, declarations_of as declarations_of_of, is_untold, are_untold};
-ghost use Rattle.elab_units.specs.Linkage.{linkage_declared, linkage_untold};
+ghost use Rattle.elab_leaving.specs.Declaring.{is_function_form, file_header, has_trees, declarator_by, file_typed, c_words as c_words_of, c_checked, declaration_of as declaration_of_of, declarations_of as declarations_of_of};
+ghost use Rattle.elab_units.specs.Linkage.{linkage_declared};
 
 use crate::definitions::function_defined;
 use crate::lambdas::UnitLambdas;
@@ -384,7 +383,7 @@ fn linkage_of(
 ) -> Result<(), ElabFault>
     requires within { id.0 < length nodes.now }
     requires lower { are_below id.0 kids.now ≡ true }
-    ensures { AnswersUnless (linkage_untold (lexemes_of tokens.now) (storage_of storage) (state_of st.old) at token (trees_at (syntax_of nodes.now) kids.now) is_block) (state_of st.new) result (linkage_declared (lexemes_of tokens.now) (storage_of storage) (state_of st.old) at token (trees_at (syntax_of nodes.now) kids.now) is_block) }
+    ensures { Answers (state_of st.new) result (linkage_declared (lexemes_of tokens.now) (storage_of storage) (state_of st.old) at token (trees_at (syntax_of nodes.now) kids.now) is_block) }
 {
     is_c(alloc, tokens, at, token)?;
     let words = c_words(storage, is_block);
@@ -408,7 +407,7 @@ fn named_declaration(
     requires within { id.0 < length nodes.now }
     requires lower { are_below id.0 kids.now ≡ true }
     requires all { are_below (length nodes.now) kids.now ≡ true }
-    ensures { (p : SyntaxAt) → at ≡ at_of p → AnswersUnless (is_untold (lexemes_of tokens.now) (storage_of storage) (state_of st.old) (node kind p (Some token) (trees_at (syntax_of nodes.now) kids.now))) (state_of st.new) result (declaration_of_of (lexemes_of tokens.now) (storage_of storage) (state_of st.old) (node kind p (Some token) (trees_at (syntax_of nodes.now) kids.now))) }
+    ensures { (p : SyntaxAt) → at ≡ at_of p → Answers (state_of st.new) result (declaration_of_of (lexemes_of tokens.now) (storage_of storage) (state_of st.old) (node kind p (Some token) (trees_at (syntax_of nodes.now) kids.now))) }
 {
     match kind {
         NodeKind::EmptyDeclaration => Ok(()),
@@ -489,7 +488,7 @@ fn unnamed_declaration(
     kids: &[NodeId],
 ) -> Result<(), ElabFault>
     requires { are_below (length nodes.now) kids.now ≡ true }
-    ensures { (p : SyntaxAt) → at ≡ at_of p → AnswersUnless (is_untold (lexemes_of tokens.now) (storage_of storage) (state_of st.old) (node kind p None (trees_at (syntax_of nodes.now) kids.now))) (state_of st.new) result (declaration_of_of (lexemes_of tokens.now) (storage_of storage) (state_of st.old) (node kind p None (trees_at (syntax_of nodes.now) kids.now))) }
+    ensures { (p : SyntaxAt) → at ≡ at_of p → Answers (state_of st.new) result (declaration_of_of (lexemes_of tokens.now) (storage_of storage) (state_of st.old) (node kind p None (trees_at (syntax_of nodes.now) kids.now))) }
 {
     match kind {
         NodeKind::EmptyDeclaration => Ok(()),
@@ -511,7 +510,7 @@ fn declaration_of(
     id: NodeId,
 ) -> Result<(), ElabFault>
     requires { id.0 < length nodes.now }
-    ensures { AnswersUnless (is_untold (lexemes_of tokens.now) (storage_of storage) (state_of st.old) (tree_at (syntax_of nodes.now) id)) (state_of st.new) result (declaration_of_of (lexemes_of tokens.now) (storage_of storage) (state_of st.old) (tree_at (syntax_of nodes.now) id)) }
+    ensures { Answers (state_of st.new) result (declaration_of_of (lexemes_of tokens.now) (storage_of storage) (state_of st.old) (tree_at (syntax_of nodes.now) id)) }
 {
     let node = node_in(nodes, id);
     let kind = node.kind;
@@ -537,7 +536,7 @@ fn declarations_of(
 ) -> Result<(), ElabFault>
     requires within { parent.0 < length nodes.now }
     requires lower { are_below parent.0 ids.now ≡ true }
-    ensures { AnswersUnless (are_untold (lexemes_of tokens.now) (storage_of storage) (state_of st.old) (trees_at (syntax_of nodes.now) ids.now)) (state_of st.new) result (declarations_of_of (lexemes_of tokens.now) (storage_of storage) (state_of st.old) (trees_at (syntax_of nodes.now) ids.now)) }
+    ensures { Answers (state_of st.new) result (declarations_of_of (lexemes_of tokens.now) (storage_of storage) (state_of st.old) (trees_at (syntax_of nodes.now) ids.now)) }
 {
     for id in ids {
         declaration_of(alloc, tokens, nodes, st, storage, *id)?;
@@ -553,8 +552,6 @@ fn forget(st: &mut State)
 }
 
 /// The declarations of a unit.
-///
-/// What is left open is which fault is told of a class in which an initialiser of a member has one.
 pub fn all_declared(
     alloc: Global,
     tokens: &Tokens,
@@ -563,7 +560,7 @@ pub fn all_declared(
     ids: &[NodeId],
 ) -> Result<(), ElabFault>
     requires { are_below (length nodes.now) ids.now ≡ true }
-    ensures { AnswersUnless (are_untold (lexemes_of tokens.now) no_storage_of (state_of st.old) (trees_at (syntax_of nodes.now) ids.now)) (state_of st.new) result (declarations_of_of (lexemes_of tokens.now) no_storage_of (state_of st.old) (trees_at (syntax_of nodes.now) ids.now)) }
+    ensures { Answers (state_of st.new) result (declarations_of_of (lexemes_of tokens.now) no_storage_of (state_of st.old) (trees_at (syntax_of nodes.now) ids.now)) }
 {
     for id in ids {
         declaration_of(alloc, tokens, nodes, st, no_storage(), *id)?;

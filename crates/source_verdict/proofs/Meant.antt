@@ -1,5 +1,5 @@
 -- What elaboration says of units, said of the texts that they were read from.
-use Rattle.std.proofs.Common.{◌≡◌, ℕ, suc, true, false, List, [], ◌∷◌, length, sym, ap, subst, ◌∙◌, Ok, arith}
+use Rattle.std.proofs.Common.{◌≡◌, ℕ, suc, List, [], ◌∷◌, length, sym, subst, ◌∙◌, arith}
 use Rattle.cpp_ast.specs.declared.units.Unit.{Unit as UnitRecord}
 use Rattle.cpp_ast.specs.Trees.{Trees}
 use Rattle.cpp_lex.specs.Tokens.{Lexeme, IsTokens}
@@ -8,10 +8,9 @@ use Rattle.cpp_syntax.specs.Lookahead.{IsUnit}
 use Rattle.cpp_tree.specs.Units.{TypedProgram}
 use Rattle.cpp_tree.specs.declared.faults.ElabFault.{ElabFault}
 use Rattle.cpp_tree.specs.declared.faults.ElabFault.TheVariants.{Ill, Override, JumpIntoBlock, Limit, Memory}
-use Rattle.elab_rules.specs.Programs.{Source, program_of}
-use Rattle.elab_leaving.specs.Programs.{is_fault_untold}
+use Rattle.elab_rules.specs.Programs.{Source}
 use Rattle.elab_units.specs.Outcomes.{UnlessMemory}
-use Rattle.elab_units.specs.Programs.{IsProgram, IsFault, IsFaultOf}
+use Rattle.elab_units.specs.Programs.{IsProgram, IsFault}
 use Rattle.elab_units.specs.Sources.{IsSource, AreFirst}
 use Rattle.unit_syntax.specs.Whole.{IsWhole}
 use Rattle.source_verdict.specs.Front.{IsRead, AreRead}
@@ -19,7 +18,6 @@ use Rattle.source_verdict.specs.Elaborated.{IsSourceOf, AreSourcesOf, AreFirstSo
 use Rattle.source_verdict.specs.Verdict.{RefusesFault, RefusesTexts, faulty}
 use Rattle.command_io.specs.Writes.{Written}
 use Rattle.tx_answers.specs.declared.answer.Answer.{Answer}
-use Rattle.elab_rules.specs.elab_ctx.Says.{Faults}
 
 abbrev pub OneWhole : Type 0
 OneWhole = (unit : UnitRecord) (decls others : Trees) → IsWhole unit decls → IsWhole unit others → decls ≡ others
@@ -56,7 +54,7 @@ fault_meant : OneWhole → (texts : List (List ℕ)) (us : List UnitRecord) (e :
 fault_meant one texts us e read is = record {
   sources = is.sources;
   are = first_read one 0 texts us is.sources read is.are;
-  is = λ h. subst (λ b. IsFaultOf b e is.sources) h is.is;
+  is = is.is;
 }
 
 -- the fault that is answered is refused; want of memory is none

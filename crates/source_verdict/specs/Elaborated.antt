@@ -1,5 +1,5 @@
 -- The typed program that texts have: that of the units which they derive (C++14 2.1, 2.2), or the fault that these have first.
-use Rattle.std.specs.Prelude.{◌≡◌, ℕ, suc, Bool, true, false, List, [], ◌∷◌, Ok}
+use Rattle.std.specs.Prelude.{◌≡◌, ℕ, suc, List, [], ◌∷◌, Ok}
 use Rattle.cpp_lex.specs.Tokens.{IsTokens}
 use Rattle.cpp_syntax.specs.Classes.{source_of}
 use Rattle.cpp_syntax.specs.Lookahead.{IsUnit}
@@ -7,7 +7,6 @@ use Rattle.cpp_tree.specs.Units.{TypedProgram}
 use Rattle.cpp_tree.specs.declared.faults.ElabFault.{ElabFault}
 use Rattle.elab_rules.specs.elab_ctx.Says.{Faults}
 use Rattle.elab_rules.specs.Programs.{Source, program_of}
-use Rattle.elab_leaving.specs.Programs.{is_fault_untold}
 
 -- the tokens of the text with this number, and the declarations that these derive
 pub record IsSourceOf (number : ℕ) (text : List ℕ) (x : Source) : Type 0 where
@@ -33,9 +32,8 @@ pub record HasProgram (texts : List (List ℕ)) (p : TypedProgram) : Type 0 wher
   pub are : AreSourcesOf 0 texts sources
   pub is : program_of sources ≡ Ok p
 
--- The fault is the one that is defined of the texts, up to the one that has it. Which fault is told of a class in which an initialiser of a member
--- has one is not said.
+-- the fault is the one that is defined of the texts, up to the one that has it
 pub record HasFault (texts : List (List ℕ)) (e : ElabFault) : Type 0 where
   pub sources : List Source
   pub are : AreFirstSources 0 texts sources
-  pub is : is_fault_untold sources ≡ false → Faults e (program_of sources)
+  pub is : Faults e (program_of sources)

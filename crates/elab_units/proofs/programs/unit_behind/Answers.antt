@@ -1,15 +1,14 @@
 use Rattle.std.proofs.Common.{◌≡◌, ◌∙◌, List, Ok, Err, refl, ap, sym, subst, rules}
 use Rattle.elab_entry.specs.cpp_ast.declared.arena.NodeId.{NodeId}
 use Rattle.elab_entry.specs.cpp_lex.Tokens.{lexemes_of}
+use Rattle.elab_entry.specs.elab_ctx.Says.{Faults}
 use Rattle.elab_entry.specs.elab_rules.Functions.{no_storage}
 use Rattle.elab_entry.specs.elab_scopes.States.{state_of}
 use Rattle.elab_entry.specs.elab_types.Syntax.{syntax_of, trees_at}
 use Rattle.elab_units.specs.Begun.{begun_behind}
-use Rattle.elab_leaving.specs.Declaring.{declarations_of, are_untold}
-use Rattle.elab_units.specs.Outcomes.{FaultsUnless}
+use Rattle.elab_leaving.specs.Declaring.{declarations_of}
 use Rattle.elab_leaving.specs.Programs.{unit_from}
 use Rattle.elab_units.specs.Sources.{source_in}
-use Rattle.elab_units.proofs.Outcomes.{unless_ok}
 use Rattle.elab_units.proofs.Elaborating.{unit_done, unit_undeclared, unit_unimplied, keeps_fault}
 use Rattle.elab_units.proofs.programs.unit_behind.Goals as goal
 
@@ -20,7 +19,7 @@ returns-clause-keeps c =
     let trees = syntax_of whole.nodes in
     let started = state_of c.in_ok-st.st in
     let declared = state_of c.all_declared.new.st in
-    let well : declarations_of s no_storage started (trees_at trees c.deref.result.now) ≡ Ok declared = unless_ok (are_untold s no_storage started (trees_at trees c.deref.result.now)) declared c.in_ok-all_declared.field-0 (declarations_of s no_storage started (trees_at trees c.deref.result.now)) c.in_ok-all_declared.ensures in
+    let well : declarations_of s no_storage started (trees_at trees c.deref.result.now) ≡ Ok declared = c.in_ok-all_declared.ensures in
     record {
       source = source_in c.args.unit.now whole;
       shows = record { tokens = refl; decls = c.in_ok-whole.ensures.whole };
@@ -41,8 +40,8 @@ returns-in_err-all_declared-clause-keeps c =
     keeps_fault c.args.unit.now c.args.source c.args.known c.from_residual-in_err-all_declared.result e is_error (record {
       source = source_in c.args.unit.now whole;
       shows = record { tokens = refl; decls = c.in_ok-whole.ensures.whole };
-      is = subst (λ (z : List NodeId). FaultsUnless (are_untold s no_storage before (trees_at trees z)) e (unit_from s before (trees_at trees z))) c.deref.ensures.value
-          (unit_undeclared s before (state_of c.in_ok-st.st) (state_of c.all_declared.new.st) (trees_at trees c.deref.result.now) e c.in_ok-st.ensures.state c.in_err-all_declared.ensures);
+      is = subst (λ (z : List NodeId). Faults e (unit_from s before (trees_at trees z))) c.deref.ensures.value
+          (unit_undeclared s before (state_of c.in_ok-st.st) (trees_at trees c.deref.result.now) e c.in_ok-st.ensures.state c.in_err-all_declared.ensures);
     })
 
 pub returns-in_err-with_implied-clause-keeps : goal.returns-in_err-with_implied-clause-keeps
@@ -55,7 +54,7 @@ returns-in_err-with_implied-clause-keeps c =
     let started = state_of c.in_ok-st.st in
     let declared = state_of c.all_declared.new.st in
     let e = c.in_err-with_implied.field-0.0 in
-    let well : declarations_of s no_storage started (trees_at trees c.deref.result.now) ≡ Ok declared = unless_ok (are_untold s no_storage started (trees_at trees c.deref.result.now)) declared c.in_ok-all_declared.field-0 (declarations_of s no_storage started (trees_at trees c.deref.result.now)) c.in_ok-all_declared.ensures in
+    let well : declarations_of s no_storage started (trees_at trees c.deref.result.now) ≡ Ok declared = c.in_ok-all_declared.ensures in
     keeps_fault c.args.unit.now c.args.source c.args.known c.from_residual-in_err-with_implied.result e is_error (record {
       source = source_in c.args.unit.now whole;
       shows = record { tokens = refl; decls = c.in_ok-whole.ensures.whole };
