@@ -3,7 +3,11 @@ ghost use Rattle.std.specs.Prelude.{◌≡◌, ℕ, List, Option};
 ghost use Rattle.cpp_tree.specs.declared.program.Program.{Program};
 ghost use Rattle.cpp_tree.specs.Units.{SlotFunc, program_of};
 ghost use Rattle.safe_blocks.specs.UnsafeFree.{safely_linked, LinksSafely, HidesBlocks, EntersSafe};
-ghost use Rattle.source_verdict.specs.Verdict.{Accepts};
+ghost use Rattle.source_verdict.specs.Elaborated.{HasFault};
+ghost use Rattle.source_verdict.specs.Verdict.{Accepts, RefusesFault};
+ghost use Rattle.command_io.specs.Writes.{Written};
+ghost use Rattle.tx_answers.specs.declared.answer.Answer.{Answer};
+ghost use Rattle.cpp_tree.specs.declared.faults.ElabFault.{ElabFault};
 
 /// The blocks of an accepted program that links safely make no event that is volatile, output, input, or the start or
 /// join of a thread, and no unsafe function is entered in them, whatever its slots name (the TS, [stmt.tx]).
@@ -12,8 +16,9 @@ pub fn accepted_is_unsafe_free()
     ensures enters { (texts : List (List ℕ)) (p : Program) (symbol : SlotFunc → Option (List ℕ)) (entry : List ℕ) → Accepts texts p → LinksSafely (program_of p) → EntersSafe (safely_linked symbol entry (program_of p)) }
 {}
 
-/// Texts have at most one program: what is accepted of the same texts is the same typed program (C++14 2.2, clause 2 and
-/// annex A leave one reading of a text, and elaboration is a function of it).
+/// Texts have at most one program: what is accepted of the same texts is the same typed program (C++14 2.2 and annex A leave one reading of a text, and what is elaborated is
+/// defined of it). Accepted texts have no fault.
 pub fn one_program()
-    ensures { (texts : List (List ℕ)) (p q : Program) → Accepts texts p → Accepts texts q → program_of p ≡ program_of q }
+    ensures one { (texts : List (List ℕ)) (p q : Program) → Accepts texts p → Accepts texts q → program_of p ≡ program_of q }
+    ensures well { (names texts : List (List ℕ)) (p : Program) (e : ElabFault) (a : Answer) (writes : List Written) → Accepts texts p → HasFault texts e → RefusesFault names texts e a writes → ⊥ }
 {}

@@ -1,5 +1,5 @@
-use Rattle.source_verdict.proofs.OneProgram.{one_program}
+use Rattle.source_verdict.proofs.OneProgram.{one_program, not_faulty}
 use Rattle.source_verdict.proofs.laws.one_program.Goals as goal
 
 pub returns : goal.returns
-returns c = one_program
+returns c = record { one = one_program; well = not_faulty }
