@@ -5,3 +5,4 @@ pub mod Sorts
 pub mod Digits
 pub mod Caught
 pub mod Steps
+pub mod Counts

@@ -32,7 +32,7 @@ abbrev pub here_of : Bound → State → frames.Here
 here_of b s = here_shown (given b) s.here
 
 abbrev pub frames_of : Bound → State → List frames.Frame
-frames_of b s = frames_shown (given b) s.frames.items
+frames_of b s = frames_shown (given b) s.frames.list.items
 
 abbrev pub state_of : Bound → State → frames.State
 state_of b s = record { event = s.event; here = here_of b s; frames = frames_of b s }

@@ -1,5 +1,5 @@
 -- What a frame is to those that look down the frames.
-use Rattle.std.specs.Prelude.{Bool, true, false, ◌∷◌, Option, Some, None}
+use Rattle.std.specs.Prelude.{Bool, true, false, cond, ℕ, ◌+◌, List, [], ◌∷◌, Option, Some, None}
 use Rattle.src_mean.specs.Frames.{Scope as ScopeOf}
 use Rattle.src_mean.specs.Frames as frames
 use Rattle.src_frames.specs.declared.frames.Owner.{Owner}
@@ -43,6 +43,15 @@ is_atomic_in (Closes block) = is_atomic_open block
 abbrev pub is_atomic : Frame → Bool
 is_atomic (Block f) = is_atomic_in f
 is_atomic f = false
+
+-- how many atomic blocks are open in it: one or none
+abbrev pub weight : Frame → ℕ
+weight f = cond (is_atomic f) 1 0
+
+-- and in these
+abbrev pub atomics_in : List Frame → ℕ
+atomics_in [] = 0
+atomics_in (f ∷ fs) = weight f + atomics_in fs
 
 -- it is a scope of this owner
 abbrev pub is_scope_in : Owner → ObjectFrame → Bool

@@ -8,6 +8,7 @@
 pub mod bytes;
 pub mod calls;
 pub mod frames;
+pub mod stack;
 pub mod state;
 pub mod texts;
 pub mod trees;

@@ -1,22 +1,20 @@
 //! States of a thread, and how one goes on with an event.
 
-ghost use Rattle.std.specs.Prelude.{◌≡◌, ◌≤◌, ◌+◌, ◌∷◌, ◌++◌, ℕ, true, IfOk, OnOk, Some, option_map, length, slice_get, take, drop};
+ghost use Rattle.std.specs.Prelude.{◌≡◌, ◌∷◌, IfOk, OnOk, option_map};
 ghost use Rattle.cpp_tree.specs.tx_events.declared.Event.TheVariants.{Silent};
 ghost use Rattle.cpp_tree.specs.tx_events.declared.End.TheVariants.{Trapped as TrappedBy};
 ghost use Rattle.cpp_tree.specs.tx_events.Thread.{no_atomic};
-ghost use Rattle.src_mean.specs.Frames.{at, Run as Runs, Gives as GivesWord, Waiting as Waits, blocks_of, handled as handled_of, puts, same_owner};
+ghost use Rattle.src_mean.specs.Frames.{at, Run as Runs, Gives as GivesWord, blocks_of, handled as handled_of, puts};
 ghost use Rattle.src_mean.specs.Source.{halt as halted, read as reads, write as writes, place_address as address_of_place, empty_stack as empty_stack_of};
 ghost use Rattle.src_bind.specs.Bounds.{given};
-ghost use Rattle.src_bind.specs.Tables.{Given};
-ghost use Rattle.src_frames.specs.declared.frames.Frame.{Frame as FrameAt};
-ghost use Rattle.src_frames.specs.Shown.{here_shown, offset_of, way_shown, exception_shown, owner_shown, waiting_shown, frame_shown, frames_shown};
-ghost use Rattle.src_frames.specs.Sorts.{handling, handling_in, is_atomic as is_atomic_at, is_atomic_open, is_scope_of as is_scope_at, is_scope_in as is_scope_among, waits_too};
+ghost use Rattle.src_frames.specs.Shown.{here_shown, offset_of, way_shown, exception_shown, owner_shown, waiting_shown};
+ghost use Rattle.src_frames.specs.Sorts.{handling, handling_in};
 ghost use Rattle.src_frames.specs.Bounds.{tree_of, frame_of, here_of, frames_of, after};
 
 use crate::frames::{
-    BlockFrame, EndFrame, Exception, ExceptionFrame, Frame, Here, ObjectFrame, Open, Owner,
-    ValueFrame, Waiting, Way,
+    EndFrame, Exception, ExceptionFrame, Frame, Here, Owner, ValueFrame, Waiting, Way,
 };
+use crate::stack::Stack;
 use crate::trees::TreeAt;
 use crate::words::{plus, size_of_kind, stored_bytes};
 use cpp_tree::below::{End, Event, IntKind, Trap};
@@ -33,7 +31,7 @@ pub struct State {
     pub alloc: Global,
     pub event: Event,
     pub here: Here,
-    pub frames: Vec<Frame>,
+    pub frames: Stack,
 }
 
 /// The stack of this thread, on which nothing lies yet.
@@ -190,7 +188,7 @@ impl State {
         let mut left = self.frames.len();
         while left > 0 {
             left -= 1;
-            if let Some(exception) = handled_at(&self.frames[left]) {
+            if let Some(exception) = handled_at(&self.frames.list[left]) {
                 return Some(exception);
             }
         }
@@ -202,34 +200,10 @@ impl State {
         ensures { result ≡ no_atomic (blocks_of (frames_of bound.now self.now)) }
     {
         let _shown = bound;
-        let mut left = self.frames.len();
-        while left > 0 {
-            left -= 1;
-            if is_atomic(&self.frames[left]) {
-                return false;
-            }
-        }
-        true
-    }
-
-    // How many frames stand up to the nearest scope of that owner, it among them; 0 where there is none.
-    fn scope_of(&self, owner: Owner) -> usize
-        ensures within { result ≤ length self.now.frames.items }
-        ensures found { (k : ℕ) (f : FrameAt) → result ≡ k + 1 → slice_get self.now.frames.items k ≡ Some f → is_scope_at owner f ≡ true }
-        ensures passed { (g : Given) (w : Waits) → puts (owner_shown owner) w (frames_shown g self.now.frames.items) ≡ frames_shown g (drop result self.now.frames.items) ++ puts (owner_shown owner) w (frames_shown g (take result self.now.frames.items)) }
-    {
-        let mut left = self.frames.len();
-        while left > 0 {
-            if is_scope(&self.frames[left - 1], owner) {
-                return left;
-            }
-            left -= 1;
-        }
-        0
+        self.frames.atomics == 0
     }
 
     /// Puts objects into the nearest scope of that owner.
-    #[tactic(auto, using(crate::proofs::Stacks::put_none))]
     pub fn put_waiting(
         &mut self,
         bound: &Bound<'_>,
@@ -240,14 +214,7 @@ impl State {
         ensures here { OnOk result (here_of bound.now self.new ≡ here_of bound.now self.old) }
     {
         let _shown = bound;
-        let count = self.scope_of(owner);
-        if count == 0 {
-            return Ok(());
-        }
-        if let Some(frame) = self.frames.get_mut(count - 1) {
-            add_waiting(frame, waiting)?;
-        }
-        Ok(())
+        self.frames.put_waiting(owner, waiting)
     }
 }
 
@@ -267,68 +234,5 @@ fn handled_in(frame: &ExceptionFrame) -> Option<Exception>
     match frame {
         ExceptionFrame::Handling(exception) => Some(*exception),
         _ => None,
-    }
-}
-
-// Adds objects to a scope.
-fn add_waiting(frame: &mut Frame, waiting: Waiting) -> Result<(), AllocError>
-    ensures { (g : Given) → OnOk result (frame_shown g frame.new ≡ waits_too (waiting_shown g.program waiting) (frame_shown g frame.old)) }
-{
-    if let Frame::Object(ObjectFrame::Scope { waiting: list, .. }) = frame {
-        list.push(waiting)?;
-    }
-    Ok(())
-}
-
-// Whether two owners are one.
-fn is_same(owner: Owner, other: Owner) -> bool
-    ensures { result ≡ same_owner (owner_shown owner) (owner_shown other) }
-{
-    match (owner, other) {
-        (Owner::Block, Owner::Block) => true,
-        (Owner::Call, Owner::Call) => true,
-        (Owner::Pieces, Owner::Pieces) => true,
-        _ => false,
-    }
-}
-
-// Whether it is a scope of that owner.
-fn is_scope(frame: &Frame, owner: Owner) -> bool
-    ensures { result ≡ is_scope_at owner frame.now }
-{
-    match frame {
-        Frame::Object(inner) => is_scope_in(inner, owner),
-        _ => false,
-    }
-}
-
-fn is_scope_in(frame: &ObjectFrame, owner: Owner) -> bool
-    ensures { result ≡ is_scope_among owner frame.now }
-{
-    match frame {
-        ObjectFrame::Scope { owner: other, .. } => is_same(owner, *other),
-        _ => false,
-    }
-}
-
-// Whether an atomic block is open in it.
-fn is_atomic(frame: &Frame) -> bool
-    ensures { result ≡ is_atomic_at frame.now }
-{
-    match frame {
-        Frame::Block(BlockFrame::Within(block) | BlockFrame::Closes(block)) => {
-            is_atomic_block(*block)
-        }
-        _ => false,
-    }
-}
-
-// Whether it is an atomic block.
-fn is_atomic_block(block: Open) -> bool
-    ensures { result ≡ is_atomic_open block }
-{
-    match block {
-        Open::Atomic(_) => true,
-        Open::Sync => false,
     }
 }

@@ -11,7 +11,7 @@ use src_frames::state::State;
 pub(crate) fn pop_frame(state: &mut State, bound: &Bound<'_>) -> Option<Frame>
     ensures frames { MatchOption result (frames_of bound.now state.old ≡ []) (λ f. frames_of bound.now state.old ≡ frame_of bound.now f ∷ frames_of bound.now state.new) }
     ensures here { here_of bound.now state.new ≡ here_of bound.now state.old }
-    ensures none { MatchOption result (frames_of bound.now state.new ≡ []) (λ f. length state.new.frames.items < length state.old.frames.items) }
+    ensures none { MatchOption result (frames_of bound.now state.new ≡ []) (λ f. length state.new.frames.list.items < length state.old.frames.list.items) }
 {
     let _shown = bound;
     match state.frames.pop() {

@@ -10,6 +10,7 @@ use crate::giving::give;
 use cpp_tree::below::{Event, Reply, word_of};
 use src_bind::Bound;
 use src_frames::frames::{EndFrame, Frame};
+use src_frames::stack::Stack;
 use src_frames::state::{State, empty_stack};
 use src_frames::words::reply_word;
 use std::alloc::{AllocError, Global};
@@ -36,7 +37,7 @@ fn first_state(
         alloc,
         event: Event::Silent,
         here: empty_stack(alloc, bound, number),
-        frames: Vec::new(alloc),
+        frames: Stack::new(alloc),
     };
     state.push(bound, Frame::End(EndFrame::Starts { main }))?;
     Ok(state)

@@ -6,8 +6,8 @@ use Rattle.src_frames.proofs.state.State.handled.Given as goal
 
 abbrev pub invariant-loop-left : goal.invariant-loop-left
 invariant-loop-left l = record {
-  within : l.left ≤ length l.self.frames.items;
-  same : handled (frames_shown (given l.bound) (take l.left l.self.frames.items)) ≡ handled (frames_shown (given l.bound) l.self.frames.items);
+  within : l.left ≤ length l.self.frames.list.items;
+  same : handled (frames_shown (given l.bound) (take l.left l.self.frames.list.items)) ≡ handled (frames_shown (given l.bound) l.self.frames.list.items);
 }
 
 abbrev pub decreases-loop-left : goal.decreases-loop-left
