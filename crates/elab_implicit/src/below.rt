@@ -9,4 +9,6 @@ pub use elab_entry::below::{
     kids_of, place, plain_type, spelling, statements, string_initialiser, string_token, text_sized,
     type_named, unqualified_type, values, values_place,
 };
-pub use elab_entry::{Inside, body_made, copy_tree, function_body, leave_function, with_parameters};
+pub use elab_entry::{
+    Inside, body_made, copy_tree, function_body, leave_function, with_parameters,
+};

@@ -185,13 +185,13 @@ class_steps lams s st at name kids =
 
 brace_same : (lams : Lambdas) → Lawful lams → (s : List Lexeme) (members : syntax.Trees) (x : ClassRead) → Settled x.state → code.behind_brace lams s members x ≡ brace lams s members x
 brace_same lams q s members x e = ap (λ z. and_then z (λ (st : State). code.all_late lams s x.home.number x.home.name st members)) (all_same lams q s x.home.number x.state members e)
-    ∙ same_after Settled (rules.all_defaults lams s x.home.number x.state members) _ _ (all_settled lams s x.home.number x.state members e) (λ y i. all_late_same lams q s x.home.number x.home.name y members i)
+    ∙ same_after Settled (rules.all_defaults lams s x.home.number x.state members) (λ (st : State). code.all_late lams s x.home.number x.home.name st members) (λ (st : State). rules.all_late lams s x.home.number x.home.name st members) (all_settled lams s x.home.number x.state members e) (λ y i. all_late_same lams q s x.home.number x.home.name y members i)
 
 brace_settled : (lams : Lambdas) (s : List Lexeme) (members : syntax.Trees) (x : ClassRead) → Settled x.state → On Settled (brace lams s members x)
 brace_settled lams s members x e = bind Settled Settled (rules.all_defaults lams s x.home.number x.state members) _ (all_settled lams s x.home.number x.state members e) (λ y i. all_late_settled lams s x.home.number x.home.name y members i)
 
 pub class_same : (lams : Lambdas) → Lawful lams → (s : List Lexeme) (st : State) (at : At) (name : List ℕ) (kids : syntax.Trees) → Settled st → code.class_defined lams s st at name kids ≡ rules.class_defined lams s st at name kids
-class_same lams q s st at name kids e = same_after ReadSettled (class_read s st at name kids) _ _ (class_settled s st at name kids e) (λ x h. brace_same lams q s (members_among kids) x h) ∙ sym (class_steps lams s st at name kids)
+class_same lams q s st at name kids e = same_after ReadSettled (class_read s st at name kids) (code.behind_brace lams s (members_among kids)) (brace lams s (members_among kids)) (class_settled s st at name kids e) (λ x h. brace_same lams q s (members_among kids) x h) ∙ sym (class_steps lams s st at name kids)
 
 -- behind a class no lambdas are at hand
 pub class_stands : (lams : Lambdas) (s : List Lexeme) (st : State) (at : At) (name : List ℕ) (kids : syntax.Trees) → Settled st → On Settled (rules.class_defined lams s st at name kids)

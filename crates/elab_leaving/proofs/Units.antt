@@ -143,8 +143,8 @@ mutual
   declaration_same s x st (syntax.node k.EnumSpecifier p (Some t) kids) e = refl
   declaration_same s x st (syntax.node k.ClassDeclaration p (Some t) kids) e = refl
   declaration_same s x st (syntax.node k.FunctionDefinition p (Some t) kids) e = defined_same s st x (at_of p) t kids e
-  declaration_same s x st (syntax.node k.LinkageSpecification p (Some t) kids) e = same_behind (c_checked s (at_of p) t) _ _ (λ y. declarations_same s (c_words x false) st kids e)
-  declaration_same s x st (syntax.node k.LinkageBlock p (Some t) kids) e = same_behind (c_checked s (at_of p) t) _ _ (λ y. declarations_same s (c_words x true) st kids e)
+  declaration_same s x st (syntax.node k.LinkageSpecification p (Some t) kids) e = same_behind (c_checked s (at_of p) t) (λ y. code.declarations_of s (c_words x false) st kids) (λ y. rules.declarations_of s (c_words x false) st kids) (λ y. declarations_same s (c_words x false) st kids e)
+  declaration_same s x st (syntax.node k.LinkageBlock p (Some t) kids) e = same_behind (c_checked s (at_of p) t) (λ y. code.declarations_of s (c_words x true) st kids) (λ y. rules.declarations_of s (c_words x true) st kids) (λ y. declarations_same s (c_words x true) st kids e)
   declaration_same s x st (syntax.node k.ClassSpecifier p (Some t) kids) e = class_is s st (at_of p) (spelling s t) kids e
   declaration_same s x st (syntax.node k.ConstructorDefinition p (Some t) kids) e = member_same s x x st (at_of p) Constructor t kids refl e
   declaration_same s x st (syntax.node k.DestructorDefinition p (Some t) kids) e = member_same s x x st (at_of p) Destructor t kids refl e
@@ -153,7 +153,7 @@ mutual
   pub declarations_same : (s : List Lexeme) (x : Storage) (st : State) (ts : syntax.Trees) → Settled st → code.declarations_of s x st ts ≡ rules.declarations_of s x st ts
   declarations_same s x st syntax.none e = refl
   declarations_same s x st (syntax.more t ts) e =
-      same_after Settled (code.declaration_of s x st t) _ _ (declaration_clear s x st t e) (λ z i. declarations_same s x z ts i)
+      same_after Settled (code.declaration_of s x st t) (λ (z : State). code.declarations_of s x z ts) (λ (z : State). rules.declarations_of s x z ts) (declaration_clear s x st t e) (λ z i. declarations_same s x z ts i)
       ∙ ap (λ r. and_then r (λ (z : State). rules.declarations_of s x z ts)) (declaration_same s x st t e)
 
 -- Units
@@ -166,7 +166,7 @@ unit_same s st decls e = same_after Settled (code.declarations_of s no_storage s
 pub program_same : (i : ℕ) (p : TypedProgram) (traits : List Traits) (xs : List Source) → code_programs.program_from i p traits xs ≡ programs.program_from i p traits xs
 program_same i p traits [] = refl
 program_same i p traits (x ∷ xs) =
-    same_behind (code_programs.unit_from x.tokens (start_behind i p traits) x.decls) _ _ (λ y. program_same (suc i) (with_unit p x y) y.ctx.traits xs)
+    same_behind (code_programs.unit_from x.tokens (start_behind i p traits) x.decls) (λ (y : State). code_programs.program_from (suc i) (with_unit p x y) y.ctx.traits xs) (λ (y : State). programs.program_from (suc i) (with_unit p x y) y.ctx.traits xs) (λ y. program_same (suc i) (with_unit p x y) y.ctx.traits xs)
     ∙ ap (λ r. and_then r (λ (y : State). programs.program_from (suc i) (with_unit p x y) y.ctx.traits xs)) (unit_same x.tokens (start_behind i p traits) x.decls refl)
 
 pub whole_same : (xs : List Source) → code_programs.program_of xs ≡ programs.program_of xs

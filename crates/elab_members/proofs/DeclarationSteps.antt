@@ -1,5 +1,5 @@
 -- Declarations of members, and what is said of the same.
-use Rattle.std.proofs.Common.{◌≡◌, ◌∙◌, ℕ, Bool, true, false, List, Option, Result, Ok, if◌then◌else◌, sym, ap, subst}
+use Rattle.std.proofs.Common.{◌≡◌, ◌∙◌, ℕ, Bool, true, false, List, Option, Result, Ok, if◌then◌else◌, refl, sym, ap, subst}
 use Rattle.elab_entry.specs.cpp_lex.Tokens.{Lexeme}
 use Rattle.elab_entry.specs.cpp_ast.Trees as syntax
 use Rattle.elab_entry.specs.cpp_ast.declared.arena.At.{At as SyntaxAt}
