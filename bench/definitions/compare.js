@@ -14,9 +14,6 @@ const PATH = "a.cc";
 // What the lexer or the parser answers, which are no part of these definitions.
 const is_passed_over = (answer) => /: (Lex|Syntax|Limit Nesting)$/.test(answer);
 
-// Events don't tell the place in the source at which a trap comes.
-const without_place = (line) => line.replace(/^(end trap \w+) .*/, "$1");
-
 function given({ kind, text }, unit) {
     try {
         return kind === "runs" ? events(unit, PATH, text) : [verdict(unit, PATH, text)];
@@ -29,7 +26,7 @@ function given({ kind, text }, unit) {
 function agrees({ name, wanted }, lines) {
     const count = Math.max(wanted.length, lines.length);
     for (let i = 0; i < count; i++) {
-        if (without_place(wanted[i] ?? "") !== (lines[i] ?? "")) {
+        if (wanted[i] !== lines[i]) {
             console.log(`${name}, line ${i + 1}:\n  wanted ${wanted[i] ?? "nothing"}\n  given  ${lines[i] ?? "nothing"}`);
             return false;
         }

@@ -5,19 +5,23 @@
 const { mkdirSync, readdirSync, readFileSync, writeFileSync } = require("fs");
 const { join } = require("path");
 
-const RUNS = join(__dirname, "data/runs");
+// The programs are those of the test program that runs the code on them, and its wanted answers are those of the definitions too.
+const TESTS = join(__dirname, "../../crates/replay_tests");
 const REFUSALS = join(__dirname, "data/refusals.tsv");
 const ESCAPES = { n: "\n", t: "\t", "\\": "\\" };
 
-const programs = readdirSync(RUNS)
-    .filter((file) => file.endsWith(".cc"))
+// What each program does: behind `# NAME` the lines up to its end.
+const runs = new Map();
+let lines = null;
+for (const line of readFileSync(join(TESTS, "stdout"), "utf8").split("\n")) {
+    if (line.startsWith("# ")) runs.set(`${line.slice(2)}.cc`, (lines = []));
+    else lines?.push(line);
+    if (line.startsWith("end ")) lines = null;
+}
+
+const programs = readdirSync(join(TESTS, "data"))
     .sort()
-    .map((file) => ({
-        kind: "runs",
-        name: file,
-        text: readFileSync(join(RUNS, file)),
-        wanted: readFileSync(join(RUNS, file.replace(".cc", ".events")), "utf8").trimEnd().split("\n"),
-    }));
+    .map((file) => ({ kind: "runs", name: file, text: readFileSync(join(TESTS, "data", file)), wanted: runs.get(file) }));
 
 const texts = readFileSync(REFUSALS, "utf8")
     .trimEnd()
