@@ -42,6 +42,9 @@ made_at_name {v = v} y m f = reads_node_at y (f v y.got m y.gained)
 pub reads_from : {s : Source} {p : Rule} {a b : ℕ} {k : Option ℕ} {u v w : BuilderState} → v ≡ u → ReadsLongest s p a b k v w → ReadsLongest s p a b k u w
 reads_from e x = record { got = x.got; long = x.long; gained = x.gained ∙ ap (λ (z : BuilderState). appended z x.got) e; ahead = x.ahead; inside = x.inside }
 
+pub reads_until : {s : Source} {p : Rule} {a b : ℕ} {k : Option ℕ} {u v w : BuilderState} → w ≡ v → ReadsLongest s p a b k u v → ReadsLongest s p a b k u w
+reads_until e x = record { got = x.got; long = x.long; gained = e ∙ x.gained; ahead = x.ahead; inside = x.inside }
+
 -- One token, and then a rule, which may be empty or not.
 
 pub mark_and : {s : Source} {test : Terminal → Bool} {p : Rule} {a b : ℕ} {k : Option ℕ} {v w : BuilderState} → test (terminal_at s a) ≡ true

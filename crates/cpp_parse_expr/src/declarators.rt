@@ -167,9 +167,22 @@ fn name_in_block(
         return Ok(None);
     };
     if !text.is_at(behind, Terminal::OpenBracket) {
+        note_parameters(text, behind, out);
         return Ok(Some(behind));
     }
     Ok(Some(suffixes(text, behind, naming, depth_left, start, out)?))
+}
+
+/// Where parameters follow a declared name in a block, notes that they cannot end there: no function is declared in one.
+fn note_parameters(text: &TypeNames, at: usize, out: &mut Builder)
+    ensures { out.new ≡ out.old }
+{
+    if !text.lookahead_parameters(at) {
+        return;
+    }
+    if let Some(close) = text.partner(at) {
+        out.expected_at(close);
+    }
 }
 
 /// A declarator without a name and without parentheses.

@@ -27,7 +27,7 @@ use Rattle.cpp_syntax.proofs.Readers.{leaves_none, leaves_same, leaves_both, lea
 use Rattle.cpp_syntax.proofs.Readers.{reads_taken, reads_left_out, none_behind, reads_mark, none_seq, none_form, none_node}
 use Rattle.cpp_syntax.proofs.ReaderLoops.{within, gained_then, reads_where, any_begins, loop_begins, loop_more, reads_if, reads_unless, loop_ends, seq_behind}
 use Rattle.cpp_parse_expr.proofs.ReaderAnswers.{made, made_at_name, mark_and, word_and, leaf_there, none_unlike, none_second, none_second_mark, leaves_chain}
-use Rattle.cpp_parse_expr.proofs.ReaderAnswers.{chain_done, parsed_right, parsed_form, parsed_err, always_err, reads_from, parsed_left}
+use Rattle.cpp_parse_expr.proofs.ReaderAnswers.{chain_done, parsed_right, parsed_form, parsed_err, always_err, reads_from, reads_until, parsed_left}
 use Rattle.cpp_parse_expr.proofs.TreeAdding.{filled}
 use Rattle.cpp_parse_expr.proofs.DeclaratorHeads.{head_named, head_in_parentheses, direct_name, direct_head, direct_omitted, direct_none, at_star, at_amp}
 use Rattle.cpp_parse_expr.proofs.DeclaratorHeads.{at_neither, head_adds, omitted_there, omitted_and}
@@ -175,8 +175,8 @@ declarators::name_in_block-returns-in_default t c =
 
 pub declarators::name_in_block-returns-then-not-is_at : goal.declarators::name_in_block-returns-then-not-is_at
 declarators::name_in_block-returns-then-not-is_at t c =
-    block_name_alone _ (naming_of c.args.naming) (rw c.in-Some.is at c.in_ok-behind.ensures)
-    (refused open_bracket terminal.OpenBracket refl _ (c.if-not-is_at.ensures.no refl))
+    reads_until c.note_parameters.ensures (block_name_alone _ (naming_of c.args.naming) (rw c.in-Some.is at c.in_ok-behind.ensures)
+    (refused open_bracket terminal.OpenBracket refl _ (c.if-not-is_at.ensures.no refl)))
 
 pub declarators::name_in_block-returns : goal.declarators::name_in_block-returns
 declarators::name_in_block-returns t c =
