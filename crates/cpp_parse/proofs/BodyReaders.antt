@@ -22,7 +22,7 @@ use Rattle.cpp_syntax.proofs.LambdaBodies.{bodies_in}
 use Rattle.cpp_syntax.proofs.UnitBodies.{wholes_have, broken_body, ended_body, none_body}
 use Rattle.cpp_parse_expr.proofs.ParseAnswers.{base_kept, grown_from}
 use Rattle.cpp_parse.specs.Bodies.{IsBlock, IsNoBody, AreRead, IsBroken, ReadsBodies, ReadsBody}
-use Rattle.cpp_parse.proofs.FirstDeepNode.{first_behind}
+use Rattle.cpp_parse_expr.proofs.FirstDeepNode.{first_behind}
 use Rattle.cpp_parse.proofs.BodyPositions.{text_inside, compound_tree}
 use Rattle.cpp_parse.proofs.JoinedBodies.{none_in, both_in, body_in}
 

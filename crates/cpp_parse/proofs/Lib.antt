@@ -1,4 +1,3 @@
-pub mod FirstDeepNode
 pub mod BodyPositions
 pub mod JoinedBodies
 pub mod LambdasOnce

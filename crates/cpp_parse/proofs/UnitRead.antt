@@ -27,7 +27,7 @@ use Rattle.cpp_syntax.proofs.LambdaBodies.{bodies_in}
 use Rattle.cpp_syntax.proofs.UnitBodies.{wholes_have, unit_of, unit_only, no_unit_ends, no_unit_broken}
 use Rattle.cpp_parse_expr.specs.Depths.{HoldLower, deep_kid}
 use Rattle.cpp_parse_expr.proofs.FirstTooDeep.{none_low, some_high}
-use Rattle.cpp_parse_expr.proofs.DepthPaths.{held}
+use Rattle.cpp_parse_expr.proofs.NodeIds.{held}
 use Rattle.cpp_parse_expr.proofs.ParseAnswers.{base_kept, grown_from}
 use Rattle.cpp_parse_expr.proofs.NodePositions.{IsPositioned, IsPosition, text_positioned, deep_position}
 use Rattle.cpp_parse.specs.declared.parse.Whole.{Whole as WholeRecord}

@@ -1,6 +1,8 @@
 //! Bodies of lambdas: C++14 5.1.2. A lambda is read without its body, and each body is read alone.
 
-ghost use Rattle.std.specs.Prelude.{length};
+ghost use Rattle.std.specs.Prelude.{◌≡◌, length, IfOk};
+ghost use Rattle.cpp_parse_expr.specs.Depths.{HaveNodes, IsNotedIn};
+ghost use Rattle.cpp_parse.specs.NotedBodies.{AreWithin, IsOnceEach};
 ghost use Rattle.cpp_parse.specs.Bodies.{AreInside, IsInside, ReadsBodies, ReadsBody, ReadsBlock};
 
 use crate::statements::compound_statement;
@@ -102,4 +104,23 @@ fn read_block(
         Ok(None) => Ok(Block::Refused { token }),
         Err(error) => Err(error),
     }
+}
+
+/// The body of each node, by the index of the node.
+pub fn bodies_by_node(
+    alloc: Global,
+    nodes: &Nodes,
+    bodies: &[LamBody],
+) -> Result<Vec<Option<NodeId>>, AllocError>
+    requires within { AreWithin (length nodes.now) bodies.now }
+    requires once { IsOnceEach bodies.now }
+    ensures noted { IfOk result (λ noted. IsNotedIn bodies.now noted.items) }
+    ensures long { IfOk result (λ noted. length noted.items ≡ length nodes.now) }
+    ensures there { IfOk result (λ noted. HaveNodes (length nodes.now) noted.items) }
+{
+    let mut noted: Vec<Option<NodeId>> = vec![in alloc; None; nodes.len() as usize]?;
+    'bodies: for body in bodies {
+        noted[body.lam.0 as usize] = Some(body.body);
+    }
+    Ok(noted)
 }

@@ -7,14 +7,14 @@ ghost use Rattle.cpp_parse.specs.Units.{ParsesUnit};
 ghost use Rattle.cpp_parse.specs.Steps.{ReadsDeclarations, ReadsWhole, AnswersUnit, IsWholeRead};
 ghost use Rattle.cpp_syntax.specs.declared.limits.TheConstants.{MAX_TOKENS};
 
-use crate::bodies::read_bodies;
+use crate::bodies::{bodies_by_node, read_bodies};
 use crate::declarations::translation_unit;
-use crate::depth::{bodies_by_node, first_deep_kid};
 use crate::statements::compound_statement;
 use cpp_ast::{LamBody, NodeId, Nodes, Unit};
 use cpp_lex::{Token, Tokens};
 use cpp_nests::first_nested;
 use cpp_parse_expr::ParseFault;
+use cpp_parse_expr::depth::first_deep_kid;
 use cpp_parse_expr::parse::token_at;
 use cpp_syntax::limits::{MAX_DEPTH, MAX_NESTED_BODIES, MAX_NESTED_CALLS, MAX_NESTED_SEARCHES};
 use cpp_syntax::{Builder, OpenBody, Parts, Terminal, TypeNames};
@@ -219,6 +219,7 @@ fn measure(
     ensures { AnswersUnit source (lexemes_of tokens.now) result }
 {
     let noted = bodies_by_node(alloc, &whole.nodes, &whole.bodies)?;
+    let mut lambdas = Vec::new(alloc);
     if let Some(position) = first_deep_kid(
         &whole.nodes,
         &noted,
@@ -226,6 +227,7 @@ fn measure(
         1,
         MAX_DEPTH,
         MAX_NESTED_SEARCHES,
+        &mut lambdas,
     )? {
         let token = token_at(types, position);
         return Ok(Answer::TooDeep { token });

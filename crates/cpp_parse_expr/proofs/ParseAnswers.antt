@@ -1,34 +1,33 @@
 -- From what readers answer to what the call does.
-use Rattle.std.proofs.Common.{◌≡◌, ℕ, suc, ◌+◌, ◌-◌, ◌<◌, ◌≤◌, nat_lt, nat_le, ◌&&◌, Bool, true, false, if◌then◌else◌, List, [], ◌∷◌, length, map, take, drop}
-use Rattle.std.proofs.Common.{get_or, slice_get, Some, None, refl, sym, ◌∙◌, ap, subst, arith, length-take-le, Vec, Global}
-use Rattle.std.proofs.lemmas.Bool.{and_from, leb-true, ltb-true}
-use Rattle.std.proofs.lemmas.List.Sums.{get_or-le-sum_by}
-use Rattle.std.proofs.lemmas.Option.{get_or_from_slice_get, slice_get_within}
+use Rattle.std.proofs.Common.{◌≡◌, ℕ, ◌+◌, ◌<◌, ◌≤◌, Bool, true, false, if◌then◌else◌, List, [], ◌∷◌, length, map, take}
+use Rattle.std.proofs.Common.{get_or, Some, None, refl, sym, ◌∙◌, ap, subst, arith, append-nil, length-append, Vec, Global}
+use Rattle.std.proofs.lemmas.List.{length-map}
+use Rattle.std.proofs.lemmas.Option.{slice_get_within}
 use Rattle.cpp_ast.proofs.NodeTrees.{cut_back}
 use Rattle.cpp_ast.specs.declared.arena.At.{At}
 use Rattle.cpp_ast.specs.declared.arena.Node.{Node}
 use Rattle.cpp_ast.specs.declared.arena.NodeId.{NodeId}
-use Rattle.cpp_ast.specs.Trees.{Tree, Trees, none, more, Shows, ShowsAll, Extends, deepest}
-use Rattle.cpp_ast.specs.Units.{times_in, times_a_kid}
+use Rattle.cpp_ast.specs.Trees.{Tree, node, Trees, none, more, kind_of, kid_depth, Shows, ShowsAll, Extends}
 use Rattle.cpp_syntax.specs.declared.positions.OpenBody.{OpenBody}
 use Rattle.cpp_syntax.specs.Source.{Source, position_at}
 use Rattle.cpp_syntax.specs.Rules.{Nonterminal, form}
 use Rattle.cpp_syntax.specs.Derivations.{Read, no_read, one_tree, and_then, kept_apart}
-use Rattle.cpp_syntax.specs.View.{BuilderState, builder_state, appended, BuiltTrees, trees_at, body_of, lams_of, count_trees}
+use Rattle.cpp_syntax.specs.View.{BuilderState, builder_state, appended, BuiltTrees, trees_at, body_of, count_trees, count_lambdas, count_lambdas_in, is_lambda}
 use Rattle.cpp_syntax.specs.Lookahead.{lookahead}
 use Rattle.cpp_syntax.specs.Longest.{LongestMatch}
 use Rattle.cpp_syntax.specs.Parsed.{ReadsLongest, Leaves}
 use Rattle.cpp_syntax.proofs.BuilderMarks.{trees_count}
-use Rattle.cpp_parse_expr.proofs.SingleTrees.{is_single, one_tree_of}
+use Rattle.cpp_syntax.proofs.NodeKids.{front_of}
+use Rattle.cpp_syntax.proofs.TreeLists.{as_many}
 use Rattle.cpp_parse_expr.specs.declared.parse.ExprForm.{ExprForm}
 use Rattle.cpp_parse_expr.specs.declared.parse.ExprForm.TheVariants as asked
-use Rattle.cpp_parse_expr.specs.Depths.{HoldOwn, HoldOnce, HoldLower, are_from, AreDepths, IsDeep, deep_node}
-use Rattle.cpp_parse_expr.specs.Parse.{form_of, tree_read, IsRead, IsTooDeep, IsParsed, open_bodies, lambda_depths}
 use Rattle.cpp_parse_expr.specs.declared.parse.BodyRange.{BodyRange}
+use Rattle.cpp_parse_expr.specs.Depths.{deep_node, lambda_depths, lambda_depths_in, Searches, IsNotedIn}
+use Rattle.cpp_parse_expr.specs.Parse.{form_of, tree_read, IsRead, IsTooDeep, IsParsed, open_bodies}
+use Rattle.cpp_parse_expr.proofs.SingleTrees.{is_single, one_tree_of}
 use Rattle.cpp_parse_expr.proofs.NodePositions.{text_positioned, deep_position}
-use Rattle.cpp_parse_expr.proofs.LambdaDepths.{Pairs, lambda_pairs, BodyAt, body_at, body_depths}
-use Rattle.cpp_syntax.proofs.NodeKids.{front_of}
-use Rattle.cpp_parse_expr.proofs.DepthPaths.{held, among}
+use Rattle.cpp_parse_expr.proofs.FirstTooDeep.{none_low, some_high}
+use Rattle.cpp_parse_expr.proofs.FirstDeepNode.{own_depth}
 
 pub single_of : (f : ExprForm) → is_single (form_of f) ≡ true
 single_of asked.Expr = refl
@@ -98,117 +97,84 @@ module _ (source : Source) (f : Nonterminal) (from next : ℕ) (built new : Buil
             subst (λ (ns : List Node). BuiltTrees (length ns) grown (root ∷ []) open_) kept
             (subst (λ (is : List NodeId). BuiltTrees (length new.base) grown is open_) only shown);
         ranges = got_bodies;
+        many =
+            sym (length-map open_ (λ (b : OpenBody). b.lam.0))
+            ∙ ap (λ (ns : List ℕ). length ns) shown.lambdas
+            ∙ as_many grown roots
+            ∙ ap count_lambdas_in trees
+            ∙ (let one_more : count_lambdas_in (one_tree one.0) ≡ count_lambdas one.0 = omega arith in one_more);
       }
-
--- New nodes are held once at most, and hold no old one.
-
-one_at_most : (b : Bool) (n m : ℕ) → n + m ≤ (if b then 1 else 0) → n ≤ 1
-one_at_most true n m h = omega (arith, h)
-one_at_most false n m h = omega (arith, h)
-
-pub hold_once : (base : ℕ) (nodes : List Node) (ids : List NodeId) (open_ : List OpenBody) → BuiltTrees base nodes ids open_ → HoldOnce base nodes
-hold_once base nodes ids open_ s =
-    record { each = λ id. one_at_most (nat_le base id && nat_lt id (length nodes)) (times_a_kid id (drop base nodes)) (times_in id ids) (s.apart id) }
-
-held_new : (b c : Bool) (n m : ℕ) → n + m ≤ (if b && c then 1 else 0) → 1 ≤ n → b ≡ true
-held_new true c n m h k = refl
-held_new false c n m h k = absurd (omega (arith, h, k))
-
-from_each : (base : ℕ) (ids : List NodeId) → ((k : ℕ) (id : NodeId) → slice_get ids k ≡ Some id → nat_le base id.0 ≡ true) → are_from base ids ≡ true
-from_each base [] h = refl
-from_each base (id ∷ ids) h = and_from (nat_le base id.0) (are_from base ids) (h 0 id refl) (from_each base ids (λ k other e. h (suc k) other e))
-
-pub hold_own : (base : ℕ) (nodes : List Node) (ids : List NodeId) (open_ : List OpenBody) → BuiltTrees base nodes ids open_ → HoldOwn base nodes
-hold_own base nodes ids open_ s = record {
-  own = λ id n from e.
-      from_each base n.kids.items (λ k kid f.
-      let once = held n.kids.items k kid.0 f in
-      let whole = kids_held base nodes id n kid.0 from e once in
-      held_new (nat_le base kid.0) (nat_lt kid.0 (length nodes)) (times_a_kid kid.0 (drop base nodes)) (times_in kid.0 ids) (s.apart kid.0) whole);
-}
-  where
-    kids_held : (base : ℕ) (nodes : List Node) (id : ℕ) (n : Node) (kid : ℕ) → base ≤ id → slice_get nodes id ≡ Some n → 1 ≤ times_in kid n.kids.items
-        → 1 ≤ times_a_kid kid (drop base nodes)
-    kids_held base nodes id n kid from e once =
-        let there = among nodes base id n from e in
-        let found : times_in kid (get_or (drop base nodes) (id - base) n).kids.items ≡ times_in kid n.kids.items = ap
-        (λ (m : Node). times_in kid m.kids.items) (get_or_from_slice_get (drop base nodes) (id - base) n n there) in
-        let least = get_or-le-sum_by (λ (m : Node). times_in kid m.kids.items) (drop base nodes) (id - base) n
-        (slice_get_within (drop base nodes) (id - base) n there) in
-        omega (arith, once, found, least)
 
 pub cut_old : (old new : List Node) (n : ℕ) → Extends old new → n ≡ length old → take n new ≡ old
 cut_old old new n x e = ap (λ (k : ℕ). take k new) e ∙ cut_back old new x
 
--- What is known of nodes that were read.
-pub record Ready (nodes : List Node) (first root : ℕ) : Type 0 where
-  pub own : HoldOwn first nodes
-  pub once : HoldOnce first nodes
-  pub from : first ≤ root
-  pub within : root < length nodes
+shown_inside : (nodes : List Node) (id : ℕ) (tree : Tree) → Shows nodes id tree → id < length nodes
+shown_inside nodes id (node kind at token kids) s = slice_get_within nodes id (s.0).found (s.0).stands
 
-both_true : (b c : Bool) (n m : ℕ) → n + m ≤ (if b && c then 1 else 0) → 1 ≤ m → (b ≡ true) × (c ≡ true)
-both_true true true n m h k = (refl, refl)
-both_true true false n m h k = absurd (omega (arith, h, k))
-both_true false c n m h k = absurd (omega (arith, h, k))
+-- as many depths as there are lambdas
+mutual
+  depths_many : (depth : ℕ) (tree : Tree) → length (lambda_depths depth tree) ≡ count_lambdas tree
+  depths_many depth (node kind at token kids) =
+      let both = length-append (lambda_depths_in depth kids) (own_depth (is_lambda kind) depth) in
+      let below = depths_many_in depth kids in
+      let own = own_many (is_lambda kind) depth in
+      omega (arith, both, below, own)
 
-ready_from : (base : ℕ) (nodes : List Node) (root : NodeId) (open_ : List OpenBody) → BuiltTrees base nodes (root ∷ []) open_ → Ready nodes base root.0
-ready_from base nodes root open_ s =
-    let one = held (root ∷ []) 0 root.0 refl in
-    let inside = both_true (nat_le base root.0) (nat_lt root.0 (length nodes)) (times_a_kid root.0 (drop base nodes)) (times_in root.0 (root ∷ []))
-    (s.apart root.0) one in
-    record {
-      own = hold_own base nodes (root ∷ []) open_ s;
-      once = hold_once base nodes (root ∷ []) open_ s;
-      from = leb-true base root.0 inside.0;
-      within = ltb-true root.0 (length nodes) inside.1;
-    }
+  depths_many_in : (depth : ℕ) (trees : Trees) → length (lambda_depths_in depth trees) ≡ count_lambdas_in trees
+  depths_many_in depth none = refl
+  depths_many_in depth (more t ts) =
+      let both = length-append (lambda_depths (kid_depth depth (kind_of t)) t) (lambda_depths_in depth ts) in
+      let first = depths_many (kid_depth depth (kind_of t)) t in
+      let rest = depths_many_in depth ts in
+      omega (arith, both, first, rest)
 
-module _ (source : Source) (f : Nonterminal) (from next first : ℕ) (nodes : List Node) (root : NodeId) (open_ : List OpenBody)
-    (few : first ≤ length nodes) (r : IsRead source f from (take first nodes) nodes root next open_) where
-  pub ready : Ready nodes first root.0
-  ready = subst (λ (n : ℕ). Ready nodes n root.0) (length-take-le first nodes few) (ready_from (length (take first nodes)) nodes root open_ r.shown)
+  own_many : (own : Bool) (depth : ℕ) → length (own_depth own depth) ≡ (if own then 1 else 0)
+  own_many true depth = refl
+  own_many false depth = refl
 
-  pub too_deep : (depth limit token id : ℕ) (found : Node) → (limit < deepest depth r.tree) × IsDeep nodes id (deep_node limit depth r.tree)
-      → slice_get nodes id ≡ Some found → token ≤ length source.terminals
-      → ((k : ℕ) → k ≤ length source.terminals → position_at source k ≡ found.at → position_at source token ≡ found.at)
-      → IsTooDeep source f from depth limit token
-  too_deep depth limit token id found deep stands inside at =
-      let same : deep.1.found ≡ found = let e : Some deep.1.found ≡ Some found = sym deep.1.stands ∙ stands in cc in
-      let is : deep_node limit depth r.tree ≡ Some found.at = deep.1.is ∙ ap (λ (n : Node). Some n.at) same in
-      let positioned = (text_positioned (length source.terminals) r.text.derives r.inside tt).trees in
-      let position = deep_position source (length source.terminals) limit depth r.tree found.at positioned.0 is in
-      record {
-        next = next;
-        tree = r.tree;
-        bodies = r.bodies;
-        text = r.text;
-        deep = deep.0;
-        position = is ∙ ap (λ (a : At). Some a) (sym (at position.token position.within position.is));
-        inside = inside;
-      }
+-- where no bodies are noted
+pub none_noted : IsNotedIn [] []
+none_noted = record { each = λ kids id. sym (append-nil kids) }
 
-  module _ (depth : ℕ) (depths : List ℕ) (lower : HoldLower first nodes) (are : AreDepths nodes root.0 depth first depths) where
-    pairs : Pairs nodes root.0 depth (lams_of open_) (lambda_depths depth r.tree)
-    pairs =
-        subst (λ (ids : List ℕ). Pairs nodes root.0 depth ids (lambda_depths depth r.tree)) (sym r.shown.lambdas)
-        (lambda_pairs nodes root.0 depth first ready.own lower root r.tree ready.from refl r.shows)
+module _ (source : Source) (f : Nonterminal) (from next : ℕ) (old nodes : List Node) (root : NodeId) (open_ : List OpenBody)
+    (r : IsRead source f from old nodes root next open_) where
+  pub root_inside : root.0 < length nodes
+  root_inside = shown_inside nodes root.0 r.tree r.shows
 
-    pub each_body : (k : ℕ) (body : OpenBody) → slice_get open_ k ≡ Some body → BodyAt nodes first (deepest depth r.tree) depths body.lam.0
-    each_body k body e = body_at nodes root.0 depth first depths r.tree open_ (lambda_depths depth r.tree) k body ready.within r.shows are pairs e
+  module _ (depth limit : ℕ) where
+    pub too_deep : (token : ℕ) (found : At) → Some found ≡ deep_node limit depth r.tree → token ≤ length source.terminals
+        → ((k : ℕ) → k ≤ length source.terminals → position_at source k ≡ found → position_at source token ≡ found)
+        → IsTooDeep source f from depth limit token
+    too_deep token found deep inside at =
+        let positioned = (text_positioned (length source.terminals) r.text.derives r.inside tt).trees in
+        let position = deep_position source (length source.terminals) limit depth r.tree found positioned.0 (sym deep) in
+        record {
+          next = next;
+          tree = r.tree;
+          bodies = r.bodies;
+          text = r.text;
+          deep = some_high limit depth r.tree found (sym deep);
+          position = sym deep ∙ ap (λ (a : At). Some a) (sym (at position.token position.within position.is));
+          inside = inside;
+        }
 
-    pub parsed : (limit : ℕ) (bodies : Vec BodyRange Global) → deepest depth r.tree ≤ limit → open_bodies bodies.items ≡ open_
-        → map (λ (b : BodyRange). b.depth) bodies.items ≡ map (λ (b : OpenBody). get_or depths (b.lam.0 - first) 0) open_
-        → IsParsed source f from depth limit (take first nodes) nodes (record { root = root; next = next; bodies = bodies })
-    parsed limit bodies low opens values = record {
+    pub each_depth : (depths : List ℕ) → Searches (deep_node limit depth r.tree) (lambda_depths depth r.tree) [] depths None
+        → length depths ≡ length open_
+    each_depth depths h = ap (λ (ds : List ℕ). length ds) h.1 ∙ depths_many depth r.tree ∙ sym r.many
+
+    pub parsed : (depths : List ℕ) (bodies : Vec BodyRange Global)
+        → Searches (deep_node limit depth r.tree) (lambda_depths depth r.tree) [] depths None → open_bodies bodies.items ≡ open_
+        → map (λ (b : BodyRange). b.depth) bodies.items ≡ depths
+        → IsParsed source f from depth limit old nodes (record { root = root; next = next; bodies = bodies })
+    parsed depths bodies h opens values = record {
       tree = r.tree;
       bodies = r.bodies;
       text = r.text;
       inside = r.inside;
-      shallow = low;
+      shallow = none_low limit depth r.tree (sym h.0);
       shows = r.shows;
       grown = r.grown;
-      shown = subst (λ (bs : List OpenBody). BuiltTrees (length (take first nodes)) nodes (root ∷ []) bs) (sym opens) r.shown;
+      shown = subst (λ (bs : List OpenBody). BuiltTrees (length old) nodes (root ∷ []) bs) (sym opens) r.shown;
       ranges = ap (λ (bs : List OpenBody). map (body_of nodes) bs) opens ∙ r.ranges;
-      depths = values ∙ body_depths nodes root.0 depth first depths open_ (lambda_depths depth r.tree) are pairs;
+      depths = values ∙ h.1;
     }

@@ -1,9 +1,9 @@
 -- What the call that reads a form answers.
-use Rattle.std.specs.Prelude.{◌≡◌, ℕ, ◌<◌, ◌≤◌, if◌then◌else◌, List, [], ◌∷◌, ◌++◌, length, map, Some, None, Result, Ok, Err}
+use Rattle.std.specs.Prelude.{◌≡◌, ℕ, ◌<◌, ◌≤◌, List, [], ◌∷◌, length, map, Some, None, Result, Ok, Err}
 use Rattle.std.specs.declared.alloc.AllocError.{AllocError}
 use Rattle.cpp_ast.specs.declared.arena.Node.{Node}
 use Rattle.cpp_ast.specs.declared.arena.NodeId.{NodeId}
-use Rattle.cpp_ast.specs.Trees.{Tree, node, Trees, none, more, kind_of, Shows, Extends, kid_depth, deepest}
+use Rattle.cpp_ast.specs.Trees.{Tree, Shows, Extends, deepest}
 use Rattle.cpp_syntax.specs.declared.positions.OpenBody.{OpenBody}
 use Rattle.cpp_syntax.specs.Source.{Source, position_at}
 use Rattle.cpp_syntax.specs.Rules.{Nonterminal, expression, assignment_expression, conditional_expression, type_specifier_seq, type_id, declarator}
@@ -11,7 +11,7 @@ use Rattle.cpp_syntax.specs.Rules.{parameter_declaration, parameter_declaration_
 use Rattle.cpp_syntax.specs.Derivations.{Body, Read, no_read, one_tree, kept_apart}
 use Rattle.cpp_syntax.specs.Lookahead.{lookahead}
 use Rattle.cpp_syntax.specs.Longest.{LongestMatch, NoDerivation}
-use Rattle.cpp_syntax.specs.View.{is_lambda, body_of, BuiltTrees}
+use Rattle.cpp_syntax.specs.View.{body_of, count_lambdas, BuiltTrees}
 use Rattle.cpp_parse_expr.specs.declared.parse.ExprForm.{ExprForm}
 use Rattle.cpp_parse_expr.specs.declared.parse.ExprForm.TheVariants as asked
 use Rattle.cpp_parse_expr.specs.declared.parse.BodyRange.{BodyRange}
@@ -22,7 +22,7 @@ use Rattle.cpp_parse_expr.specs.declared.parse.Reading.{Reading}
 use Rattle.cpp_parse_expr.specs.declared.parse.Reading.TheVariants as reading
 use Rattle.cpp_parse_expr.specs.declared.parse.Outcome.{Outcome}
 use Rattle.cpp_parse_expr.specs.declared.parse.Outcome.TheVariants as outcome
-use Rattle.cpp_parse_expr.specs.Depths.{deep_node}
+use Rattle.cpp_parse_expr.specs.Depths.{deep_node, lambda_depths}
 
 -- the form of the grammar that is asked for
 abbrev pub form_of : ExprForm → Nonterminal
@@ -47,15 +47,6 @@ IsText source f from next tree bodies = LongestMatch (lookahead source) kept_apa
 -- no text of a form begins at an index
 abbrev pub NoneBegins : Source → Nonterminal → ℕ → Type 0
 NoneBegins source f from = NoDerivation (lookahead source) kept_apart source (form f) no_read from
-
--- The depths of the lambdas of a tree whose root has this depth, those in the kids of a node before the node itself.
-abbrev mutual
-  pub lambda_depths : ℕ → Tree → List ℕ
-  lambda_depths depth (node kind at token kids) = lambda_depths_in depth kids ++ (if is_lambda kind then depth ∷ [] else [])
-
-  pub lambda_depths_in : ℕ → Trees → List ℕ
-  lambda_depths_in depth none = []
-  lambda_depths_in depth (more t ts) = lambda_depths (kid_depth depth (kind_of t)) t ++ lambda_depths_in depth ts
 
 -- a body without the depth of its lambda
 abbrev pub open_of : BodyRange → OpenBody
@@ -112,6 +103,7 @@ pub record IsRead (source : Source) (f : Nonterminal) (from : ℕ) (old new : Li
   pub grown : Extends old new
   pub shown : BuiltTrees (length old) new (root ∷ []) open_
   pub ranges : map (body_of new) open_ ≡ bodies
+  pub many : length open_ ≡ count_lambdas tree
 
 abbrev pub ReadsText : Source → Nonterminal → ℕ → List Node → List Node → Result Reading AllocError → Type 0
 ReadsText source f from old new (Ok (reading.Found root next open_)) = IsRead source f from old new root next open_.items

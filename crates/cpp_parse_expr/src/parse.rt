@@ -1,19 +1,18 @@
 //! The one call of this crate.
 
-ghost use Rattle.std.specs.Prelude.{◌≡◌, ◌≤◌, ◌<◌, ◌-◌, ◌^◌, ℕ, IfOk, None, Some, length, map, take, slice_get, slice_index};
+ghost use Rattle.std.specs.Prelude.{◌≡◌, ◌≤◌, ℕ, IfOk, length, map};
 ghost use Rattle.cpp_syntax.specs.Source.{position_at};
 ghost use Rattle.cpp_syntax.specs.Parsed.{ParsesForm};
-ghost use Rattle.cpp_syntax.specs.declared.positions.OpenBody.{OpenBody as OpenBodyRecord};
-ghost use Rattle.cpp_parse_expr.specs.Parse.{form_of, open_bodies, Parses, ReadsText, Measures, IsRead};
+ghost use Rattle.cpp_parse_expr.specs.Parse.{form_of, open_bodies, Parses, ReadsText, Measures};
 
 use crate::declarators::{
     declarator, function_qualifiers, parameter_clause, parameter_declaration, type_id,
 };
-use crate::depth::{depths, first_deeper, heights};
+use crate::depth::first_deep;
 use crate::expressions::{assignment_expression, conditional_expression, expression};
 use crate::types::type_specifier_seq;
 use cpp_ast::{At, NodeId, Nodes};
-use cpp_syntax::limits::MAX_NESTED_CALLS;
+use cpp_syntax::limits::{MAX_NESTED_CALLS, MAX_NESTED_SEARCHES};
 use cpp_syntax::{Builder, Naming, OpenBody, Parts, TypeNames};
 use std::alloc::{AllocError, Global};
 use std::mem;
@@ -151,12 +150,25 @@ fn parse_text(
     requires { from ≤ length types.now.terminals }
     ensures { Measures types.now (form_of form) from depth limit nodes.old nodes.new result }
 {
-    let first = nodes.len();
     match read_text(alloc, form, from, types, nodes)? {
+        Reading::Found { root, next, bodies } => {
+            let mut depths = Vec::new(alloc);
+            if let Some(position) = first_deep(
+                nodes,
+                &[],
+                root,
+                u64::from(depth),
+                limit,
+                MAX_NESTED_SEARCHES,
+                &mut depths,
+            )? {
+                let token = token_at(types, position);
+                return Ok(Outcome::TooDeep { token });
+            }
+            let bodies = with_depths(alloc, &bodies, &depths)?;
+            Ok(Outcome::Parsed(ExprOut { root, next, bodies }))
+        }
         Reading::Nothing { token } => Ok(Outcome::Refused { token }),
-        Reading::Found { root, next, bodies } => measure(
-            alloc, form, from, types, depth, limit, nodes, first, root, next, bodies,
-        ),
     }
 }
 
@@ -215,34 +227,6 @@ fn read_form(
     }
 }
 
-/// Answers a text that was read, if it does not nest too deep.
-fn measure(
-    alloc: Global,
-    form: ExprForm,
-    from: u32,
-    types: &TypeNames,
-    depth: u32,
-    limit: u32,
-    nodes: &Nodes,
-    first: u32,
-    root: NodeId,
-    next: u32,
-    bodies: Vec<OpenBody>,
-) -> Result<Outcome, AllocError>
-    requires first { first ≤ length nodes.now }
-    requires read { IsRead types.now (form_of form) from (take first nodes.now) nodes.now root next bodies.items }
-    ensures { Measures types.now (form_of form) from depth limit (take first nodes.now) nodes.now result }
-{
-    let heights = heights(alloc, nodes, first)?;
-    if let Some(deep) = first_deeper(nodes, root, depth, limit, first, &heights) {
-        let token = token_at(types, nodes.node(deep).at);
-        return Ok(Outcome::TooDeep { token });
-    }
-    let depths = depths(alloc, nodes, root, depth, first)?;
-    let bodies = with_depths(alloc, &bodies, &depths, first)?;
-    Ok(Outcome::Parsed(ExprOut { root, next, bodies }))
-}
-
 /// The first token that has an index, or the number of tokens where none has.
 pub fn token_at(types: &TypeNames, position: At) -> u32
     ensures inside { result ≤ length types.now.terminals }
@@ -260,20 +244,18 @@ pub fn token_at(types: &TypeNames, position: At) -> u32
 fn with_depths(
     alloc: Global,
     bodies: &[OpenBody],
-    depths: &[u64],
-    first: u32,
+    depths: &[u32],
 ) -> Result<Vec<BodyRange>, AllocError>
-    requires there { (k : ℕ) (body : OpenBodyRecord) → slice_get bodies.now k ≡ Some body → (first ≤ body.lam.0) × (body.lam.0 - first < length depths.now) }
-    requires shallow { (k : ℕ) (body : OpenBodyRecord) → slice_get bodies.now k ≡ Some body → slice_index depths.now (body.lam.0 - first) < 2 ^ 32 }
+    requires { length depths.now ≡ length bodies.now }
     ensures bodies { IfOk result (λ ranges. open_bodies ranges.items ≡ bodies.now) }
-    ensures depths { IfOk result (λ ranges. map (λ range. range.depth) ranges.items ≡ map (λ body. slice_index depths.now (body.lam.0 - first)) bodies.now) }
+    ensures depths { IfOk result (λ ranges. map (λ range. range.depth) ranges.items ≡ depths.now) }
 {
     let mut ranges = Vec::new(alloc);
-    'bodies: for body in bodies {
-        let depth = depths[(body.lam.0 - first) as usize] as u32;
+    'bodies: for k in 0..bodies.len() {
+        let body = bodies[k];
         ranges.push(BodyRange {
             lam: body.lam,
-            depth,
+            depth: depths[k],
             from: body.from,
             to: body.to,
         })?;

@@ -4,7 +4,7 @@ use Rattle.std.proofs.lemmas.Option.{slice_get-get_or}
 use Rattle.cpp_ast.specs.declared.arena.NodeId.{NodeId}
 use Rattle.cpp_ast.specs.declared.units.LamBody.{LamBody}
 use Rattle.cpp_parse.proofs.BodyTable.{no_entry, none_or, table_empty, nodes_empty, table_more, nodes_more}
-use Rattle.cpp_parse.proofs.depth.bodies_by_node.Goals as goal
+use Rattle.cpp_parse.proofs.bodies.bodies_by_node.Goals as goal
 
 abbrev first_id : NodeId
 first_id = record { 0 = 0 }
