@@ -105,22 +105,13 @@ fn handler(
     requires here { at ≤ length text.now.terminals }
     ensures { ParsesLongest text.now (form handler) at None out.old out.new result }
 {
-    if !text.is_at(at, Terminal::Catch) {
-        out.expected_at(at);
-        return Ok(None);
-    }
-    if !text.is_at(at + 1, Terminal::OpenParen) {
-        out.expected_at(at + 1);
-        return Ok(None);
-    }
+    expect!(text.is_at(at, Terminal::Catch), out);
+    expect!(text.is_at(at + 1, Terminal::OpenParen), out);
     let start = out.checkpoint();
     let Some(close) = exception_declaration(text, at + 2, depth_left, out)? else {
         return Ok(None);
     };
-    if !text.is_at(close, Terminal::CloseParen) {
-        out.expected_at(close);
-        return Ok(None);
-    }
+    expect!(text.is_at(close, Terminal::CloseParen), out);
     let Some(next) = compound_statement(text, close + 1, depth_left, out)? else {
         return Ok(None);
     };

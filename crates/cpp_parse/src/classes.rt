@@ -25,21 +25,12 @@ pub fn class_declaration(
     requires here { at ≤ length text.now.terminals }
     ensures { ParsesLongest text.now class_declaration at None out.old out.new result }
 {
-    if !is_class_key_at(text, at) {
-        out.expected_at(at);
-        return Ok(None);
-    }
+    expect!(is_class_key_at(text, at), out);
     let start = out.checkpoint();
     let name = leaf(text, at, NodeKind::ClassKey, out)?;
-    if !text.is_name_at(name) {
-        out.expected_at(name);
-        return Ok(None);
-    }
+    expect!(text.is_name_at(name), out);
     let end = name + 1;
-    if !text.is_at(end, Terminal::Semicolon) {
-        out.expected_at(end);
-        return Ok(None);
-    }
+    expect!(text.is_at(end, Terminal::Semicolon), out);
     node_at_token(text, NodeKind::ClassDeclaration, name as u32, start, out)?;
     Ok(Some(end + 1))
 }
@@ -54,25 +45,16 @@ pub fn class_specifier(
     requires here { at ≤ length text.now.terminals }
     ensures { ParsesLongest text.now class_specifier at None out.old out.new result }
 {
-    if !is_class_key_at(text, at) {
-        out.expected_at(at);
-        return Ok(None);
-    }
+    expect!(is_class_key_at(text, at), out);
     let start = out.checkpoint();
     let name = leaf(text, at, NodeKind::ClassKey, out)?;
-    if !text.is_name_at(name) {
-        out.expected_at(name);
-        return Ok(None);
-    }
+    expect!(text.is_name_at(name), out);
     let behind = optional_final(text, name + 1, out)?;
     let open = optional_base(text, behind, out)?;
     let Some(end) = member_specification(text, open, depth_left, out)? else {
         return Ok(None);
     };
-    if !text.is_at(end, Terminal::Semicolon) {
-        out.expected_at(end);
-        return Ok(None);
-    }
+    expect!(text.is_at(end, Terminal::Semicolon), out);
     node_at_token(text, NodeKind::ClassSpecifier, name as u32, start, out)?;
     Ok(Some(end + 1))
 }
@@ -116,10 +98,7 @@ fn base_specifier(
 {
     let start = out.checkpoint();
     let name = optional_access(text, at, out)?;
-    if !text.is_at(name, Terminal::TypeName) {
-        out.expected_at(name);
-        return Ok(None);
-    }
+    expect!(text.is_at(name, Terminal::TypeName), out);
     node(
         text,
         at,
@@ -152,16 +131,10 @@ fn member_specification(
     requires here { at ≤ length text.now.terminals }
     ensures { ParsesLongest text.now member_specification at None out.old out.new result }
 {
-    if !text.is_at(at, Terminal::OpenBrace) {
-        out.expected_at(at);
-        return Ok(None);
-    }
+    expect!(text.is_at(at, Terminal::OpenBrace), out);
     let start = out.checkpoint();
     let close = members(text, at + 1, depth_left, out)?;
-    if !text.is_at(close, Terminal::CloseBrace) {
-        out.expected_at(close);
-        return Ok(None);
-    }
+    expect!(text.is_at(close, Terminal::CloseBrace), out);
     node(
         text,
         at,
@@ -204,23 +177,14 @@ pub fn enum_specifier(
     requires here { at ≤ length text.now.terminals }
     ensures { ParsesLongest text.now enum_specifier at None out.old out.new result }
 {
-    if !text.is_at(at, Terminal::Enum) {
-        out.expected_at(at);
-        return Ok(None);
-    }
+    expect!(text.is_at(at, Terminal::Enum), out);
     let start = out.checkpoint();
     let name = optional_class_key(text, at + 1, out)?;
-    if !text.is_name_at(name) {
-        out.expected_at(name);
-        return Ok(None);
-    }
+    expect!(text.is_name_at(name), out);
     let Some(end) = braced_enumerators(text, name + 1, depth_left, out)? else {
         return Ok(None);
     };
-    if !text.is_at(end, Terminal::Semicolon) {
-        out.expected_at(end);
-        return Ok(None);
-    }
+    expect!(text.is_at(end, Terminal::Semicolon), out);
     node_at_token(text, NodeKind::EnumSpecifier, name as u32, start, out)?;
     Ok(Some(end + 1))
 }
@@ -246,15 +210,9 @@ fn braced_enumerators(
     requires here { at ≤ length text.now.terminals }
     ensures { ParsesLongest text.now (braced_list (form enumerator_definition)) at None out.old out.new result }
 {
-    if !text.is_at(at, Terminal::OpenBrace) {
-        out.expected_at(at);
-        return Ok(None);
-    }
+    expect!(text.is_at(at, Terminal::OpenBrace), out);
     let close = optional_enumerators(text, at + 1, depth_left, out)?;
-    if !text.is_at(close, Terminal::CloseBrace) {
-        out.expected_at(close);
-        return Ok(None);
-    }
+    expect!(text.is_at(close, Terminal::CloseBrace), out);
     Ok(Some(close + 1))
 }
 
@@ -311,10 +269,7 @@ fn enumerator_definition(
     requires here { at ≤ length text.now.terminals }
     ensures { ParsesLongest text.now (form enumerator_definition) at None out.old out.new result }
 {
-    if !text.is_name_at(at) {
-        out.expected_at(at);
-        return Ok(None);
-    }
+    expect!(text.is_name_at(at), out);
     let start = out.checkpoint();
     let next = optional_value(text, at + 1, depth_left, out)?;
     node_at_token(text, NodeKind::EnumeratorDefinition, at as u32, start, out)?;

@@ -49,10 +49,7 @@ pub fn plain_constructor(
     requires here { at ≤ length text.now.terminals }
     ensures { ParsesLongest text.now (form (constructor_declarator plain)) at None out.old out.new result }
 {
-    if !text.is_at(at, Terminal::TypeName) {
-        out.expected_at(at);
-        return Ok(None);
-    }
+    expect!(text.is_at(at, Terminal::TypeName), out);
     let start = out.checkpoint();
     let behind = leaf(text, at, NodeKind::DeclaratorId, out)?;
     let Some(next) = function_parameters(text, behind, Naming::Unnamed, depth_left, out)? else {
@@ -111,21 +108,12 @@ fn constructor_name(
     requires here { at ≤ length text.now.terminals }
     ensures { ParsesLongest text.now constructor_name at None out.old out.new result }
 {
-    if !text.is_at(at, Terminal::TypeName) {
-        out.expected_at(at);
-        return Ok(None);
-    }
+    expect!(text.is_at(at, Terminal::TypeName), out);
     let start = out.checkpoint();
     let colons = type_name(text, at, out)?;
-    if !text.is_at(colons, Terminal::ColonColon) {
-        out.expected_at(colons);
-        return Ok(None);
-    }
+    expect!(text.is_at(colons, Terminal::ColonColon), out);
     let name = colons + 1;
-    if !text.is_at(name, Terminal::TypeName) {
-        out.expected_at(name);
-        return Ok(None);
-    }
+    expect!(text.is_at(name, Terminal::TypeName), out);
     node(
         text,
         at,
@@ -146,26 +134,14 @@ fn qualified_destructor_name(
     requires here { at ≤ length text.now.terminals }
     ensures { ParsesLongest text.now qualified_destructor_name at None out.old out.new result }
 {
-    if !text.is_at(at, Terminal::TypeName) {
-        out.expected_at(at);
-        return Ok(None);
-    }
+    expect!(text.is_at(at, Terminal::TypeName), out);
     let start = out.checkpoint();
     let colons = type_name(text, at, out)?;
-    if !text.is_at(colons, Terminal::ColonColon) {
-        out.expected_at(colons);
-        return Ok(None);
-    }
+    expect!(text.is_at(colons, Terminal::ColonColon), out);
     let tilde = colons + 1;
-    if !text.is_at(tilde, Terminal::Tilde) {
-        out.expected_at(tilde);
-        return Ok(None);
-    }
+    expect!(text.is_at(tilde, Terminal::Tilde), out);
     let name = tilde + 1;
-    if !text.is_at(name, Terminal::TypeName) {
-        out.expected_at(name);
-        return Ok(None);
-    }
+    expect!(text.is_at(name, Terminal::TypeName), out);
     node(
         text,
         at,
@@ -186,15 +162,9 @@ fn destructor_name(
     requires here { at ≤ length text.now.terminals }
     ensures { ParsesLongest text.now destructor_name at None out.old out.new result }
 {
-    if !text.is_at(at, Terminal::Tilde) {
-        out.expected_at(at);
-        return Ok(None);
-    }
+    expect!(text.is_at(at, Terminal::Tilde), out);
     let name = at + 1;
-    if !text.is_at(name, Terminal::TypeName) {
-        out.expected_at(name);
-        return Ok(None);
-    }
+    expect!(text.is_at(name, Terminal::TypeName), out);
     let start = out.checkpoint();
     node(
         text,
@@ -216,15 +186,9 @@ fn empty_parameters(
     requires here { at ≤ length text.now.terminals }
     ensures { ParsesLongest text.now empty_parameters at (Some at) out.old out.new result }
 {
-    if !text.is_at(at, Terminal::OpenParen) {
-        out.expected_at(at);
-        return Ok(None);
-    }
+    expect!(text.is_at(at, Terminal::OpenParen), out);
     let close = no_parameter(text, at + 1, out)?;
-    if !text.is_at(close, Terminal::CloseParen) {
-        out.expected_at(close);
-        return Ok(None);
-    }
+    expect!(text.is_at(close, Terminal::CloseParen), out);
     Ok(Some(function_qualifiers(text, close + 1, out)?))
 }
 
@@ -332,10 +296,7 @@ fn base_initializer(
     requires here { at ≤ length text.now.terminals }
     ensures { ParsesLongest text.now base_initializer at None out.old out.new result }
 {
-    if !text.is_at(at, Terminal::TypeName) {
-        out.expected_at(at);
-        return Ok(None);
-    }
+    expect!(text.is_at(at, Terminal::TypeName), out);
     let start = out.checkpoint();
     let Some(next) = initializer_arguments(text, at + 1, depth_left, out)? else {
         return Ok(None);
@@ -361,10 +322,7 @@ fn named_initializer(
     requires here { at ≤ length text.now.terminals }
     ensures { ParsesLongest text.now named_initializer at None out.old out.new result }
 {
-    if !text.is_name_at(at) {
-        out.expected_at(at);
-        return Ok(None);
-    }
+    expect!(text.is_name_at(at), out);
     let start = out.checkpoint();
     let Some(next) = initializer_arguments(text, at + 1, depth_left, out)? else {
         return Ok(None);
@@ -390,14 +348,8 @@ fn initializer_arguments(
     requires here { at ≤ length text.now.terminals }
     ensures { ParsesLongest text.now initializer_arguments at None out.old out.new result }
 {
-    if !text.is_at(at, Terminal::OpenParen) {
-        out.expected_at(at);
-        return Ok(None);
-    }
+    expect!(text.is_at(at, Terminal::OpenParen), out);
     let close = expression_list(text, at + 1, depth_left, out)?;
-    if !text.is_at(close, Terminal::CloseParen) {
-        out.expected_at(close);
-        return Ok(None);
-    }
+    expect!(text.is_at(close, Terminal::CloseParen), out);
     Ok(Some(close + 1))
 }

@@ -78,28 +78,16 @@ fn alias_declaration(
     requires here { at ≤ length text.now.terminals }
     ensures { ParsesLongest text.now alias_declaration at None out.old out.new result }
 {
-    if !text.is_at(at, Terminal::Using) {
-        out.expected_at(at);
-        return Ok(None);
-    }
+    expect!(text.is_at(at, Terminal::Using), out);
     let name = at + 1;
-    if !text.is_name_at(name) {
-        out.expected_at(name);
-        return Ok(None);
-    }
+    expect!(text.is_name_at(name), out);
     let equal = name + 1;
-    if !text.is_at(equal, Terminal::Equal) {
-        out.expected_at(equal);
-        return Ok(None);
-    }
+    expect!(text.is_at(equal, Terminal::Equal), out);
     let start = out.checkpoint();
     let Some(end) = type_id(text, equal + 1, depth_left, out)? else {
         return Ok(None);
     };
-    if !text.is_at(end, Terminal::Semicolon) {
-        out.expected_at(end);
-        return Ok(None);
-    }
+    expect!(text.is_at(end, Terminal::Semicolon), out);
     node_at_token(text, NodeKind::AliasDeclaration, name as u32, start, out)?;
     Ok(Some(end + 1))
 }
@@ -161,15 +149,9 @@ fn linkage_specification(
     requires here { at ≤ length text.now.terminals }
     ensures { ParsesLongest text.now linkage_specification at None out.old out.new result }
 {
-    if !text.is_at(at, Terminal::Extern) {
-        out.expected_at(at);
-        return Ok(None);
-    }
+    expect!(text.is_at(at, Terminal::Extern), out);
     let language = at + 1;
-    if !text.is_at(language, Terminal::String) {
-        out.expected_at(language);
-        return Ok(None);
-    }
+    expect!(text.is_at(language, Terminal::String), out);
     let start = out.checkpoint();
     let Some(next) = simple_declaration(text, language + 1, depth_left, out)? else {
         return Ok(None);
@@ -195,26 +177,14 @@ fn linkage_block(
     requires here { at ≤ length text.now.terminals }
     ensures { ParsesLongest text.now linkage_block at None out.old out.new result }
 {
-    if !text.is_at(at, Terminal::Extern) {
-        out.expected_at(at);
-        return Ok(None);
-    }
+    expect!(text.is_at(at, Terminal::Extern), out);
     let language = at + 1;
-    if !text.is_at(language, Terminal::String) {
-        out.expected_at(language);
-        return Ok(None);
-    }
+    expect!(text.is_at(language, Terminal::String), out);
     let open = language + 1;
-    if !text.is_at(open, Terminal::OpenBrace) {
-        out.expected_at(open);
-        return Ok(None);
-    }
+    expect!(text.is_at(open, Terminal::OpenBrace), out);
     let start = out.checkpoint();
     let close = simple_declarations(text, open + 1, depth_left, out)?;
-    if !text.is_at(close, Terminal::CloseBrace) {
-        out.expected_at(close);
-        return Ok(None);
-    }
+    expect!(text.is_at(close, Terminal::CloseBrace), out);
     node(
         text,
         at,

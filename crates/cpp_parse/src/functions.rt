@@ -119,10 +119,7 @@ fn ordinary_declaration(
     let Some(end) = init_declarators(text, declared, Naming::Named, depth_left, out)? else {
         return Ok(None);
     };
-    if !text.is_at(end, Terminal::Semicolon) {
-        out.expected_at(end);
-        return Ok(None);
-    }
+    expect!(text.is_at(end, Terminal::Semicolon), out);
     node_from(text, at, NodeKind::SimpleDeclaration, start, out)?;
     Ok(Some(end + 1))
 }

@@ -40,10 +40,7 @@ pub fn block_declaration(
     let Some(close) = init_declarators(text, behind, Naming::InBlock, depth_left, out)? else {
         return Ok(None);
     };
-    if !text.is_at(close, Terminal::Semicolon) {
-        out.expected_at(close);
-        return Ok(None);
-    }
+    expect!(text.is_at(close, Terminal::Semicolon), out);
     node_at_name(
         text,
         at,
@@ -186,10 +183,7 @@ fn parenthesized_initializer(
     ensures { ParsesLongest text.now (unless parameters (node ParenthesizedInitializer (mark open_paren
         · list (form assignment_expression) · word close_paren))) at None out.old out.new result }
 {
-    if !text.is_at(at, Terminal::OpenParen) {
-        out.expected_at(at);
-        return Ok(None);
-    }
+    expect!(text.is_at(at, Terminal::OpenParen), out);
     if text.lookahead_parameters(at) {
         return Ok(None);
     }
@@ -197,10 +191,7 @@ fn parenthesized_initializer(
     let Some(close) = expressions(text, at + 1, descend(depth_left)?, out)? else {
         return Ok(None);
     };
-    if !text.is_at(close, Terminal::CloseParen) {
-        out.expected_at(close);
-        return Ok(None);
-    }
+    expect!(text.is_at(close, Terminal::CloseParen), out);
     node(
         text,
         at,
@@ -240,16 +231,10 @@ pub fn braced_init_list(
     requires here { at ≤ length text.now.terminals }
     ensures { ParsesLongest text.now (form braced_init_list) at None out.old out.new result }
 {
-    if !text.is_at(at, Terminal::OpenBrace) {
-        out.expected_at(at);
-        return Ok(None);
-    }
+    expect!(text.is_at(at, Terminal::OpenBrace), out);
     let start = out.checkpoint();
     let close = initializer_list(text, at + 1, descend(depth_left)?, out)?;
-    if !text.is_at(close, Terminal::CloseBrace) {
-        out.expected_at(close);
-        return Ok(None);
-    }
+    expect!(text.is_at(close, Terminal::CloseBrace), out);
     node(
         text,
         at,

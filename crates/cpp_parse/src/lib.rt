@@ -3,6 +3,23 @@
 //! `parse_unit` is the call; the readers beneath it each answer the longest text of their rule of the grammar ([`cpp_syntax`]).
 #![tactic(auto)]
 
+/// Goes on where a token is what is asked for. Where it is not, notes that something else was expected there, and answers
+/// from the reader around it that there is no text.
+macro_rules! expect {
+    ($text:ident.$is:ident($at:expr $(, $terminal:path)?), $out:ident) => {
+        if !$text.$is($at $(, $terminal)?) {
+            $out.expected_at($at);
+            return Ok(None);
+        }
+    };
+    ($is:ident($text:ident, $at:expr), $out:ident) => {
+        if !$is($text, $at) {
+            $out.expected_at($at);
+            return Ok(None);
+        }
+    };
+}
+
 mod blocks;
 mod bodies;
 mod classes;

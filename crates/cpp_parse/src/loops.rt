@@ -84,17 +84,11 @@ fn until(
     requires here { at ≤ length text.now.terminals }
     ensures { ParsesLongest text.now until at None out.old out.new result }
 {
-    if !text.is_at(at, Terminal::While) {
-        out.expected_at(at);
-        return Ok(None);
-    }
+    expect!(text.is_at(at, Terminal::While), out);
     let Some(close) = condition(text, at + 1, depth_left, out)? else {
         return Ok(None);
     };
-    if !text.is_at(close, Terminal::Semicolon) {
-        out.expected_at(close);
-        return Ok(None);
-    }
+    expect!(text.is_at(close, Terminal::Semicolon), out);
     Ok(Some(close + 1))
 }
 
@@ -111,10 +105,7 @@ pub fn for_statement(
     requires few { length text.now.terminals ≤ MAX_TOKENS }
     ensures { ParsesLongest text.now for_statement at None out.old out.new result }
 {
-    if !text.is_at(at + 1, Terminal::OpenParen) {
-        out.expected_at(at + 1);
-        return Ok(None);
-    }
+    expect!(text.is_at(at + 1, Terminal::OpenParen), out);
     let start = out.checkpoint();
     let inner = descend(depth_left)?;
     let Some(first) = for_init_statement(text, at + 2, inner, out)? else {
@@ -171,10 +162,7 @@ fn expression_and_semicolon(
     let Some(close) = expression(text, at, depth_left, out)? else {
         return Ok(None);
     };
-    if !text.is_at(close, Terminal::Semicolon) {
-        out.expected_at(close);
-        return Ok(None);
-    }
+    expect!(text.is_at(close, Terminal::Semicolon), out);
     Ok(Some(close + 1))
 }
 
@@ -190,15 +178,9 @@ fn for_rest(
     ensures { ParsesLongest text.now for_rest at None out.old out.new result }
 {
     let middle = optional_expression(text, at, depth_left, out)?;
-    if !text.is_at(middle, Terminal::Semicolon) {
-        out.expected_at(middle);
-        return Ok(None);
-    }
+    expect!(text.is_at(middle, Terminal::Semicolon), out);
     let close = optional_expression(text, middle + 1, depth_left, out)?;
-    if !text.is_at(close, Terminal::CloseParen) {
-        out.expected_at(close);
-        return Ok(None);
-    }
+    expect!(text.is_at(close, Terminal::CloseParen), out);
     statement(text, close + 1, depth_left, out)
 }
 

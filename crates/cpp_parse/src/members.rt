@@ -70,15 +70,9 @@ fn access_label(text: &TypeNames, at: usize, out: &mut Builder) -> Result<Option
     requires here { at ≤ length text.now.terminals }
     ensures { ParsesLongest text.now access_label at None out.old out.new result }
 {
-    if !is_access_at(text, at) {
-        out.expected_at(at);
-        return Ok(None);
-    }
+    expect!(is_access_at(text, at), out);
     let colon = at + 1;
-    if !text.is_at(colon, Terminal::Colon) {
-        out.expected_at(colon);
-        return Ok(None);
-    }
+    expect!(text.is_at(colon, Terminal::Colon), out);
     let start = out.checkpoint();
     node(text, at, NodeKind::AccessLabel, Some(at as u32), start, out)?;
     Ok(Some(colon + 1))

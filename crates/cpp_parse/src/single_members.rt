@@ -97,10 +97,7 @@ pub fn single_declaration(
     let Some(end) = member_declarator(text, named, depth_left, out)? else {
         return Ok(None);
     };
-    if !text.is_at(end, Terminal::Semicolon) {
-        out.expected_at(end);
-        return Ok(None);
-    }
+    expect!(text.is_at(end, Terminal::Semicolon), out);
     node_from(text, at, NodeKind::MemberDeclaration, start, out)?;
     Ok(Some(end + 1))
 }
@@ -122,10 +119,7 @@ pub fn initialized_declaration(
     let Some(end) = initialized_member(text, named, depth_left, out)? else {
         return Ok(None);
     };
-    if !text.is_at(end, Terminal::Semicolon) {
-        out.expected_at(end);
-        return Ok(None);
-    }
+    expect!(text.is_at(end, Terminal::Semicolon), out);
     node_from(text, at, NodeKind::MemberDeclaration, start, out)?;
     Ok(Some(end + 1))
 }
@@ -150,10 +144,7 @@ pub fn listed_declaration(
     let Some(end) = more_members(text, behind, depth_left, out)? else {
         return Ok(None);
     };
-    if !text.is_at(end, Terminal::Semicolon) {
-        out.expected_at(end);
-        return Ok(None);
-    }
+    expect!(text.is_at(end, Terminal::Semicolon), out);
     node_from(text, at, NodeKind::MemberDeclaration, start, out)?;
     Ok(Some(end + 1))
 }
@@ -168,10 +159,7 @@ fn more_members(
     requires here { at ≤ length text.now.terminals }
     ensures { ParsesLongest text.now more_members at None out.old out.new result }
 {
-    if !text.is_at(at, Terminal::Comma) {
-        out.expected_at(at);
-        return Ok(None);
-    }
+    expect!(text.is_at(at, Terminal::Comma), out);
     let Some(first) = listed_member(text, at + 1, depth_left, out)? else {
         return Ok(None);
     };
@@ -265,10 +253,7 @@ fn value_but_zero(
     requires here { at ≤ length text.now.terminals }
     ensures { ParsesLongest text.now (node EqualInitializer value_but_zero) at None out.old out.new result }
 {
-    if !text.is_at(at, Terminal::Equal) {
-        out.expected_at(at);
-        return Ok(None);
-    }
+    expect!(text.is_at(at, Terminal::Equal), out);
     let start = out.checkpoint();
     let first = at + 1;
     let Some(next) = assignment_expression(text, first, depth_left, out)? else {
@@ -345,10 +330,7 @@ fn equal_initializer(
     requires here { at ≤ length text.now.terminals }
     ensures { ParsesLongest text.now (node EqualInitializer value) at None out.old out.new result }
 {
-    if !text.is_at(at, Terminal::Equal) {
-        out.expected_at(at);
-        return Ok(None);
-    }
+    expect!(text.is_at(at, Terminal::Equal), out);
     let start = out.checkpoint();
     let Some(next) = assignment_expression(text, at + 1, depth_left, out)? else {
         return Ok(None);

@@ -69,10 +69,7 @@ pub fn compound_statement(
     requires here { at ≤ length text.now.terminals }
     ensures { ParsesLongest text.now (form compound_statement) at None out.old out.new result }
 {
-    if !text.is_at(at, Terminal::OpenBrace) {
-        out.expected_at(at);
-        return Ok(None);
-    }
+    expect!(text.is_at(at, Terminal::OpenBrace), out);
     let start = out.checkpoint();
     let inner = descend(depth_left)?;
     let mut next = at + 1;
@@ -145,10 +142,7 @@ fn expression_statement(
     let Some(close) = expression(text, at, depth_left, out)? else {
         return Ok(None);
     };
-    if !text.is_at(close, Terminal::Semicolon) {
-        out.expected_at(close);
-        return Ok(None);
-    }
+    expect!(text.is_at(close, Terminal::Semicolon), out);
     node(
         text,
         at,
@@ -170,17 +164,11 @@ pub fn condition(
     requires here { at ≤ length text.now.terminals }
     ensures { ParsesLongest text.now condition at None out.old out.new result }
 {
-    if !text.is_at(at, Terminal::OpenParen) {
-        out.expected_at(at);
-        return Ok(None);
-    }
+    expect!(text.is_at(at, Terminal::OpenParen), out);
     let Some(close) = expression(text, at + 1, depth_left, out)? else {
         return Ok(None);
     };
-    if !text.is_at(close, Terminal::CloseParen) {
-        out.expected_at(close);
-        return Ok(None);
-    }
+    expect!(text.is_at(close, Terminal::CloseParen), out);
     Ok(Some(close + 1))
 }
 
@@ -318,10 +306,7 @@ fn labelled_statement(
     requires here { at ≤ length text.now.terminals }
     ensures { ParsesLongest text.now labelled at None out.old out.new result }
 {
-    if !text.is_at(at, Terminal::Colon) {
-        out.expected_at(at);
-        return Ok(None);
-    }
+    expect!(text.is_at(at, Terminal::Colon), out);
     statement(text, at + 1, depth_left, out)
 }
 
@@ -337,10 +322,7 @@ fn jump(
     requires kind { is_lambda kind ≡ false }
     ensures { (word : Terminal → Bool) → word (terminal_at text.now at) ≡ true → ParsesLongest text.now (jump kind word) at None out.old out.new result }
 {
-    if !text.is_at(at + 1, Terminal::Semicolon) {
-        out.expected_at(at + 1);
-        return Ok(None);
-    }
+    expect!(text.is_at(at + 1, Terminal::Semicolon), out);
     out.leaf(kind, text.position(at), Some(at as u32))?;
     Ok(Some(at + 2))
 }
@@ -359,10 +341,7 @@ fn return_statement(
 {
     let start = out.checkpoint();
     let close = returned_value(text, at + 1, depth_left, out)?;
-    if !text.is_at(close, Terminal::Semicolon) {
-        out.expected_at(close);
-        return Ok(None);
-    }
+    expect!(text.is_at(close, Terminal::Semicolon), out);
     node(
         text,
         at,

@@ -13,7 +13,6 @@ ghost use Rattle.cpp_syntax.specs.Grammar.{suffix};
 ghost use Rattle.cpp_syntax.specs.Parsed.{ParsesLongest, ParsesAlways, ParsesAlwaysBehind};
 ghost use Rattle.cpp_syntax.specs.declared.limits.TheConstants.{MAX_TOKENS};
 
-use crate::expect;
 use crate::expressions::conditional_expression;
 use crate::types::{cv_qualifiers, type_name, type_specifier_seq};
 use cpp_ast::NodeKind;

@@ -14,7 +14,6 @@ ghost use Rattle.cpp_parse_expr.specs.Suffixes.{ParsedSuffix, literal_kind};
 ghost use Rattle.cpp_syntax.specs.declared.limits.TheConstants.{MAX_TOKENS};
 
 use crate::declarators::type_id;
-use crate::expect;
 use crate::lambdas::lambda_expression;
 use crate::types::{tx_exception, type_name};
 use cpp_ast::NodeKind;

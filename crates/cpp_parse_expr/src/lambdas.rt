@@ -9,7 +9,6 @@ ghost use Rattle.cpp_syntax.specs.Grammar.{leaf, capture, first_capture, capture
 ghost use Rattle.cpp_syntax.specs.Parsed.{ParsesLongest, ParsesAlways};
 
 use crate::declarators::{optional_noexcept, optional_safety, parameter_clause, type_id};
-use crate::expect;
 use cpp_ast::NodeKind;
 use cpp_syntax::read::{leaf, node};
 use cpp_syntax::shapes::descend;

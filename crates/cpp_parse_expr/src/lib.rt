@@ -1,18 +1,8 @@
 //! Reads types, declarators and expressions.
 #![tactic(auto)]
 
-pub mod declarators;
-pub mod depth;
-pub mod expressions;
-mod lambdas;
-pub mod parse;
-pub mod types;
-
-pub use parse::{BodyRange, ExprForm, ExprOut, ParseFault, parse_expr};
-
 /// Goes on where a token is what is asked for. Where it is not, notes that something else was expected there, and answers
 /// from the reader around it that there is no text.
-#[macro_export]
 macro_rules! expect {
     ($text:ident.$is:ident($at:expr $(, $terminal:path)?), $out:ident) => {
         if !$text.$is($at $(, $terminal)?) {
@@ -21,3 +11,12 @@ macro_rules! expect {
         }
     };
 }
+
+pub mod declarators;
+pub mod depth;
+pub mod expressions;
+mod lambdas;
+pub mod parse;
+pub mod types;
+
+pub use parse::{BodyRange, ExprForm, ExprOut, ParseFault, parse_expr};

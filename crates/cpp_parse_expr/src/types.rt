@@ -10,7 +10,6 @@ ghost use Rattle.cpp_syntax.specs.Grammar.{leaf, cv_qualifiers, type_name, tx_ex
 ghost use Rattle.cpp_syntax.specs.Parsed.{ParsesLongest, ParsesAlways};
 
 use crate::declarators::type_id;
-use crate::expect;
 use cpp_ast::NodeKind;
 use cpp_syntax::read::{leaf, node};
 use cpp_syntax::shapes::descend;
