@@ -7,7 +7,7 @@ ghost use Rattle.cpp_parse.specs.Bodies.{AreInside, IsInside, ReadsBodies, Reads
 
 use crate::statements::compound_statement;
 use cpp_ast::{LamBody, NodeId, Nodes};
-use cpp_parse_expr::parse::{Found, Reading, reading};
+use cpp_parse_expr::parse::{Found, Reading, take_reading};
 use cpp_syntax::limits::MAX_NESTED_CALLS;
 use cpp_syntax::shapes::descend;
 use cpp_syntax::{Builder, OpenBody, TypeNames};
@@ -83,7 +83,7 @@ fn read_block(
     let start = (body.from - 1) as usize;
     let mut out = Builder::over(alloc, mem::replace(nodes, Nodes::new(alloc)));
     let read = compound_statement(types, start, MAX_NESTED_CALLS, &mut out);
-    let Reading { found, token } = reading(types, start, read, out, nodes)?;
+    let Reading { found, token } = take_reading(types, start, read, out, nodes)?;
     let Some(Found {
         roots,
         next,

@@ -15,7 +15,7 @@ use cpp_lex::{Token, Tokens};
 use cpp_nests::first_nested;
 use cpp_parse_expr::ParseFault;
 use cpp_parse_expr::depth::first_deep_kid;
-use cpp_parse_expr::parse::{Found, Reading, reading, token_at};
+use cpp_parse_expr::parse::{Found, Reading, take_reading, token_at};
 use cpp_syntax::limits::{MAX_DEPTH, MAX_NESTED_BODIES, MAX_NESTED_CALLS, MAX_NESTED_SEARCHES};
 use cpp_syntax::{Builder, OpenBody, Terminal, TypeNames};
 use std::alloc::{AllocError, Global};
@@ -185,7 +185,7 @@ fn read_declarations(
         Ok(next) => Ok(Some(next)),
         Err(error) => Err(error),
     };
-    let Reading { found, token } = reading(types, 0, read, out, nodes)?;
+    let Reading { found, token } = take_reading(types, 0, read, out, nodes)?;
     let Some(Found {
         roots,
         next,

@@ -199,11 +199,11 @@ fn read_text(
     let at = from as usize;
     let mut out = Builder::over(alloc, mem::replace(nodes, Nodes::new(alloc)));
     let read = read_form(form, types, at, &mut out);
-    reading(types, at, read, out, nodes)
+    take_reading(types, at, read, out, nodes)
 }
 
 /// What a reader read of tokens from an index on: its answer, and the builder in which it left the rest. The builder's nodes are handed back.
-pub fn reading(
+pub fn take_reading(
     types: &TypeNames,
     from: usize,
     read: Result<Option<usize>, AllocError>,

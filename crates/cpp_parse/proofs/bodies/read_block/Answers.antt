@@ -6,7 +6,7 @@ use Rattle.cpp_parse_expr.proofs.ParseAnswers.{ends_inside}
 use Rattle.cpp_parse.proofs.BodyReaders.{is_block, block_root, no_block, no_block_ends}
 use Rattle.cpp_parse.proofs.bodies.read_block.Goals as goal
 
-pub reading-requires : goal.reading-requires
-reading-requires c =
+pub take_reading-requires : goal.take_reading-requires
+take_reading-requires c =
     ends_inside c.args.types.now (form compound_statement) (c.args.body.from - 1) None c.over-out.result c.compound_statement-read.new.out
     c.compound_statement-read.result c.compound_statement-read.ensures

@@ -2,7 +2,7 @@ use Rattle.std.proofs.Common.{◌≡◌, ℕ, Option, Some, None, Result, Ok, �
 use Rattle.std.specs.declared.alloc.AllocError.{AllocError}
 use Rattle.cpp_syntax.specs.Parsed.{ParsesLongest, ReadsLongest, Leaves, NoneOf}
 use Rattle.cpp_parse_expr.proofs.ParseAnswers.{found, left}
-use Rattle.cpp_parse_expr.proofs.parse.reading.Goals as goal
+use Rattle.cpp_parse_expr.proofs.parse.take_reading.Goals as goal
 
 pub returns-in-Ok-Some : goal.returns-in-Ok-Some
 returns-in-Ok-Some c = λ rule before empty parsed.
