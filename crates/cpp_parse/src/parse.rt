@@ -1,8 +1,10 @@
 //! The one call of this crate.
 
-ghost use Rattle.std.specs.Prelude.{◌≡◌, ◌≤◌, ℕ, IfOk, Err, length, map};
+ghost use Rattle.std.specs.Prelude.{◌≡◌, ◌≤◌, ℕ, IfOk, None, Err, length, map};
 ghost use Rattle.cpp_lex.specs.Tokens.{lexeme_of, lexemes_of};
 ghost use Rattle.cpp_syntax.specs.Classes.{source_of};
+ghost use Rattle.cpp_syntax.specs.Rules.{form, translation_unit};
+ghost use Rattle.cpp_syntax.specs.Parsed.{ParsesLongest};
 ghost use Rattle.cpp_parse.specs.Units.{ParsesUnit};
 ghost use Rattle.cpp_parse.specs.Steps.{ReadsDeclarations, ReadsWhole, AnswersUnit, IsWholeRead};
 ghost use Rattle.cpp_syntax.specs.declared.limits.TheConstants.{MAX_TOKENS};
@@ -181,10 +183,7 @@ fn read_declarations(
     ensures { ReadsDeclarations types.now nodes.old nodes.new result }
 {
     let mut out = Builder::over(alloc, mem::replace(nodes, Nodes::new(alloc)));
-    let read = match translation_unit(types, 0, MAX_NESTED_CALLS, &mut out) {
-        Ok(next) => Ok(Some(next)),
-        Err(error) => Err(error),
-    };
+    let read = read_unit(types, &mut out);
     let Reading { found, token } = take_reading(types, 0, read, out, nodes)?;
     let Some(Found {
         roots,
@@ -201,6 +200,13 @@ fn read_declarations(
         decls: roots,
         bodies,
     })
+}
+
+/// Reads declarations, as many as there are, into a builder.
+fn read_unit(types: &TypeNames, out: &mut Builder) -> Result<Option<usize>, AllocError>
+    ensures { ParsesLongest types.now (form translation_unit) 0 None out.old out.new result }
+{
+    Ok(Some(translation_unit(types, 0, MAX_NESTED_CALLS, out)?))
 }
 
 /// Answers a unit that was read, if it does not nest too deep.
