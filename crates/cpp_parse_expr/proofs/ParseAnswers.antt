@@ -1,6 +1,7 @@
 -- From what readers answer to what the call does.
 use Rattle.std.proofs.Common.{◌≡◌, ℕ, ◌+◌, ◌<◌, ◌≤◌, Bool, true, false, if◌then◌else◌, List, [], ◌∷◌, length, map, take}
-use Rattle.std.proofs.Common.{get_or, Some, None, refl, sym, ◌∙◌, ap, subst, arith, append-nil, length-append, Vec, Global}
+use Rattle.std.specs.declared.alloc.AllocError.{AllocError}
+use Rattle.std.proofs.Common.{get_or, Option, Some, None, Result, Ok, Err, refl, sym, ◌∙◌, ap, subst, arith, append-nil, length-append, Vec, Global}
 use Rattle.std.proofs.lemmas.List.{length-map}
 use Rattle.std.proofs.lemmas.Option.{slice_get_within}
 use Rattle.cpp_ast.proofs.NodeTrees.{cut_back}
@@ -10,12 +11,12 @@ use Rattle.cpp_ast.specs.declared.arena.NodeId.{NodeId}
 use Rattle.cpp_ast.specs.Trees.{Tree, node, Trees, none, more, kind_of, kid_depth, Shows, ShowsAll, Extends}
 use Rattle.cpp_syntax.specs.declared.positions.OpenBody.{OpenBody}
 use Rattle.cpp_syntax.specs.Source.{Source, position_at}
-use Rattle.cpp_syntax.specs.Rules.{Nonterminal, form}
+use Rattle.cpp_syntax.specs.Rules.{Nonterminal, Rule, form}
 use Rattle.cpp_syntax.specs.Derivations.{Read, no_read, one_tree, and_then, kept_apart}
 use Rattle.cpp_syntax.specs.View.{BuilderState, builder_state, appended, BuiltTrees, trees_at, body_of, count_trees, count_lambdas, count_lambdas_in, is_lambda}
 use Rattle.cpp_syntax.specs.Lookahead.{lookahead}
 use Rattle.cpp_syntax.specs.Longest.{LongestMatch}
-use Rattle.cpp_syntax.specs.Parsed.{ReadsLongest, Leaves}
+use Rattle.cpp_syntax.specs.Parsed.{ParsesLongest, ReadsLongest, Leaves}
 use Rattle.cpp_syntax.proofs.BuilderMarks.{trees_count}
 use Rattle.cpp_syntax.proofs.NodeKids.{front_of}
 use Rattle.cpp_syntax.proofs.TreeLists.{as_many}
@@ -23,7 +24,7 @@ use Rattle.cpp_parse_expr.specs.declared.parse.ExprForm.{ExprForm}
 use Rattle.cpp_parse_expr.specs.declared.parse.ExprForm.TheVariants as asked
 use Rattle.cpp_parse_expr.specs.declared.parse.BodyRange.{BodyRange}
 use Rattle.cpp_parse_expr.specs.Depths.{deep_node, lambda_depths, lambda_depths_in, Searches, IsNotedIn}
-use Rattle.cpp_parse_expr.specs.Parse.{form_of, tree_read, IsRead, IsTooDeep, IsParsed, open_bodies}
+use Rattle.cpp_parse_expr.specs.Parse.{form_of, tree_read, EndsInside, IsFound, IsRead, IsTooDeep, IsParsed, open_bodies}
 use Rattle.cpp_parse_expr.proofs.SingleTrees.{is_single, one_tree_of}
 use Rattle.cpp_parse_expr.proofs.NodePositions.{text_positioned, deep_position}
 use Rattle.cpp_parse_expr.proofs.FirstTooDeep.{none_low, some_high}
@@ -54,52 +55,68 @@ leaves_base built new old b l = base_kept built new l.extra old b l.gained
 pub grown_from : (built new : BuilderState) (old grown : List Node) → new.base ≡ old → Extends new.base grown → Extends old grown
 grown_from built new old grown e x = subst (λ (ns : List Node). Extends ns grown) e x
 
-module _ (source : Source) (f : Nonterminal) (from next : ℕ) (built new : BuilderState) (grown : List Node) (roots : List NodeId)
-    (open_ : List OpenBody) (single : is_single f ≡ true) (empty : built.read ≡ no_read)
-    (reads : ReadsLongest source (form f) from next None built new) (parts : new ≡ builder_state (length new.base) grown roots open_) where
-  got_trees : trees_at grown roots ≡ reads.got.trees
-  got_trees = sym (ap (λ (z : BuilderState). z.read.trees) parts) ∙ ap (λ (z : Read). z.trees) (read_is built new reads.got empty reads.gained)
+pub ends_inside : (source : Source) (p : Rule) (a : ℕ) (k : Option ℕ) (u v : BuilderState) (r : Result (Option ℕ) AllocError)
+    → ParsesLongest source p a k u v r → EndsInside source r
+ends_inside source p a k u v (Ok (Some next)) h = h.inside
+ends_inside source p a k u v (Ok None) h = tt
+ends_inside source p a k u v (Err e) h = tt
 
-  got_bodies : map (body_of grown) open_ ≡ reads.got.bodies
-  got_bodies = sym (ap (λ (z : BuilderState). z.read.bodies) parts) ∙ ap (λ (z : Read). z.bodies) (read_is built new reads.got empty reads.gained)
+module _ (source : Source) (p : Rule) (from : ℕ) (before after : BuilderState) (grown : List Node) (roots : List NodeId) (open_ : List OpenBody)
+    (empty : before.read ≡ no_read) (built : after ≡ builder_state (length after.base) grown roots open_) (x : Extends after.base grown)
+    (shown : BuiltTrees (length after.base) grown roots open_) where
+  pub found : (next : ℕ) → ReadsLongest source p from next None before after → IsFound source p from next before.base grown roots open_
+  found next reads =
+      let kept : after.base ≡ before.base = base_kept before after reads.got before.base refl reads.gained in
+      let read : after.read ≡ reads.got = read_is before after reads.got empty reads.gained in
+      record {
+        got = reads.got;
+        long = reads.long;
+        inside = reads.inside;
+        grown = grown_from before after before.base grown kept x;
+        shown = subst (λ (ns : List Node). BuiltTrees (length ns) grown roots open_) kept shown;
+        trees = sym (ap (λ (z : BuilderState). z.read.trees) built) ∙ ap (λ (z : Read). z.trees) read;
+        bodies = sym (ap (λ (z : BuilderState). z.read.bodies) built) ∙ ap (λ (z : Read). z.bodies) read;
+      }
 
-  -- one root
-  pub roots_one : length roots ≡ 1
-  roots_one =
-      let one = one_tree_of reads.long.derives single in
-      let trees : trees_at grown roots ≡ one_tree one.0 = got_trees ∙ one.1 in
-      sym (trees_count grown roots) ∙ ap (λ (ts : Trees). count_trees ts) trees ∙ (let c : count_trees (one_tree one.0) ≡ 1 = refl in c)
+  pub left : Leaves before after → Extends before.base grown
+  left l = grown_from before after before.base grown (leaves_base before after before.base refl l) x
 
-  one_root : (ids : List NodeId) (root : NodeId) → length ids ≡ 1 → root ≡ get_or ids 0 root → ids ≡ root ∷ []
-  one_root [] root e f = absurd (omega (arith, e))
-  one_root (id ∷ []) root e f = ap (λ (z : NodeId). z ∷ []) (sym f)
-  one_root (id ∷ other ∷ ids) root e f = absurd (omega (arith, e))
+-- One tree.
 
-  pub is_read : (old : List Node) (root : NodeId) → built.base ≡ old → root ≡ get_or roots 0 root → Extends new.base grown
-      → BuiltTrees (length new.base) grown roots open_ → IsRead source f from old grown root next open_
-  is_read old root base at x shown =
-      let one = one_tree_of reads.long.derives single in
-      let trees : trees_at grown roots ≡ one_tree one.0 = got_trees ∙ one.1 in
-      let kept : new.base ≡ old = base_kept built new reads.got old base reads.gained in
-      let only : roots ≡ root ∷ [] = one_root roots root roots_one at in
-      let whole : reads.got ≡ tree_read one.0 reads.got.bodies = ap (λ (ts : Trees). let z : Read = record { trees = ts; bodies = reads.got.bodies }
-      in z) one.1 in
-      let here = front_of grown roots [] root (one_tree one.0) only (subst (λ (ts : Trees). ShowsAll grown roots ts) trees shown.shows) in
+pub one_root : (ids : List NodeId) (root : NodeId) → length ids ≡ 1 → root ≡ get_or ids 0 root → ids ≡ root ∷ []
+one_root [] root e f = absurd (omega (arith, e))
+one_root (id ∷ []) root e f = ap (λ (z : NodeId). z ∷ []) (sym f)
+one_root (id ∷ other ∷ ids) root e f = absurd (omega (arith, e))
+
+pub roots_one : (nodes : List Node) (roots : List NodeId) (tree : Tree) → trees_at nodes roots ≡ one_tree tree → length roots ≡ 1
+roots_one nodes roots tree e =
+    sym (trees_count nodes roots) ∙ ap (λ (ts : Trees). count_trees ts) e ∙ (let c : count_trees (one_tree tree) ≡ 1 = refl in c)
+
+module _ (source : Source) (f : Nonterminal) (from next : ℕ) (old grown : List Node) (roots : List NodeId) (open_ : List OpenBody)
+    (single : is_single f ≡ true) (r : IsFound source (form f) from next old grown roots open_) where
+  pub form_root : length roots ≡ 1
+  form_root = let one = one_tree_of r.long.derives single in roots_one grown roots one.0 (r.trees ∙ one.1)
+
+  pub is_read : (root : NodeId) → root ≡ get_or roots 0 root → IsRead source f from old grown root next open_
+  is_read root at =
+      let one = one_tree_of r.long.derives single in
+      let trees : trees_at grown roots ≡ one_tree one.0 = r.trees ∙ one.1 in
+      let only : roots ≡ root ∷ [] = one_root roots root form_root at in
+      let whole : r.got ≡ tree_read one.0 r.got.bodies = ap (λ (ts : Trees). let z : Read = record { trees = ts; bodies = r.got.bodies } in z) one.1 in
+      let here = front_of grown roots [] root (one_tree one.0) only (subst (λ (ts : Trees). ShowsAll grown roots ts) trees r.shown.shows) in
       let first : one.0 ≡ here.first = let e : more one.0 none ≡ more here.first here.others = here.are in cc in
       record {
         tree = one.0;
-        bodies = reads.got.bodies;
-        text = subst (λ (r : Read). LongestMatch (lookahead source) kept_apart source (form f) no_read from next None r) whole reads.long;
-        inside = reads.inside;
+        bodies = r.got.bodies;
+        text = subst (λ (z : Read). LongestMatch (lookahead source) kept_apart source (form f) no_read from next None z) whole r.long;
+        inside = r.inside;
         shows = subst (λ (t : Tree). Shows grown root.0 t) (sym first) here.shows;
-        grown = grown_from built new old grown kept x;
-        shown =
-            subst (λ (ns : List Node). BuiltTrees (length ns) grown (root ∷ []) open_) kept
-            (subst (λ (is : List NodeId). BuiltTrees (length new.base) grown is open_) only shown);
-        ranges = got_bodies;
+        grown = r.grown;
+        shown = subst (λ (is : List NodeId). BuiltTrees (length old) grown is open_) only r.shown;
+        ranges = r.bodies;
         many =
             sym (length-map open_ (λ (b : OpenBody). b.lam.0))
-            ∙ ap (λ (ns : List ℕ). length ns) shown.lambdas
+            ∙ ap (λ (ns : List ℕ). length ns) r.shown.lambdas
             ∙ as_many grown roots
             ∙ ap count_lambdas_in trees
             ∙ (let one_more : count_lambdas_in (one_tree one.0) ≡ count_lambdas one.0 = omega arith in one_more);
