@@ -9,19 +9,19 @@ use Rattle.cpp_syntax.specs.Source.{Source, terminal_at}
 use Rattle.cpp_syntax.specs.Terminals.{inline_word, semicolon}
 use Rattle.cpp_syntax.specs.FirstSets.{first_of_types}
 use Rattle.cpp_syntax.specs.Rules.{at_name, Rule, ◌·◌, form, word, member_declarator}
-use Rattle.cpp_syntax.specs.Derivations.{Read, reads_node, positioned}
+use Rattle.cpp_syntax.specs.Derivations.{Read, reads_node, positioned, token_of_name, declared_in}
 use Rattle.cpp_syntax.specs.View.{BuilderState, appended, IsMark}
 use Rattle.cpp_syntax.specs.Parsed.{Leaves, ReadsLongest, NoneOf}
 use Rattle.cpp_syntax.proofs.TerminalTables.{at_each, implies, implied}
 use Rattle.cpp_syntax.proofs.LongestMatches.{mark_none, node_none}
 use Rattle.cpp_syntax.proofs.Readers.{leaves_both, leaves_read, reads_seq, reads_left_out, none_behind, none_seq}
 use Rattle.cpp_syntax.proofs.ReaderLoops.{reads_mark_next}
-use Rattle.cpp_parse_expr.proofs.ReaderAnswers.{none_unlike, made_at_name, reads_until}
+use Rattle.cpp_parse_expr.proofs.ReaderAnswers.{none_unlike, made_at_name}
 use Rattle.cpp_parse_expr.proofs.PostfixReaders.{Instead}
 use Rattle.cpp_parse.specs.declared.single_members.MemberHead.{MemberHead}
 use Rattle.cpp_parse.specs.MemberHeads.{IsTyped, IsHead, rest_single, rest_initialized, rest_listed, rest_function}
 use Rattle.cpp_parse.specs.Alternatives.{single_declaration, initialized_declaration, listed_declaration, member_function_alone, member_function}
-use Rattle.cpp_parse.specs.Alternatives.{single, initialized, listed}
+use Rattle.cpp_parse.specs.Alternatives.{single, initialized, listed, types, named_declarator, optional_attribute, optional_virtual}
 use Rattle.cpp_parse.proofs.LongestAlone.{reached, none_marked, none_skipped}
 use Rattle.cpp_parse.proofs.MemberShapes.{no_single, no_initialized, no_listed, no_function_body}
 
@@ -36,10 +36,16 @@ types_not_inline : (z : Terminal) → first_of_types z ≡ true → inline_word 
 types_not_inline z t =
     not-true (inline_word z) (implied (first_of_types z) (not (inline_word z)) (at_each (λ y. implies (first_of_types y) (not (inline_word y))) refl z) t)
 
-pub bare_head : {source : Source} {head : MemberHead} {before now : BuilderState} → head.at ≤ length source.terminals
+pub typed_head : (head : MemberHead) {source : Source} {from : ℕ} {before between now : BuilderState}
+    → ReadsLongest source types from head.named None before between → IsMark head.first between
+    → (y : ReadsLongest source named_declarator head.named head.behind None between now)
+    → head.name ≡ token_of_name (declared_in (y.got).trees) → IsTyped source head from before now
+typed_head head {between = between} x m y e = record { between = between; typed = x; mark = m; declared = y; name = e }
+
+pub bare_head : (head : MemberHead) {source : Source} {before now : BuilderState} → head.at ≤ length source.terminals
     → first_of_types (terminal_at source head.at) ≡ true → IsMark head.start before → IsTyped source head head.at before now
     → IsHead source head before now
-bare_head {source = source} {head = head} {before = before} i t m x = record {
+bare_head head {source = source} {before = before} i t m x = record {
   after = head.at;
   from = head.at;
   first = before;
@@ -51,10 +57,20 @@ bare_head {source = source} {head = head} {before = before} i t m x = record {
   rest = x;
 }
 
--- a builder that is as it was
-pub typed_until : {source : Source} {head : MemberHead} {from : ℕ} {before now new : BuilderState} → new ≡ now → IsTyped source head from before now
-    → IsTyped source head from before new
-typed_until e x = record { between = x.between; typed = x.typed; mark = x.mark; declared = reads_until e x.declared; name = x.name }
+pub full_head : (head : MemberHead) {source : Source} {after from : ℕ} {before first second now : BuilderState} → IsMark head.start before
+    → ReadsLongest source optional_attribute head.at after None before first → ReadsLongest source optional_virtual after from None first second
+    → inline_word (terminal_at source from) ≡ false → IsTyped source head from second now → IsHead source head before now
+full_head head {after = after} {from = from} {first = first} {second = second} m x y f z = record {
+  after = after;
+  from = from;
+  first = first;
+  second = second;
+  begins = m;
+  attribute = x;
+  change = y;
+  plain = f;
+  rest = z;
+}
 
 -- Of a type and a declarator.
 module _ {source : Source} {head : MemberHead} {from : ℕ} {before now : BuilderState} (x : IsTyped source head from before now) where

@@ -130,6 +130,9 @@ abbrev pub Takes : Source → Rule → ℕ → List Node → List Node → Resul
 Takes source p from old new (Ok reading) = Finds source p from old new reading.found × (reading.token ≤ length source.terminals)
 Takes source p from old new (Err e) = Extends old new
 
+abbrev pub TakesForm : Source → Nonterminal → ℕ → List Node → List Node → Result Reading AllocError → Type 0
+TakesForm source f from old new result = Takes source (form f) from old new result
+
 abbrev pub Measures : Source → Nonterminal → ℕ → ℕ → ℕ → List Node → List Node → Result Outcome AllocError → Type 0
 Measures source f from depth limit old new (Ok (outcome.Parsed out)) = IsParsed source f from depth limit old new out
 Measures source f from depth limit old new (Ok (outcome.Refused token)) = IsRefused source f from token × Extends old new

@@ -2,11 +2,11 @@
 
 ghost use Rattle.std.specs.Prelude.{◌≡◌, ◌≤◌, ℕ, IfOk, None, length, map};
 ghost use Rattle.cpp_syntax.specs.Source.{position_at};
-ghost use Rattle.cpp_syntax.specs.Rules.{Rule, form};
+ghost use Rattle.cpp_syntax.specs.Rules.{Rule};
 ghost use Rattle.cpp_syntax.specs.Derivations.{no_read};
 ghost use Rattle.cpp_syntax.specs.View.{BuilderState};
 ghost use Rattle.cpp_syntax.specs.Parsed.{ParsesForm, ParsesLongest};
-ghost use Rattle.cpp_parse_expr.specs.Parse.{form_of, open_bodies, EndsInside, Parses, Takes, Measures};
+ghost use Rattle.cpp_parse_expr.specs.Parse.{form_of, open_bodies, EndsInside, Parses, Takes, TakesForm, Measures};
 
 use crate::declarators::{
     declarator, function_qualifiers, parameter_clause, parameter_declaration, type_id,
@@ -194,7 +194,7 @@ fn read_text(
     nodes: &mut Nodes,
 ) -> Result<Reading, AllocError>
     requires { from ≤ length types.now.terminals }
-    ensures { Takes types.now (form (form_of form)) from nodes.old nodes.new result }
+    ensures { TakesForm types.now (form_of form) from nodes.old nodes.new result }
 {
     let at = from as usize;
     let mut out = Builder::over(alloc, mem::replace(nodes, Nodes::new(alloc)));

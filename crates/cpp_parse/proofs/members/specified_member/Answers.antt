@@ -5,8 +5,9 @@ use Rattle.cpp_syntax.proofs.SingleTerminals.{passed, refused}
 use Rattle.cpp_syntax.proofs.LongestMatches.{mark_none, node_none, form_none, neither}
 use Rattle.cpp_syntax.proofs.Readers.{leaves_both, leaves_read, leaves_same, none_behind, none_seq}
 use Rattle.cpp_parse_expr.proofs.ReaderAnswers.{parsed_err, none_unlike, parsed_left, parsed_right, reads_until}
-use Rattle.cpp_parse.specs.MemberHeads.{IsTyped, IsHead}
+use Rattle.cpp_parse.specs.declared.single_members.MemberHead.{MemberHead}
 use Rattle.cpp_parse.proofs.LongestAlone.{none_marked, none_skipped, parsed_from}
+use Rattle.cpp_parse.proofs.MemberHeads.{typed_head, full_head}
 use Rattle.cpp_parse.proofs.members.specified_member.Goals as goal
 
 pub returns-in_err-after : goal.returns-in_err-after
@@ -69,21 +70,15 @@ pub returns : goal.returns
 returns c =
     let read_named = rw c.in-Some.is at c.in_ok-named.ensures in
     let read_behind = rw c.in-Some-2.is at c.in_ok-behind.ensures in
-    let rest : IsTyped c.args.text.now _ c.in_ok-typed.typed _ _ = record {
-      between = _;
-      typed = read_named;
-      mark = c.checkpoint-first.ensures;
-      declared = reads_until c.in_ok-note_values.ensures.same read_behind;
-      name = c.declared_token-name.ensures _ _ c.checkpoint-first.ensures (read_behind).gained;
+    let head : MemberHead = record {
+      at = c.args.at;
+      start = c.checkpoint-start.result;
+      named = c.in-Some.named;
+      first = c.checkpoint-first.result;
+      name = c.declared_token-name.result;
+      behind = c.in-Some-2.behind;
     } in
-    c.function_or_single.ensures _ (record {
-      after = _;
-      from = _;
-      first = _;
-      second = _;
-      begins = c.checkpoint-start.ensures;
-      attribute = c.in_ok-after.ensures;
-      change = c.in_ok-typed.ensures;
-      plain = refused inline_word terminal.Inline refl _ (c.if-is_at.ensures.no refl);
-      rest = rest;
-    })
+    c.function_or_single.ensures _ (full_head head c.checkpoint-start.ensures c.in_ok-after.ensures c.in_ok-typed.ensures
+    (refused inline_word terminal.Inline refl _ (c.if-is_at.ensures.no refl)) (typed_head head read_named c.checkpoint-first.ensures
+    (reads_until c.in_ok-note_values.ensures.same read_behind)
+    (c.declared_token-name.ensures _ _ c.checkpoint-first.ensures (read_behind).gained)))

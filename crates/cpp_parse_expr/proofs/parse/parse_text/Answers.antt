@@ -6,16 +6,24 @@ use Rattle.cpp_parse_expr.proofs.ParseAnswers.{single_of, form_root, is_read, ro
 use Rattle.cpp_parse_expr.proofs.parse.parse_text.Goals as goal
 
 pub index-requires : goal.index-requires
-index-requires c = ?
+index-requires c =
+    let r = rw c.in-Some.is at c.in_ok-found.ensures.0 in
+    let one = form_root _ _ _ _ _ _ _ _ (single_of c.args.form) r in
+    let long = c.in-Some.roots.ok.0 in
+    omega (arith, one, long)
 
 pub first_deep-requires-clause-inside : goal.first_deep-requires-clause-inside
-first_deep-requires-clause-inside c = ?
+first_deep-requires-clause-inside c =
+    let r = rw c.in-Some.is at c.in_ok-found.ensures.0 in
+    root_inside _ _ _ _ _ _ _ _ (is_read _ _ _ _ _ _ _ _ (single_of c.args.form) r c.index-root.result.now c.index-root.ensures)
 
 pub first_deep-requires-clause-there : goal.first_deep-requires-clause-there
 first_deep-requires-clause-there c = λ k body e. absurd (none-some (Some body) e)
 
 pub returns-in_default : goal.returns-in_default
-returns-in_default c = ?
+returns-in_default c =
+    let n = rw c.in_default.is at c.in_ok-found.ensures.0 in
+    (record { nothing = n.0; inside = c.in_ok-found.ensures.1 }, n.1)
 
 pub returns-in-Some : goal.returns-in-Some
 returns-in-Some c = ?
