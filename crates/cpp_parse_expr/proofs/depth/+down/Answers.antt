@@ -73,13 +73,13 @@ first_deep-returns t c = λ bodies tree noted s.
 
 pub first_deep_in_body-returns-then-lambda-many : goal.first_deep_in_body-returns-then-lambda-many
 first_deep_in_body-returns-then-lambda-many t c = λ bodies trees noted s.
-    let past : length c.args.noted.now ≤ c.args.id.0 = (let h = c.if-lambda-many.true in let e = c.len-many.ensures in omega (arith, h, e)) in
+    let past : length c.args.noted.now ≤ c.args.id.0 = (let h = c.if-lambda-many.true in omega (arith, h)) in
     nothing_there bodies c.args.nodes.now (at_most_one (slice_get c.args.noted.now c.args.id.0)) c.args.limit c.args.depth trees
     c.args.lambdas.now.items (none_noted_past c.args.noted.now c.args.id.0 past) s
 
 pub first_deep_in_body-returns-in-None : goal.first_deep_in_body-returns-in-None
 first_deep_in_body-returns-in-None t c = λ bodies trees noted s.
-    let inside : c.args.id.0 < length c.args.noted.now = (let h = c.if-lambda-many.false in let e = c.len-many.ensures in omega (arith, h, e)) in
+    let inside : c.args.id.0 < length c.args.noted.now = (let h = c.if-lambda-many.false in omega (arith, h)) in
     let none : slice_get c.args.noted.now c.args.id.0 ≡ Some None = slice_get-get_or c.args.noted.now c.args.id.0 None inside ∙ ap
     (λ (o : Option NodeId). Some o) c.in-None.is in
     nothing_there bodies c.args.nodes.now (at_most_one (slice_get c.args.noted.now c.args.id.0)) c.args.limit c.args.depth trees
