@@ -1,5 +1,5 @@
 -- Whether a node of a tree lies too deep.
-use Rattle.std.proofs.Common.{◌≡◌, ℕ, ◌<◌, ◌≤◌, Bool, true, false, if◌then◌else◌, Option, Some, None, refl, sym, ◌∙◌, ap, arith, inl, inr}
+use Rattle.std.proofs.Common.{◌≡◌, ℕ, ◌<◌, ◌≤◌, Bool, true, false, if◌then◌else◌, Option, Some, None, refl, sym, ◌∙◌, ap, arith, ◌⊎◌, inl, inr}
 use Rattle.std.proofs.lemmas.Bool.{cases_lt, lt-ltb, le-ltb}
 use Rattle.std.proofs.lemmas.Option.{none-some}
 use Rattle.cpp_ast.specs.declared.arena.At.{At}
@@ -40,6 +40,10 @@ mutual
       let rest = none_low_kids limit depth ts here both.1 in
       omega (arith, first, rest)
 
+found_in : (a b : Option At) (position : At) → or_else a b ≡ Some position → (a ≡ Some position) ⊎ (b ≡ Some position)
+found_in None b position e = inr e
+found_in (Some at) b position e = inl e
+
 -- where one does, it is
 mutual
   pub some_high : (limit depth : ℕ) (tree : Tree) (position : At) → deep_node limit depth tree ≡ Some position → limit < deepest depth tree
@@ -52,9 +56,7 @@ mutual
   some_high_kid : (limit depth : ℕ) (trees : Trees) (position : At) → deep_kid limit depth trees ≡ Some position → limit < deepest_kid depth trees
   some_high_kid limit depth none position e = absurd (none-some position e)
   some_high_kid limit depth (more t ts) position e =
-      high_in limit depth t ts position (deep_node limit (kid_depth depth (kind_of t)) t) refl e
-
-  high_in : (limit depth : ℕ) (t : Tree) (ts : Trees) (position : At) (first : Option At) → deep_node limit (kid_depth depth (kind_of t)) t ≡ first
-      → or_else first (deep_kid limit depth ts) ≡ Some position → limit < deepest_kid depth (more t ts)
-  high_in limit depth t ts position None is e = let high = some_high_kid limit depth ts position e in omega (arith, high)
-  high_in limit depth t ts position (Some at) is e = let high = some_high limit (kid_depth depth (kind_of t)) t at is in omega (arith, high)
+      elim (found_in (deep_node limit (kid_depth depth (kind_of t)) t) (deep_kid limit depth ts) position e) [
+        | inl h ↦ (let high = some_high limit (kid_depth depth (kind_of t)) t position h in omega (arith, high))
+        | inr h ↦ (let high = some_high_kid limit depth ts position h in omega (arith, high))
+      ]

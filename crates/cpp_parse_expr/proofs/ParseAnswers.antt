@@ -17,9 +17,8 @@ use Rattle.cpp_syntax.specs.View.{BuilderState, builder_state, appended, BuiltTr
 use Rattle.cpp_syntax.specs.Lookahead.{lookahead}
 use Rattle.cpp_syntax.specs.Longest.{LongestMatch}
 use Rattle.cpp_syntax.specs.Parsed.{ParsesLongest, ReadsLongest, Leaves}
-use Rattle.cpp_syntax.proofs.BuilderMarks.{trees_count}
+use Rattle.cpp_syntax.proofs.BuilderMarks.{trees_count, bodies_count}
 use Rattle.cpp_syntax.proofs.NodeKids.{front_of}
-use Rattle.cpp_syntax.proofs.TreeLists.{as_many}
 use Rattle.cpp_parse_expr.specs.declared.parse.ExprForm.{ExprForm}
 use Rattle.cpp_parse_expr.specs.declared.parse.ExprForm.TheVariants as asked
 use Rattle.cpp_parse_expr.specs.declared.parse.BodyRange.{BodyRange}
@@ -115,9 +114,8 @@ module _ (source : Source) (f : Nonterminal) (from next : ℕ) (old grown : List
         shown = subst (λ (is : List NodeId). BuiltTrees (length old) grown is open_) only r.shown;
         ranges = r.bodies;
         many =
-            sym (length-map open_ (λ (b : OpenBody). b.lam.0))
-            ∙ ap (λ (ns : List ℕ). length ns) r.shown.lambdas
-            ∙ as_many grown roots
+            sym (length-map open_ (body_of grown))
+            ∙ bodies_count grown roots open_ r.shown.lambdas
             ∙ ap count_lambdas_in trees
             ∙ (let one_more : count_lambdas_in (one_tree one.0) ≡ count_lambdas one.0 = omega arith in one_more);
       }
@@ -127,6 +125,10 @@ cut_old old new n x e = ap (λ (k : ℕ). take k new) e ∙ cut_back old new x
 
 shown_inside : (nodes : List Node) (id : ℕ) (tree : Tree) → Shows nodes id tree → id < length nodes
 shown_inside nodes id (node kind at token kids) s = slice_get_within nodes id (s.0).found (s.0).stands
+
+own_many : (own : Bool) (depth : ℕ) → length (own_depth own depth) ≡ (if own then 1 else 0)
+own_many true depth = refl
+own_many false depth = refl
 
 -- as many depths as there are lambdas
 mutual
@@ -144,10 +146,6 @@ mutual
       let first = depths_many (kid_depth depth (kind_of t)) t in
       let rest = depths_many_in depth ts in
       omega (arith, both, first, rest)
-
-  own_many : (own : Bool) (depth : ℕ) → length (own_depth own depth) ≡ (if own then 1 else 0)
-  own_many true depth = refl
-  own_many false depth = refl
 
 -- where no bodies are noted
 pub none_noted : IsNotedIn [] []

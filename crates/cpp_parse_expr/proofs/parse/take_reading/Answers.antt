@@ -25,5 +25,5 @@ returns-in-Ok-None c = λ rule before empty parsed.
       (reads.1, left c.args.types.now rule c.args.from before c.args.out c.into_parts-grown.result.nodes c.into_parts-grown.result.roots.items
           c.into_parts-grown.result.bodies.items empty c.into_parts-grown.ensures.built c.into_parts-grown.ensures.grown
           c.into_parts-grown.ensures.shown reads.0),
-      (let least = c.min-token.ensures in let long = c.len-len.ensures.len in omega (arith, least, long)),
+      (let least = c.min-token-in-Ok-None.ensures in let long = c.len-len.ensures.len in omega (arith, least, long)),
     )
