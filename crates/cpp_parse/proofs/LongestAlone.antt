@@ -17,10 +17,7 @@ use Rattle.cpp_syntax.proofs.LongestMatches.{carry, seq_ends, left_out, many_beg
 use Rattle.cpp_syntax.proofs.Readers.{reads_node_at}
 use Rattle.cpp_syntax.proofs.ReaderLoops.{ReadsMany}
 use Rattle.cpp_parse_expr.proofs.ReaderAnswers.{many_done}
-use Rattle.cpp_parse.specs.Answers.{Reaches, OneShape, ShapeFound}
-use Rattle.cpp_parse.specs.Alternatives.{with_function_body}
-use Rattle.cpp_parse.specs.declared.members.MemberShape.TheVariants as shape
-use Rattle.cpp_parse.specs.declared.members.MemberShape.{MemberShape}
+use Rattle.cpp_parse.specs.Answers.{Reaches}
 
 pub reached : {s : Source} {p : Rule} {a b : ℕ} {k : Option ℕ} {v w : BuilderState} → ReadsLongest s p a b k v w → Reaches s p a b
 reached {k = k} x = record { marked = k; got = x.got; long = x.long; inside = x.inside }
@@ -73,29 +70,5 @@ none_left n b k t u = n b k t (is_left u)
 pub none_right : {s : Source} {p q : Rule} {a : ℕ} → NoneOf s (p ∣ q) a → NoneOf s q a
 none_right n b k t u = n b k t (is_right u)
 
--- want of memory where the shape of a member was asked
-pub shape_err : (s : Source) (a : ℕ) {v w : BuilderState} (r : Result MemberShape AllocError) → IsErr r → Leaves v w → ShapeFound s a v w r
-shape_err s a (Ok x) e l = absurd (true≢false (back e))
-shape_err s a (Err x) e l = l
-
 pub leaves_gained : {v w : BuilderState} (r : Read) → w ≡ appended v r → Leaves v w
 leaves_gained r e = record { extra = r; gained = e }
-
-function_not_single : shape.Function ≡ shape.Single → ⊥
-function_not_single e = cc
-
-function_not_initialized : shape.Function ≡ shape.Initialized → ⊥
-function_not_initialized e = cc
-
-function_not_listed : shape.Function ≡ shape.Listed → ⊥
-function_not_listed e = cc
-
--- a member that is no function with its body
-pub no_body_by : (s : Source) (a : ℕ) (m : MemberShape) → ((m ≡ shape.Single) ⊎ ((m ≡ shape.Initialized) ⊎ (m ≡ shape.Listed))) → OneShape s a m
-    → NoneOf s with_function_body a
-no_body_by s a shape.Single e h = h.2
-no_body_by s a shape.Initialized e h = h.2
-no_body_by s a shape.Listed e h = h.2
-no_body_by s a shape.Function (inl e) h = absurd (function_not_single e)
-no_body_by s a shape.Function (inr (inl e)) h = absurd (function_not_initialized e)
-no_body_by s a shape.Function (inr (inr e)) h = absurd (function_not_listed e)
