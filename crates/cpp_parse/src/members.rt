@@ -11,7 +11,7 @@ ghost use Rattle.cpp_parse.specs.Answers.{IsConstructor, IsDestructor, Parameter
 
 use crate::constructors::{constructor_body, plain_constructor, plain_destructor};
 use crate::single_members::{
-    MemberHead, begins_values, data_members, function_or_single, member_function, note_values,
+    MemberHead, begins_values, data_members, function_or_single, inline_function, note_values,
     semicolon_end,
 };
 use crate::specifiers::{
@@ -210,8 +210,7 @@ fn specified_member(
     let after = optional_attribute(text, at, out)?;
     let typed = optional_virtual(text, after, out)?;
     if text.is_at(typed, Terminal::Inline) {
-        out.cut(start);
-        return member_function(text, at, depth_left, out);
+        return inline_function(text, at, start, typed, depth_left, out);
     }
     let Some(named) = type_specifier_seq(text, typed, depth_left, out)? else {
         return Ok(None);

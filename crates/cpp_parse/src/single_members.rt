@@ -1,6 +1,6 @@
 //! Members that begin with their type: data members, functions and their bodies: C++14 9.2.
 
-ghost use Rattle.std.specs.Prelude.{◌≡◌, ◌≤◌, not, length, Some, None, Ok, OnOk, OnErr};
+ghost use Rattle.std.specs.Prelude.{◌≡◌, ◌≤◌, ℕ, not, length, Some, None, Ok, OnOk, OnErr};
 ghost use Rattle.cpp_ast.specs.declared.kinds.NodeKind.TheVariants.{EqualInitializer, MemberDeclarator};
 ghost use Rattle.cpp_syntax.specs.Terminals.{semicolon};
 ghost use Rattle.cpp_syntax.specs.Derivations.{Read, reads_node, positioned};
@@ -9,13 +9,10 @@ ghost use Rattle.cpp_syntax.specs.Types.{is_not_zero};
 ghost use Rattle.cpp_syntax.specs.View.{BuilderState, appended, IsMark};
 ghost use Rattle.cpp_syntax.specs.Parsed.{ParsesLongest, ParsesAlways, ReadsLongest, Leaves};
 ghost use Rattle.cpp_parse.specs.Alternatives.{single_declaration, initialized_declaration, listed_declaration, more_members, member_function};
-ghost use Rattle.cpp_parse.specs.Alternatives.{member_function_alone, pure_specifier, value, value_but_zero};
+ghost use Rattle.cpp_parse.specs.Alternatives.{optional_attribute, optional_virtual, member_function_alone, pure_specifier, value, value_but_zero};
 ghost use Rattle.cpp_parse.specs.MemberHeads.{IsHead, IsTyped, ValuesSeen};
 
-use crate::specifiers::{
-    declared_token, node_from, optional_attribute, optional_inline, optional_virtual,
-    virt_specifiers,
-};
+use crate::specifiers::{declared_token, node_from, optional_inline, virt_specifiers};
 use crate::statements::compound_statement;
 use cpp_ast::NodeKind;
 use cpp_parse_expr::declarators::declarator;
@@ -53,35 +50,42 @@ pub fn semicolon_end(text: &TypeNames, at: usize) -> usize
     at
 }
 
-/// A function with its body.
-pub fn member_function(
+/// What follows what stands before `inline` of a member that is a function with its body.
+pub fn inline_function(
     text: &TypeNames,
     at: usize,
+    start: Checkpoint,
+    changed: usize,
     depth_left: u32,
     out: &mut Builder,
 ) -> Result<Option<usize>, AllocError>
     requires here { at ≤ length text.now.terminals }
-    ensures { ParsesLongest text.now member_function at None out.old out.new result }
+    requires behind { changed ≤ length text.now.terminals }
+    ensures { (before first : BuilderState) (after : ℕ) → IsMark start before → ReadsLongest text.now optional_attribute at after None before first
+        → ReadsLongest text.now optional_virtual after changed None first out.old
+        → ParsesLongest text.now member_function at None before out.new result }
 {
-    let Some(next) = member_function_alone(text, at, depth_left, out)? else {
+    let Some(next) = inline_function_alone(text, at, start, changed, depth_left, out)? else {
         return Ok(None);
     };
     Ok(Some(semicolon_end(text, next)))
 }
 
-/// A function with its body, without a semicolon behind it.
-fn member_function_alone(
+/// The same without a semicolon behind the body.
+fn inline_function_alone(
     text: &TypeNames,
     at: usize,
+    start: Checkpoint,
+    changed: usize,
     depth_left: u32,
     out: &mut Builder,
 ) -> Result<Option<usize>, AllocError>
     requires here { at ≤ length text.now.terminals }
-    ensures { ParsesLongest text.now member_function_alone at None out.old out.new result }
+    requires behind { changed ≤ length text.now.terminals }
+    ensures { (before first : BuilderState) (after : ℕ) → IsMark start before → ReadsLongest text.now optional_attribute at after None before first
+        → ReadsLongest text.now optional_virtual after changed None first out.old
+        → ParsesLongest text.now member_function_alone at None before out.new result }
 {
-    let start = out.checkpoint();
-    let behind = optional_attribute(text, at, out)?;
-    let changed = optional_virtual(text, behind, out)?;
     let typed = optional_inline(text, changed, out)?;
     let Some(named) = type_specifier_seq(text, typed, depth_left, out)? else {
         return Ok(None);

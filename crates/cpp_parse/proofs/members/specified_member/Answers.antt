@@ -6,7 +6,7 @@ use Rattle.cpp_syntax.proofs.LongestMatches.{mark_none, node_none, form_none, ne
 use Rattle.cpp_syntax.proofs.Readers.{leaves_both, leaves_read, leaves_same, none_behind, none_seq}
 use Rattle.cpp_parse_expr.proofs.ReaderAnswers.{parsed_err, none_unlike, parsed_left, parsed_right, reads_until}
 use Rattle.cpp_parse.specs.declared.single_members.MemberHead.{MemberHead}
-use Rattle.cpp_parse.proofs.LongestAlone.{none_marked, none_skipped, parsed_from}
+use Rattle.cpp_parse.proofs.LongestAlone.{none_marked, none_skipped}
 use Rattle.cpp_parse.proofs.MemberHeads.{typed_head, full_head}
 use Rattle.cpp_parse.proofs.members.specified_member.Goals as goal
 
@@ -20,11 +20,9 @@ returns-in_err-typed c =
 
 pub returns-then-is_at : goal.returns-then-is_at
 returns-then-is_at c =
-    parsed_from _ _ _ _ _ _ _ c.member_function.result (c.cut.ensures _ _ c.checkpoint-start.ensures
-    (leaves_both (leaves_read c.in_ok-after.ensures) (leaves_read c.in_ok-typed.ensures)).gained)
-    (parsed_right _ _ _ _ _ _ _ c.member_function.result (node_none (none_marked (none_behind c.in_ok-after.ensures
+    parsed_right _ _ _ _ _ _ _ c.inline_function.result (node_none (none_marked (none_behind c.in_ok-after.ensures
     (none_behind c.in_ok-typed.ensures (none_unlike inline_word (passed inline_word terminal.Inline refl _ (c.if-is_at.ensures.yes refl)) refl refl)
-    refl refl refl) refl refl refl))) c.member_function.ensures)
+    refl refl refl) refl refl refl))) (c.inline_function.ensures _ _ _ c.checkpoint-start.ensures c.in_ok-after.ensures c.in_ok-typed.ensures)
 
 pub returns-in_err-named : goal.returns-in_err-named
 returns-in_err-named c =
