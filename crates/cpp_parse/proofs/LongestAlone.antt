@@ -41,11 +41,6 @@ pub none_marked : {lookahead : Lookahead → ℕ → Type 0} {bodies : Bodies} {
     → NoDerivation lookahead bodies source q r a → NoDerivation lookahead bodies source (mark_next · q) r a
 none_marked x b k t (is_both {l = l} (is_mark_next e f g) v h) = x b l t (carry e g v)
 
--- what is answered from what is the same
-pub parsed_from : (s : Source) (p : Rule) (a : ℕ) (k : Option ℕ) (u v w : BuilderState) (r : Result (Option ℕ) AllocError) → v ≡ u
-    → ParsesLongest s p a k v w r → ParsesLongest s p a k u w r
-parsed_from s p a k u v w r e h = subst (λ (z : BuilderState). ParsesLongest s p a k z w r) e h
-
 -- A node that has its position where its token is.
 pub made_at_token : {s : Source} {kind : NodeKind} {p : Rule} {a b t : ℕ} {v w x : BuilderState} {start : Checkpoint} (y : ReadsLongest s p a b (Some t) v w)
     → IsMark start v
