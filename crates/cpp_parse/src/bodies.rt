@@ -84,11 +84,13 @@ fn read_block(
     let mut out = Builder::over(alloc, mem::replace(nodes, Nodes::new(alloc)));
     let read = compound_statement(types, start, MAX_NESTED_CALLS, &mut out);
     let Reading { found, token } = take_reading(types, start, read, out, nodes)?;
-    let Some(Found {
-        roots,
-        next,
-        bodies,
-    }) = found
+    let Some(
+        Found {
+            roots,
+            next,
+            bodies,
+        },
+    ) = found
     else {
         return Ok(Block::Refused { token });
     };

@@ -185,11 +185,13 @@ fn read_declarations(
     let mut out = Builder::over(alloc, mem::replace(nodes, Nodes::new(alloc)));
     let read = read_unit(types, &mut out);
     let Reading { found, token } = take_reading(types, 0, read, out, nodes)?;
-    let Some(Found {
-        roots,
-        next,
-        bodies,
-    }) = found
+    let Some(
+        Found {
+            roots,
+            next,
+            bodies,
+        },
+    ) = found
     else {
         return Ok(Declarations::Refused { token });
     };

@@ -18,8 +18,7 @@ returns-in_err-member_node c = λ before between m x y.
 
 pub returns-then-not-is_at : goal.returns-then-not-is_at
 returns-then-not-is_at c = λ before between m x y.
-    let one = reads_form (member_made x.declared y refl refl refl x.name x.mark c.in_ok-member_node.ensures.read) in
-    (
+    let one = reads_form (member_made x.declared y refl refl refl x.name x.mark c.in_ok-member_node.ensures.read) in (
       leaves_both (leaves_read x.typed) (leaves_both (leaves_read one) (leaves_same c.expected_at.ensures)),
       node_none (none_marked (none_behind x.typed (none_behind one (word_none (refused semicolon terminal.Semicolon refl _ (c.if-not-is_at.ensures.no refl)))
           refl refl refl) refl refl refl)),
