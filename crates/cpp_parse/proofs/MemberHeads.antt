@@ -1,5 +1,5 @@
 -- What a member can be of which the head was read: its type, its first declarator, and what stands before the type.
-use Rattle.std.proofs.Common.{◌≡◌, ℕ, ◌≤◌, length, Option, Some, None, true, false, not, refl}
+use Rattle.std.proofs.Common.{◌≡◌, ℕ, ◌≤◌, length, Option, Some, None, true, false, not, refl, sym as back, subst}
 use Rattle.std.proofs.lemmas.Bool.{not-true}
 use Rattle.cpp_ast.specs.declared.kinds.NodeKind.TheVariants.{MemberDeclaration, FunctionDefinition}
 use Rattle.cpp_ast.specs.declared.kinds.NodeKind.{NodeKind}
@@ -41,6 +41,10 @@ pub typed_head : (head : MemberHead) {source : Source} {from : ℕ} {before betw
     → (y : ReadsLongest source named_declarator head.named head.behind None between now)
     → head.name ≡ token_of_name (declared_in (y.got).trees) → IsTyped source head from before now
 typed_head head {between = between} x m y e = record { between = between; typed = x; mark = m; declared = y; name = e }
+
+pub typed_until : {source : Source} {head : MemberHead} {from : ℕ} {before now new : BuilderState} → new ≡ now → IsTyped source head from before now
+    → IsTyped source head from before new
+typed_until {source = source} {head = head} {from = from} {before = before} e x = subst (λ (w : BuilderState). IsTyped source head from before w) (back e) x
 
 pub bare_head : (head : MemberHead) {source : Source} {before now : BuilderState} → head.at ≤ length source.terminals
     → first_of_types (terminal_at source head.at) ≡ true → IsMark head.start before → IsTyped source head head.at before now

@@ -6,7 +6,7 @@ use Rattle.std.proofs.lemmas.Bool.{not-true, and_from, and_parts, cases_Bool}
 use Rattle.cpp_syntax.specs.declared.terminal.Terminal.{Terminal}
 use Rattle.cpp_syntax.specs.Source.{Source, terminal_at}
 use Rattle.cpp_ast.specs.declared.kinds.NodeKind.TheVariants.{EqualInitializer}
-use Rattle.cpp_syntax.specs.Terminals.{is_zero, is_integer, semicolon, comma, equal, open_paren}
+use Rattle.cpp_syntax.specs.Terminals.{level_of, is_zero, is_integer, semicolon, comma, equal, open_paren}
 use Rattle.cpp_syntax.specs.Types.{is_not_zero}
 use Rattle.cpp_syntax.specs.Rules.{Nonterminal, cast_expression, binary_expression, assignment_expression, compound_statement, a_cast, Rule, word, ◌·◌, form}
 use Rattle.cpp_syntax.specs.Rules.{node, where_, optional}
@@ -21,7 +21,7 @@ use Rattle.cpp_syntax.proofs.FirstTerminals.{not_empty}
 use Rattle.cpp_syntax.proofs.DeclaratorForms.{differ}
 use Rattle.cpp_syntax.proofs.LongestMatches.{carry, seq, seq_none, seq_ends, left, left_out, taken, mark_long, node_long, form_long, unless_long, word_none}
 use Rattle.cpp_syntax.proofs.LongestMatches.{mark_none, node_none, where_refused}
-use Rattle.cpp_syntax.proofs.OperatorLevels.{levels_apart}
+use Rattle.cpp_syntax.proofs.OperatorLevels.{levels_apart, operated_none}
 use Rattle.cpp_parse_expr.proofs.ReaderAnswers.{none_unlike, none_second_mark}
 use Rattle.cpp_parse.specs.Alternatives.{types, named_declarator, single, initialized, listed, with_function_body, pure_specifier}
 use Rattle.cpp_parse.specs.Answers.{Reaches}
@@ -51,6 +51,11 @@ record ZeroText (s : Source) (f : Nonterminal) (a : ℕ) : Type 0 where
 zero_is_integer : (z : Terminal) → is_zero z ≡ true → is_integer z ≡ true
 zero_is_integer z t = implied (is_zero z) (is_integer z) (at_each (λ y. implies (is_zero y) (is_integer y)) refl z) t
 
+no_operator : (z : Terminal) (n : ℕ) → semicolon z ≡ true → level_of z ≡ n + 1 → ⊥
+no_operator z n t e =
+    let i = implied (semicolon z) (nat_eq (level_of z) 0) (at_each (λ y. implies (semicolon y) (nat_eq (level_of y) 0)) refl z) t in
+    absurd (grind (arith, i, e))
+
 module _ (s : Source) (a : ℕ) (t : is_zero (terminal_at s a) ≡ true) (u : semicolon (terminal_at s (a + 1)) ≡ true) where
   no_cast : lookahead s a_cast a → ⊥
   no_cast h = differ is_zero open_paren refl (terminal_at s a) t (h.1).opened
@@ -66,7 +71,10 @@ module _ (s : Source) (a : ℕ) (t : is_zero (terminal_at s a) ≡ true) (u : se
 
   zero_binary : (n : ℕ) → ZeroText s (binary_expression n) a
   zero_binary zero = record { got = _; long = form_long zero_cast.long }
-  zero_binary (suc n) = record { got = _; long = form_long (seq (zero_binary n).long (many_none (none_unlike semicolon u refl refl)) (levels_apart n)) }
+  zero_binary (suc n) = record {
+    got = _;
+    long = form_long (seq (zero_binary n).long (many_none (operated_none (no_operator (terminal_at s (a + 1)) n u))) (levels_apart n));
+  }
 
   zero_text : ZeroText s assignment_expression a
   zero_text = record {

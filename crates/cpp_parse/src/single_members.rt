@@ -9,7 +9,7 @@ ghost use Rattle.cpp_syntax.specs.Types.{is_not_zero};
 ghost use Rattle.cpp_syntax.specs.View.{BuilderState, appended, IsMark};
 ghost use Rattle.cpp_syntax.specs.Parsed.{ParsesLongest, ParsesAlways, ReadsLongest, Leaves};
 ghost use Rattle.cpp_parse.specs.Alternatives.{single_declaration, initialized_declaration, listed_declaration, more_members, member_function};
-ghost use Rattle.cpp_parse.specs.Alternatives.{optional_attribute, optional_virtual, member_function_alone, pure_specifier, value, value_but_zero};
+ghost use Rattle.cpp_parse.specs.Alternatives.{optional_attribute, optional_virtual, pure_specifier, value, value_but_zero};
 ghost use Rattle.cpp_parse.specs.MemberHeads.{IsHead, IsTyped, ValuesSeen};
 
 use crate::specifiers::{declared_token, node_from, optional_inline, virt_specifiers};
@@ -65,27 +65,6 @@ pub fn inline_function(
         → ReadsLongest text.now optional_virtual after changed None first out.old
         → ParsesLongest text.now member_function at None before out.new result }
 {
-    let Some(next) = inline_function_alone(text, at, start, changed, depth_left, out)? else {
-        return Ok(None);
-    };
-    Ok(Some(semicolon_end(text, next)))
-}
-
-/// The same without a semicolon behind the body.
-fn inline_function_alone(
-    text: &TypeNames,
-    at: usize,
-    start: Checkpoint,
-    changed: usize,
-    depth_left: u32,
-    out: &mut Builder,
-) -> Result<Option<usize>, AllocError>
-    requires here { at ≤ length text.now.terminals }
-    requires behind { changed ≤ length text.now.terminals }
-    ensures { (before first : BuilderState) (after : ℕ) → IsMark start before → ReadsLongest text.now optional_attribute at after None before first
-        → ReadsLongest text.now optional_virtual after changed None first out.old
-        → ParsesLongest text.now member_function_alone at None before out.new result }
-{
     let typed = optional_inline(text, changed, out)?;
     let Some(named) = type_specifier_seq(text, typed, depth_left, out)? else {
         return Ok(None);
@@ -98,7 +77,7 @@ fn inline_function_alone(
         return Ok(None);
     };
     node_from(text, at, NodeKind::FunctionDefinition, start, out)?;
-    Ok(Some(next))
+    Ok(Some(semicolon_end(text, next)))
 }
 
 /// What follows the head of a member that is a function with its body, or one member, which may be a pure function.
@@ -378,7 +357,7 @@ pub fn note_values(
 ) -> Result<(), AllocError>
     requires here { at ≤ length text.now.terminals }
     ensures same { OnOk result (out.new ≡ out.old) }
-    ensures memory { OnErr result (Leaves out.old out.new) }
+    ensures leaves { Leaves out.old out.new }
 {
     if !begins_values(text, at) {
         return Ok(());

@@ -4,10 +4,10 @@ use Rattle.cpp_syntax.specs.Terminals.{inline_word}
 use Rattle.cpp_syntax.proofs.SingleTerminals.{passed, refused}
 use Rattle.cpp_syntax.proofs.LongestMatches.{mark_none, node_none, form_none, neither}
 use Rattle.cpp_syntax.proofs.Readers.{leaves_both, leaves_read, leaves_same, none_behind, none_seq}
-use Rattle.cpp_parse_expr.proofs.ReaderAnswers.{parsed_err, none_unlike, parsed_left, parsed_right, reads_until}
+use Rattle.cpp_parse_expr.proofs.ReaderAnswers.{parsed_err, none_unlike, parsed_left, parsed_right}
 use Rattle.cpp_parse.specs.declared.single_members.MemberHead.{MemberHead}
 use Rattle.cpp_parse.proofs.LongestAlone.{none_marked, none_skipped}
-use Rattle.cpp_parse.proofs.MemberHeads.{typed_head, full_head}
+use Rattle.cpp_parse.proofs.MemberHeads.{typed_head, typed_until, full_head}
 use Rattle.cpp_parse.proofs.members.specified_member.Goals as goal
 
 pub returns-in_err-after : goal.returns-in_err-after
@@ -62,7 +62,7 @@ returns-in_err-note_values c =
     parsed_err _ _ _ _ c.from_residual-in_err-note_values.result c.from_residual-in_err-note_values.ensures.0
     (leaves_both (leaves_read c.in_ok-after.ensures) (leaves_both (leaves_read c.in_ok-typed.ensures)
     (leaves_both (leaves_read (rw c.in-Some.is at c.in_ok-named.ensures)) (leaves_both (leaves_read (rw c.in-Some-2.is at c.in_ok-behind.ensures))
-    c.in_err-note_values.ensures.memory))))
+    c.in_err-note_values.ensures.leaves))))
 
 pub returns : goal.returns
 returns c =
@@ -77,6 +77,6 @@ returns c =
       behind = c.in-Some-2.behind;
     } in
     c.function_or_single.ensures _ (full_head head c.checkpoint-start.ensures c.in_ok-after.ensures c.in_ok-typed.ensures
-    (refused inline_word terminal.Inline refl _ (c.if-is_at.ensures.no refl)) (typed_head head read_named c.checkpoint-first.ensures
-    (reads_until c.in_ok-note_values.ensures.same read_behind)
-    (c.declared_token-name.ensures _ _ c.checkpoint-first.ensures (read_behind).gained)))
+    (refused inline_word terminal.Inline refl _ (c.if-is_at.ensures.no refl)) (typed_until c.in_ok-note_values.ensures.same
+    (typed_head head read_named c.checkpoint-first.ensures read_behind
+    (c.declared_token-name.ensures _ _ c.checkpoint-first.ensures (read_behind).gained))))

@@ -48,7 +48,7 @@ returns-then-is_at c = λ before m x.
 pub returns-then-is_zero_alone : goal.returns-then-is_zero_alone
 returns-then-is_zero_alone c = λ before m x.
     let read_next = rw c.in-Some.is at c.in_ok-next.ensures in
-    let valued = made (mark_and (passed equal terminal.Equal refl _ (c.if-not-is_at.ensures.yes refl)) (c.if-not-is_at.ensures.inside refl refl) read_next refl refl)
+    let valued = made (mark_and {test = equal} (passed equal terminal.Equal refl _ (c.if-not-is_at.ensures.yes refl)) (c.if-not-is_at.ensures.inside refl refl) read_next refl refl)
     c.checkpoint-mark.ensures c.in_ok-node.ensures.read in (
       leaves_both (leaves_typed x) (leaves_both (leaves_read valued) (leaves_same c.expected_at.ensures)),
       neither (initialized_none (none_initialized x (none_seq (node_none (none_second_mark (none_but_zero (reached read_next) (back c.if-is_zero_alone.ensures)))))))

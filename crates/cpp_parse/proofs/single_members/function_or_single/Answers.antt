@@ -1,6 +1,7 @@
 use Rattle.std.proofs.Common.{refl}
 use Rattle.cpp_syntax.specs.declared.terminal.Terminal.TheVariants as terminal
 use Rattle.cpp_syntax.specs.Terminals.{open_brace, semicolon}
+use Rattle.cpp_syntax.specs.Rules.{member_declarator}
 use Rattle.cpp_syntax.proofs.SingleTerminals.{passed, refused}
 use Rattle.cpp_syntax.proofs.LongestMatches.{word_none, seq_none, node_none, form_none, neither}
 use Rattle.cpp_syntax.proofs.Readers.{leaves_same, leaves_both, leaves_read, reads_seq, reads_word, reads_form, reads_left, reads_right, none_behind}
@@ -50,7 +51,7 @@ returns-in_err-member_node c = λ before x.
 
 pub returns-then-not-is_at : goal.returns-then-not-is_at
 returns-then-not-is_at c = λ before x.
-    let one = (reads_form (member_made x.rest.declared (reads_seq c.in_ok-end.ensures c.in_ok-last.ensures refl refl) refl refl refl x.rest.name x.rest.mark
+    let one = (reads_form {f = member_declarator} (member_made x.rest.declared (reads_seq c.in_ok-end.ensures c.in_ok-last.ensures refl refl) refl refl refl x.rest.name x.rest.mark
     c.in_ok-member_node.ensures.read)) in (
       leaves_both (leaves_front x) (leaves_both (leaves_read one) (leaves_same c.expected_at.ensures)),
       neither (none_single x (none_behind (reads_seq c.in_ok-end.ensures c.in_ok-last.ensures refl refl)
@@ -59,14 +60,14 @@ returns-then-not-is_at c = λ before x.
 
 pub returns-in_err-node_from-2 : goal.returns-in_err-node_from-2
 returns-in_err-node_from-2 c = λ before x.
-    let one = (reads_form (member_made x.rest.declared (reads_seq c.in_ok-end.ensures c.in_ok-last.ensures refl refl) refl refl refl x.rest.name x.rest.mark
+    let one = (reads_form {f = member_declarator} (member_made x.rest.declared (reads_seq c.in_ok-end.ensures c.in_ok-last.ensures refl refl) refl refl refl x.rest.name x.rest.mark
     c.in_ok-member_node.ensures.read)) in
     parsed_err _ _ _ _ c.from_residual-in_err-node_from-2.result c.from_residual-in_err-node_from-2.ensures.0
     (leaves_both (leaves_front x) (leaves_both (leaves_read one) (leaves_same c.in_err-node_from-2.ensures.memory)))
 
 pub returns : goal.returns
 returns c = λ before x.
-    let one = (reads_form (member_made x.rest.declared (reads_seq c.in_ok-end.ensures c.in_ok-last.ensures refl refl) refl refl refl x.rest.name x.rest.mark
+    let one = (reads_form {f = member_declarator} (member_made x.rest.declared (reads_seq c.in_ok-end.ensures c.in_ok-last.ensures refl refl) refl refl refl x.rest.name x.rest.mark
     c.in_ok-member_node.ensures.read)) in
     reads_left (single_made x c.requires.here (reads_seq one (reads_word (passed semicolon terminal.Semicolon refl _ (c.if-not-is_at.ensures.yes refl))
     (c.if-not-is_at.ensures.inside refl refl)) refl refl) c.in_ok-node_from-2.ensures.read) (none_function x (none_behind c.in_ok-end.ensures (form_none (node_none (seq_none (word_none (refused open_brace terminal.OpenBrace refl _ (c.if-is_at.ensures.no refl)))))) refl refl refl))
