@@ -14,17 +14,17 @@ take_reading-requires c =
 pub returns-in_default : goal.returns-in_default
 returns-in_default c =
     let taken = c.in_ok-found.ensures (form translation_unit) c.over-out.result c.over-out.ensures.nothing c.read_unit-read.ensures in
-    none_begins c.args.types.now c.in_ok-found.token (rw c.in_default.is at taken.0).0 taken.1
+    none_begins c.args.types.now c.in_ok-found.field-0.token (rw c.in_default.is at taken.0).0 taken.1
 
-pub returns-then-next-ne-len : goal.returns-then-next-ne-len
-returns-then-next-ne-len c =
+pub returns-then-next-len : goal.returns-then-next-len
+returns-then-next-len c =
     let taken = c.in_ok-found.ensures (form translation_unit) c.over-out.result c.over-out.ensures.nothing c.read_unit-read.ensures in
     let long = c.len.ensures.len in
-    ends_before _ _ _ _ _ _ (rw c.in-Some.is at taken.0) c.in_ok-found.token (λ e. c.if-next-ne-len.true (omega (arith, e, long))) taken.1
+    ends_before _ _ _ _ _ _ (rw c.in-Some.is at taken.0) c.in_ok-found.field-0.token (λ e. c.if-next-len.true (omega (arith, e, long))) taken.1
 
 pub returns : goal.returns
 returns c =
     let taken = c.in_ok-found.ensures (form translation_unit) c.over-out.result c.over-out.ensures.nothing c.read_unit-read.ensures in
-    let r = subst (λ (old : List Node). IsFound c.args.types.now (form translation_unit) 0 c.in-Some.next old c.take_reading.new.nodes
-    c.in-Some.roots.items c.in-Some.bodies.items) (c.over-out.ensures.base ∙ c.replace.ensures.value) (rw c.in-Some.is at taken.0) in
-    are_declarations _ _ _ _ _ _ r (c.if-next-ne-len.false ∙ c.len.ensures.len)
+    let r = subst (λ (old : List Node). IsFound c.args.types.now (form translation_unit) 0 c.in-Some.field-0.next old c.take_reading.new.nodes
+    c.in-Some.field-0.roots.items c.in-Some.field-0.bodies.items) (c.over-out.ensures.base ∙ c.replace.ensures.value) (rw c.in-Some.is at taken.0) in
+    are_declarations _ _ _ _ _ _ r (c.if-next-len.false ∙ c.len.ensures.len)
