@@ -11,70 +11,39 @@ use Rattle.cpp_ast.specs.Trees.{Tree, Trees, Extends}
 use Rattle.cpp_syntax.specs.declared.positions.OpenBody.{OpenBody}
 use Rattle.cpp_syntax.specs.Source.{Source}
 use Rattle.cpp_syntax.specs.Rules.{Nonterminal, form, Lookahead, compound_statement}
-use Rattle.cpp_syntax.specs.Derivations.{Body, Read, no_read, and_then, one_tree, kept_apart}
+use Rattle.cpp_syntax.specs.Derivations.{Body, Read, no_read, one_tree, kept_apart}
 use Rattle.cpp_syntax.specs.Lookahead.{lookahead}
 use Rattle.cpp_syntax.specs.Longest.{LongestMatch, NoDerivation}
-use Rattle.cpp_syntax.specs.Parsed.{ReadsLongest}
-use Rattle.cpp_syntax.specs.View.{BuilderState, builder_state, count_trees, trees_at, body_of, BuiltTrees}
+use Rattle.cpp_syntax.specs.View.{trees_at, body_of, BuiltTrees}
 use Rattle.cpp_syntax.specs.WithBodies.{Filled, no_trees, more_trees, whole, Wholes, no_wholes, more_wholes}
-use Rattle.cpp_syntax.proofs.BuilderMarks.{trees_count}
 use Rattle.cpp_syntax.proofs.LambdaBodies.{bodies_in}
 use Rattle.cpp_syntax.proofs.UnitBodies.{wholes_have, broken_body, ended_body, none_body}
-use Rattle.cpp_parse_expr.proofs.ParseAnswers.{base_kept, grown_from}
+use Rattle.cpp_parse_expr.specs.Parse.{IsFound}
+use Rattle.cpp_parse_expr.proofs.ParseAnswers.{one_root, roots_one}
 use Rattle.cpp_parse.specs.Bodies.{IsBlock, IsNoBody, AreRead, IsBroken, ReadsBodies, ReadsBody}
-use Rattle.cpp_parse.proofs.FirstDeepNode.{first_behind}
+use Rattle.cpp_parse_expr.proofs.FirstDeepNode.{first_behind}
 use Rattle.cpp_parse.proofs.BodyPositions.{text_inside, compound_tree}
 use Rattle.cpp_parse.proofs.JoinedBodies.{none_in, both_in, body_in}
 
--- What a builder shows that had read nothing before.
-module _ (source : Source) (f : Nonterminal) (from next : ℕ) (built new : BuilderState) (grown : List Node) (roots : List NodeId)
-    (inner : List OpenBody) (empty : built.read ≡ no_read) (reads : ReadsLongest source (form f) from next None built new)
-    (parts : new ≡ builder_state (length new.base) grown roots inner) where
-  read_is : new.read ≡ reads.got
-  read_is = ap (λ (z : BuilderState). z.read) reads.gained ∙ ap (λ (z : Read). and_then z reads.got) empty
-
-  pub got_trees : trees_at grown roots ≡ reads.got.trees
-  got_trees = sym (ap (λ (z : BuilderState). z.read.trees) parts) ∙ ap (λ (z : Read). z.trees) read_is
-
-  pub got_bodies : map (body_of grown) inner ≡ reads.got.bodies
-  got_bodies = sym (ap (λ (z : BuilderState). z.read.bodies) parts) ∙ ap (λ (z : Read). z.bodies) read_is
-
-one_root : (ids : List NodeId) (root : NodeId) → length ids ≡ 1 → root ≡ get_or ids 0 root → ids ≡ root ∷ []
-one_root [] root e f = absurd (omega (arith, e))
-one_root (id ∷ []) root e f = ap (λ (z : NodeId). z ∷ []) (sym f)
-one_root (id ∷ other ∷ ids) root e f = absurd (omega (arith, e))
-
 -- The tokens of a body.
-module _ (source : Source) (body : OpenBody) (next : ℕ) (built new : BuilderState) (grown : List Node) (roots : List NodeId) (inner : List OpenBody)
-    (empty : built.read ≡ no_read) (reads : ReadsLongest source (form compound_statement) (body.from - 1) next None built new) where
-  pub roots_one : new ≡ builder_state (length new.base) grown roots inner → length roots ≡ 1
-  roots_one parts =
-      let one = compound_tree reads.long.derives in
-      sym (trees_count grown roots)
-      ∙ ap (λ (ts : Trees). count_trees ts) (got_trees source compound_statement (body.from - 1) next built new grown roots inner empty reads parts ∙ one.1)
-      ∙ (let c : count_trees (one_tree one.0) ≡ 1 = refl in c)
+module _ (source : Source) (body : OpenBody) (next : ℕ) (old grown : List Node) (roots : List NodeId) (inner : List OpenBody)
+    (r : IsFound source (form compound_statement) (body.from - 1) next old grown roots inner) where
+  pub block_root : length roots ≡ 1
+  block_root = let one = compound_tree r.long.derives in roots_one grown roots one.0 (r.trees ∙ one.1)
 
-  pub is_block : (old : List Node) (root : NodeId) → next ≡ body.to + 1 → new ≡ builder_state (length new.base) grown roots inner → built.base ≡ old
-      → root ≡ get_or roots 0 root → Extends new.base grown → BuiltTrees (length new.base) grown roots inner
-      → IsBlock source body old grown root inner
-  is_block old root ends parts base at x shown =
-      let kept : new.base ≡ old = base_kept built new reads.got old base reads.gained in
-      let only : roots ≡ root ∷ [] = one_root roots root (roots_one parts) at in
-      let bodies = got_bodies source compound_statement (body.from - 1) next built new grown roots inner empty reads parts in
+  pub is_block : (root : NodeId) → next ≡ body.to + 1 → root ≡ get_or roots 0 root → IsBlock source body old grown root inner
+  is_block root ends at =
+      let only : roots ≡ root ∷ [] = one_root roots root block_root at in
       record {
-        got = reads.got;
+        got = r.got;
         long =
-            subst (λ (b : ℕ). LongestMatch (lookahead source) kept_apart source (form compound_statement) no_read (body.from - 1) b None reads.got)
-            ends reads.long;
-        grown = grown_from built new old grown kept x;
-        shown =
-            subst (λ (ns : List Node). BuiltTrees (length ns) grown (root ∷ []) inner) kept
-            (subst (λ (is : List NodeId). BuiltTrees (length new.base) grown is inner) only shown);
-        trees =
-            ap (λ (is : List NodeId). trees_at grown is) (sym only) ∙ got_trees source compound_statement (body.from - 1) next built new grown roots
-            inner empty reads parts;
-        bodies = bodies;
-        inside = text_inside (length source.terminals) grown inner reads.long.derives reads.inside bodies;
+            subst (λ (b : ℕ). LongestMatch (lookahead source) kept_apart source (form compound_statement) no_read (body.from - 1) b None r.got)
+            ends r.long;
+        grown = r.grown;
+        shown = subst (λ (is : List NodeId). BuiltTrees (length old) grown is inner) only r.shown;
+        trees = ap (λ (is : List NodeId). trees_at grown is) (sym only) ∙ r.trees;
+        bodies = r.bodies;
+        inside = text_inside (length source.terminals) grown inner r.long.derives r.inside r.bodies;
       }
 
 behind_one : (n : ℕ) → 1 ≤ n → n ≡ n - 1 + 1

@@ -10,7 +10,8 @@ use Rattle.cpp_ast.specs.declared.arena.NodeId.{NodeId}
 use Rattle.cpp_ast.specs.declared.units.LamBody.{LamBody}
 use Rattle.cpp_ast.specs.Trees.{kids_with}
 use Rattle.cpp_ast.specs.Units.{times_in}
-use Rattle.cpp_parse.specs.NotedBodies.{lams_noted, HaveNodes, IsNotedIn, IsOnceEach, at_most_one}
+use Rattle.cpp_parse_expr.specs.Depths.{HaveNodes, IsNotedIn, at_most_one}
+use Rattle.cpp_parse.specs.NotedBodies.{lams_noted, IsOnceEach}
 use Rattle.cpp_parse.proofs.LambdasOnce.{one_for, one_other}
 
 abbrev pub no_entry : Option NodeId

@@ -13,7 +13,7 @@ use Rattle.cpp_ast.specs.Units.{times_in, times_a_kid}
 use Rattle.cpp_syntax.specs.declared.positions.OpenBody.{OpenBody}
 use Rattle.cpp_syntax.specs.View.{lambdas_at, is_lambda, BuiltTrees, lams_of}
 use Rattle.cpp_parse_expr.specs.Depths.{HoldLower}
-use Rattle.cpp_parse_expr.proofs.DepthPaths.{held, below_at}
+use Rattle.cpp_parse_expr.proofs.NodeIds.{held, below_at}
 use Rattle.cpp_parse.specs.NotedBodies.{times, one_from, is_lambda_node, is_lambda_at, one_lambda}
 use Rattle.cpp_syntax.proofs.NodeLambdas.{lambdas_of, lambdas_are, own_lambda}
 

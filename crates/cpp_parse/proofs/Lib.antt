@@ -1,4 +1,3 @@
-pub mod FirstDeepNode
 pub mod BodyPositions
 pub mod JoinedBodies
 pub mod LambdasOnce
@@ -16,5 +15,6 @@ pub mod SpecifierReaders
 pub mod NamedDeclarators
 pub mod DefinitionKinds
 pub mod MemberShapes
+pub mod MemberHeads
 pub mod MemberStarts
 pub mod Enumerators

@@ -17,10 +17,7 @@ use Rattle.cpp_syntax.proofs.LongestMatches.{carry, seq_ends, left_out, many_beg
 use Rattle.cpp_syntax.proofs.Readers.{reads_node_at}
 use Rattle.cpp_syntax.proofs.ReaderLoops.{ReadsMany}
 use Rattle.cpp_parse_expr.proofs.ReaderAnswers.{many_done}
-use Rattle.cpp_parse.specs.Answers.{Reaches, OneShape, ShapeFound}
-use Rattle.cpp_parse.specs.Alternatives.{with_function_body}
-use Rattle.cpp_parse.specs.declared.members.MemberShape.TheVariants as shape
-use Rattle.cpp_parse.specs.declared.members.MemberShape.{MemberShape}
+use Rattle.cpp_parse.specs.Answers.{Reaches}
 
 pub reached : {s : Source} {p : Rule} {a b : ℕ} {k : Option ℕ} {v w : BuilderState} → ReadsLongest s p a b k v w → Reaches s p a b
 reached {k = k} x = record { marked = k; got = x.got; long = x.long; inside = x.inside }
@@ -43,11 +40,6 @@ many_none x = many_ends many_begins x
 pub none_marked : {lookahead : Lookahead → ℕ → Type 0} {bodies : Bodies} {source : Source} {q : Rule} {r : Read} {a : ℕ}
     → NoDerivation lookahead bodies source q r a → NoDerivation lookahead bodies source (mark_next · q) r a
 none_marked x b k t (is_both {l = l} (is_mark_next e f g) v h) = x b l t (carry e g v)
-
--- what is answered from what is the same
-pub parsed_from : (s : Source) (p : Rule) (a : ℕ) (k : Option ℕ) (u v w : BuilderState) (r : Result (Option ℕ) AllocError) → v ≡ u
-    → ParsesLongest s p a k v w r → ParsesLongest s p a k u w r
-parsed_from s p a k u v w r e h = subst (λ (z : BuilderState). ParsesLongest s p a k z w r) e h
 
 -- A node that has its position where its token is.
 pub made_at_token : {s : Source} {kind : NodeKind} {p : Rule} {a b t : ℕ} {v w x : BuilderState} {start : Checkpoint} (y : ReadsLongest s p a b (Some t) v w)
@@ -73,29 +65,5 @@ none_left n b k t u = n b k t (is_left u)
 pub none_right : {s : Source} {p q : Rule} {a : ℕ} → NoneOf s (p ∣ q) a → NoneOf s q a
 none_right n b k t u = n b k t (is_right u)
 
--- want of memory where the shape of a member was asked
-pub shape_err : (s : Source) (a : ℕ) {v w : BuilderState} (r : Result MemberShape AllocError) → IsErr r → Leaves v w → ShapeFound s a v w r
-shape_err s a (Ok x) e l = absurd (true≢false (back e))
-shape_err s a (Err x) e l = l
-
 pub leaves_gained : {v w : BuilderState} (r : Read) → w ≡ appended v r → Leaves v w
 leaves_gained r e = record { extra = r; gained = e }
-
-function_not_single : shape.Function ≡ shape.Single → ⊥
-function_not_single e = cc
-
-function_not_initialized : shape.Function ≡ shape.Initialized → ⊥
-function_not_initialized e = cc
-
-function_not_listed : shape.Function ≡ shape.Listed → ⊥
-function_not_listed e = cc
-
--- a member that is no function with its body
-pub no_body_by : (s : Source) (a : ℕ) (m : MemberShape) → ((m ≡ shape.Single) ⊎ ((m ≡ shape.Initialized) ⊎ (m ≡ shape.Listed))) → OneShape s a m
-    → NoneOf s with_function_body a
-no_body_by s a shape.Single e h = h.2
-no_body_by s a shape.Initialized e h = h.2
-no_body_by s a shape.Listed e h = h.2
-no_body_by s a shape.Function (inl e) h = absurd (function_not_single e)
-no_body_by s a shape.Function (inr (inl e)) h = absurd (function_not_initialized e)
-no_body_by s a shape.Function (inr (inr e)) h = absurd (function_not_listed e)

@@ -1,44 +1,33 @@
 -- What a member can be whose type begins at an index, by what stands behind its first declarator. Below, m is the index behind
 -- the longest declarator, and e that behind the longest initializer, if = stands at m.
-use Rattle.std.proofs.Common.{◌≡◌, ℕ, zero, suc, ◌+◌, inl, inr, nat_eq, true, false, not, ◌&&◌, refl, sym as back, ◌∙◌, ap, subst, arith, Option, None}
+use Rattle.std.proofs.Common.{◌≡◌, ℕ, zero, suc, ◌+◌, inl, inr, ◌<◌, nat_eq, true, false, not, ◌&&◌, refl, sym as back, ◌∙◌, ap, subst, arith, length, Option, None}
 use Rattle.std.proofs.Common.{true≢false}
 use Rattle.std.proofs.lemmas.Bool.{not-true, and_from, and_parts, cases_Bool}
 use Rattle.cpp_syntax.specs.declared.terminal.Terminal.{Terminal}
 use Rattle.cpp_syntax.specs.Source.{Source, terminal_at}
 use Rattle.cpp_ast.specs.declared.kinds.NodeKind.TheVariants.{EqualInitializer}
-use Rattle.cpp_syntax.specs.Terminals.{is_zero, is_integer, semicolon, comma, equal, open_paren}
+use Rattle.cpp_syntax.specs.Terminals.{level_of, is_zero, is_integer, semicolon, comma, equal, open_paren}
 use Rattle.cpp_syntax.specs.Types.{is_not_zero}
 use Rattle.cpp_syntax.specs.Rules.{Nonterminal, cast_expression, binary_expression, assignment_expression, compound_statement, a_cast, Rule, word, ◌·◌, form}
 use Rattle.cpp_syntax.specs.Rules.{node, where_, optional}
 use Rattle.cpp_syntax.specs.Grammar.{virt_specifiers}
-use Rattle.cpp_syntax.specs.Derivations.{Read, no_read, kept_apart, Derives, is_nothing, is_word, is_mark, is_both, is_left, is_right, is_last, is_form}
-use Rattle.cpp_syntax.specs.Derivations.{is_node, is_where, is_unless}
+use Rattle.cpp_syntax.specs.Derivations.{Read, no_read, kept_apart, Derives, is_nothing, is_word, is_mark, is_both, is_left, is_right, is_node, is_where}
+use Rattle.cpp_syntax.specs.Longest.{LongestMatch}
 use Rattle.cpp_syntax.specs.Lookahead.{lookahead}
 use Rattle.cpp_syntax.specs.Parsed.{NoneOf}
 use Rattle.cpp_syntax.proofs.TerminalTables.{at_each, implies, implied}
 use Rattle.cpp_syntax.proofs.DisjointFirstSets.{never_both}
 use Rattle.cpp_syntax.proofs.FirstTerminals.{not_empty}
 use Rattle.cpp_syntax.proofs.DeclaratorForms.{differ}
-use Rattle.cpp_syntax.proofs.LongestMatches.{carry, seq, seq_none, seq_ends, taken, mark_long, node_long, word_none, mark_none, node_none, where_refused}
+use Rattle.cpp_syntax.proofs.LongestMatches.{carry, seq, seq_none, seq_ends, left, left_out, taken, mark_long, node_long, form_long, unless_long, word_none}
+use Rattle.cpp_syntax.proofs.LongestMatches.{mark_none, node_none, where_refused}
+use Rattle.cpp_syntax.proofs.OperatorLevels.{levels_apart, operated_none}
 use Rattle.cpp_parse_expr.proofs.ReaderAnswers.{none_unlike, none_second_mark}
-use Rattle.cpp_parse.specs.Alternatives.{types, named_declarator, single, initialized, listed, with_function_body, more_members, pure_specifier, value}
-use Rattle.cpp_parse.specs.Alternatives.{value_but_zero}
+use Rattle.cpp_parse.specs.Alternatives.{types, named_declarator, single, initialized, listed, with_function_body, pure_specifier}
 use Rattle.cpp_parse.specs.Answers.{Reaches}
+use Rattle.cpp_parse.specs.MemberHeads.{rest_single, rest_initialized, rest_listed, rest_function}
 use Rattle.cpp_parse.proofs.LongestAlone.{none_reached, none_skipped, many_none}
 use Rattle.cpp_parse.proofs.NamedDeclarators.{none_formed, none_member, none_grouped}
-
--- what stands behind the declarator of one member, and of the first of several
-abbrev pub rest_single : Rule
-rest_single = (virt_specifiers · optional pure_specifier) · word semicolon
-
-abbrev pub rest_initialized : Rule
-rest_initialized = node EqualInitializer value_but_zero · word semicolon
-
-abbrev pub rest_listed : Rule
-rest_listed = optional (node EqualInitializer value) · more_members · word semicolon
-
-abbrev pub rest_function : Rule
-rest_function = virt_specifiers · form compound_statement
 
 pub no_single : {s : Source} {a h m : ℕ} → Reaches s types a h → Reaches s named_declarator h m → NoneOf s rest_single m → NoneOf s single a
 no_single x y n = none_reached x (none_formed (none_member y n refl refl refl refl) refl) refl refl refl
@@ -53,41 +42,48 @@ pub no_function_body : {s : Source} {a h m : ℕ} → Reaches s types a h → Re
     → NoneOf s with_function_body a
 no_function_body x y n = none_reached x (none_reached y n refl refl refl) refl refl refl
 
--- 0 is an expression.
+-- 0 before ; is an expression, and the longest there.
 
 record ZeroText (s : Source) (f : Nonterminal) (a : ℕ) : Type 0 where
   got : Read
-  text : Derives (lookahead s) kept_apart s (form f) no_read a (a + 1) None got
+  long : LongestMatch (lookahead s) kept_apart s (form f) no_read a (a + 1) None got
 
 zero_is_integer : (z : Terminal) → is_zero z ≡ true → is_integer z ≡ true
 zero_is_integer z t = implied (is_zero z) (is_integer z) (at_each (λ y. implies (is_zero y) (is_integer y)) refl z) t
 
-zero_cast : (s : Source) (a : ℕ) → is_zero (terminal_at s a) ≡ true → ZeroText s cast_expression a
-zero_cast s a t = record {
-  got = _;
-  text = is_form (is_left (is_unless no_cast (is_form (is_left
-      (is_form (is_both (is_form (is_left (is_left (is_node (is_mark (zero_is_integer (terminal_at s a) t) refl refl refl) refl refl))) refl refl)
-      (is_last refl refl refl) refl) refl refl))
-      refl refl))) refl refl;
-}
-  where
-    no_cast : lookahead s a_cast a → ⊥
-    no_cast h = differ is_zero open_paren refl (terminal_at s a) t (h.1).opened
+no_operator : (z : Terminal) (n : ℕ) → semicolon z ≡ true → level_of z ≡ n + 1 → ⊥
+no_operator z n t e =
+    let i = implied (semicolon z) (nat_eq (level_of z) 0) (at_each (λ y. implies (semicolon y) (nat_eq (level_of y) 0)) refl z) t in
+    absurd (grind (arith, i, e))
 
-zero_binary : (s : Source) (a n : ℕ) → is_zero (terminal_at s a) ≡ true → ZeroText s (binary_expression n) a
-zero_binary s a zero t = record { got = _; text = is_form (zero_cast s a t).text refl refl }
-zero_binary s a (suc n) t = record { got = _; text = is_form (is_both (zero_binary s a n t).text (is_last refl refl refl) refl) refl refl }
+module _ (s : Source) (a : ℕ) (t : is_zero (terminal_at s a) ≡ true) (u : semicolon (terminal_at s (a + 1)) ≡ true) where
+  no_cast : lookahead s a_cast a → ⊥
+  no_cast h = differ is_zero open_paren refl (terminal_at s a) t (h.1).opened
 
-zero_text : (s : Source) (a : ℕ) → is_zero (terminal_at s a) ≡ true → ZeroText s assignment_expression a
-zero_text s a t = record { got = _; text = is_form (is_left (is_both (zero_binary s a 10 t).text (is_right (is_nothing refl refl refl)) refl)) refl refl }
+  zero_cast : ZeroText s cast_expression a
+  zero_cast = record {
+    got = _;
+    long = form_long (left (unless_long no_cast (form_long (left
+        (form_long (seq (form_long (left (left (node_long (mark_long (zero_is_integer (terminal_at s a) t))) (none_unlike is_zero t refl refl))
+        (none_unlike is_zero t refl refl))) (many_none (none_unlike semicolon u refl refl)) refl))
+        (none_unlike is_zero t refl refl)))) (none_unlike is_zero t refl refl));
+  }
 
--- 0 before ; is all of an initializer
-zero_ends : (s : Source) (a e : ℕ) → Reaches s (form assignment_expression) a e → is_zero (terminal_at s a) ≡ true
-    → semicolon (terminal_at s (a + 1)) ≡ true → e ≡ a + 1
-zero_ends s a e x t u = let z = zero_text s a t in elim ((x.long).longest (a + 1) None z.got z.text) [
-  | inl h ↦ absurd (never_both (lookahead s) s (form assignment_expression) (word semicolon) (a + 1) refl h.1 (λ seen w. u))
-  | inr h ↦ back h.0
-]
+  zero_binary : (n : ℕ) → ZeroText s (binary_expression n) a
+  zero_binary zero = record { got = _; long = form_long zero_cast.long }
+  zero_binary (suc n) = record {
+    got = _;
+    long = form_long (seq (zero_binary n).long (many_none (operated_none (no_operator (terminal_at s (a + 1)) n u))) (levels_apart n));
+  }
+
+  zero_text : ZeroText s assignment_expression a
+  zero_text = record {
+    got = _;
+    long = form_long (left (seq (zero_binary 10).long (left_out (none_unlike semicolon u refl refl)) refl) (none_unlike is_zero t refl refl));
+  }
+
+  zero_reached : a < length s.terminals → Reaches s (form assignment_expression) a (a + 1)
+  zero_reached i = record { marked = None; got = zero_text.got; long = zero_text.long; inside = omega (arith, i) }
 
 -- Behind = .
 
@@ -122,15 +118,14 @@ not_closed x f b k o u = true≢false (back (initializer_closed x u).0 ∙ f)
 zero_refused : (s : Source) (a e : ℕ) → is_zero (terminal_at s a) ≡ true → e ≡ a + 1 → is_not_zero s a e ≡ false
 zero_refused s a e t h = ap not (and_from (is_zero (terminal_at s a)) (nat_eq e (a + 1)) t (grind (arith, h)))
 
-pub zero_alone : {s : Source} {m e : ℕ} → Reaches s (form assignment_expression) (m + 1) e → is_zero (terminal_at s (m + 1)) ≡ true
-    → semicolon (terminal_at s (m + 1 + 1)) ≡ true → NoneOf s rest_initialized m
-zero_alone {s = s} {m = m} {e = e} x t u b k o v = true≢false (back (initializer_closed x v).1 ∙ zero_refused s (m + 1) e t (zero_ends s (m + 1) e x t u))
+-- 0 before ; makes a function pure
+pub zero_alone : {s : Source} {m : ℕ} → is_zero (terminal_at s (m + 1)) ≡ true → semicolon (terminal_at s (m + 1 + 1)) ≡ true
+    → m + 1 < length s.terminals → NoneOf s rest_initialized m
+zero_alone {s = s} {m = m} t u i b k o v =
+    true≢false (back (initializer_closed (zero_reached s (m + 1) t u i) v).1 ∙ zero_refused s (m + 1) (m + 1 + 1) t refl)
 
--- , behind an initializer is not ; behind 0
-pub comma_behind : {s : Source} (m : ℕ) {e : ℕ} → Reaches s (form assignment_expression) (m + 1) e → comma (terminal_at s e) ≡ true
-    → is_zero (terminal_at s (m + 1)) ≡ true → semicolon (terminal_at s (m + 1 + 1)) ≡ true → ⊥
-comma_behind {s = s} m {e = e} x c t u =
-    differ comma semicolon refl (terminal_at s e) c (subst (λ (n : ℕ). semicolon (terminal_at s n) ≡ true) (back (zero_ends s (m + 1) e x t u)) u)
+semicolon_no_comma : (z : Terminal) → semicolon z ≡ true → comma z ≡ false
+semicolon_no_comma z t = not-true (comma z) (implied (semicolon z) (not (comma z)) (at_each (λ y. implies (semicolon y) (not (comma y))) refl z) t)
 
 pub comma_open : (z : Terminal) → comma z ≡ true → semicolon z ≡ false
 comma_open z t = not-true (semicolon z) (implied (comma z) (not (semicolon z)) (at_each (λ y. implies (comma y) (not (semicolon y))) refl z) t)
@@ -138,6 +133,10 @@ comma_open z t = not-true (semicolon z) (implied (comma z) (not (semicolon z)) (
 pub no_more : {s : Source} {m e : ℕ} → equal (terminal_at s m) ≡ true → Reaches s (form assignment_expression) (m + 1) e
     → comma (terminal_at s e) ≡ false → NoneOf s rest_listed m
 no_more t x f = seq_ends (taken (node_long (seq (mark_long t) x.long refl)) refl) (seq_none (seq_none (seq_none (word_none f)))) refl refl
+
+pub zero_unlisted : {s : Source} {m : ℕ} → equal (terminal_at s m) ≡ true → is_zero (terminal_at s (m + 1)) ≡ true
+    → semicolon (terminal_at s (m + 1 + 1)) ≡ true → m + 1 < length s.terminals → NoneOf s rest_listed m
+zero_unlisted {s = s} {m = m} e t u i = no_more e (zero_reached s (m + 1) t u i) (semicolon_no_comma (terminal_at s (m + 1 + 1)) u)
 
 -- no initializer stands behind =
 pub no_value : {s : Source} {m : ℕ} → equal (terminal_at s m) ≡ true → NoneOf s (form assignment_expression) (m + 1) → NoneOf s rest_listed m

@@ -20,15 +20,15 @@ use Rattle.cpp_syntax.specs.Rules.{form, translation_unit}
 use Rattle.cpp_syntax.specs.Derivations.{Body, no_read, kept_apart}
 use Rattle.cpp_syntax.specs.Lookahead.{lookahead, IsUnit}
 use Rattle.cpp_syntax.specs.Longest.{LongestMatch}
-use Rattle.cpp_syntax.specs.Parsed.{ReadsLongest}
-use Rattle.cpp_syntax.specs.View.{BuilderState, builder_state, body_of, BuiltTrees}
+use Rattle.cpp_syntax.specs.Parsed.{NoneOf}
+use Rattle.cpp_syntax.specs.View.{body_of}
 use Rattle.cpp_syntax.specs.WithBodies.{Filled, Wholes}
-use Rattle.cpp_syntax.proofs.LambdaBodies.{bodies_in}
+use Rattle.cpp_syntax.proofs.LambdaBodies.{bodies_in, bodies_apart}
 use Rattle.cpp_syntax.proofs.UnitBodies.{wholes_have, unit_of, unit_only, no_unit_ends, no_unit_broken}
 use Rattle.cpp_parse_expr.specs.Depths.{HoldLower, deep_kid}
 use Rattle.cpp_parse_expr.proofs.FirstTooDeep.{none_low, some_high}
-use Rattle.cpp_parse_expr.proofs.DepthPaths.{held}
-use Rattle.cpp_parse_expr.proofs.ParseAnswers.{base_kept, grown_from}
+use Rattle.cpp_parse_expr.proofs.NodeIds.{held}
+use Rattle.cpp_parse_expr.specs.Parse.{IsFound}
 use Rattle.cpp_parse_expr.proofs.NodePositions.{IsPositioned, IsPosition, text_positioned, deep_position}
 use Rattle.cpp_parse.specs.declared.parse.Whole.{Whole as WholeRecord}
 use Rattle.cpp_parse.specs.NotedBodies.{lams_noted, roots_noted, one_from, is_lambda_node, is_lambda_at, AreNoted, AreWithin, IsOnceEach}
@@ -37,33 +37,34 @@ use Rattle.cpp_parse.specs.Steps.{AreDeclarations, HasNoUnit, UnitIn, IsWholeRea
 use Rattle.cpp_parse.specs.Units.{deepest_allowed, IsUnitTooDeep, IsNoUnit}
 use Rattle.cpp_parse.proofs.BodyPositions.{text_inside}
 use Rattle.cpp_parse.proofs.JoinedBodies.{grown_long, held_both, one_split, lambda_split, lambdas_new, lower_before}
-use Rattle.cpp_parse.proofs.BodyReaders.{got_trees, got_bodies}
 use Rattle.cpp_parse.proofs.TreesWithBodies.{filled_shown}
 
 -- The declarations.
-module _ (source : Source) (next : ℕ) (built new : BuilderState) (grown : List Node) (roots : List NodeId) (inner : List OpenBody)
-    (reads : ReadsLongest source (form translation_unit) 0 next None built new) where
-  pub are_declarations : (old : List Node) → next ≡ length source.terminals → built.read ≡ no_read
-      → new ≡ builder_state (length new.base) grown roots inner → built.base ≡ old → Extends new.base grown
-      → BuiltTrees (length new.base) grown roots inner → AreDeclarations source old grown roots inner
-  are_declarations old ends empty parts base x shown =
-      let kept : new.base ≡ old = base_kept built new reads.got old base reads.gained in
-      let bodies = got_bodies source translation_unit 0 next built new grown roots inner empty reads parts in
-      record {
-        got = reads.got;
-        whole = subst (λ (b : ℕ). LongestMatch (lookahead source) kept_apart source (form translation_unit) no_read 0 b None reads.got) ends reads.long;
-        grown = grown_from built new old grown kept x;
-        shown = subst (λ (ns : List Node). BuiltTrees (length ns) grown roots inner) kept shown;
-        trees = got_trees source translation_unit 0 next built new grown roots inner empty reads parts;
-        bodies = bodies;
-        inside = text_inside (length source.terminals) grown inner reads.long.derives reads.inside bodies;
-      }
+module _ (source : Source) (next : ℕ) (old grown : List Node) (roots : List NodeId) (inner : List OpenBody)
+    (r : IsFound source (form translation_unit) 0 next old grown roots inner) where
+  pub are_declarations : next ≡ length source.terminals → AreDeclarations source old grown roots inner
+  are_declarations ends = record {
+    got = r.got;
+    whole = subst (λ (b : ℕ). LongestMatch (lookahead source) kept_apart source (form translation_unit) no_read 0 b None r.got) ends r.long;
+    grown = r.grown;
+    shown = r.shown;
+    trees = r.trees;
+    bodies = r.bodies;
+    inside = text_inside (length source.terminals) grown inner r.long.derives r.inside r.bodies;
+  }
 
   pub ends_before : (token : ℕ) → (next ≡ length source.terminals → ⊥) → token ≤ length source.terminals → HasNoUnit source token
   ends_before token other within = record {
-    nothing = no_unit_ends reads.long (let inside = reads.inside in omega (arith, inside, other));
+    nothing = no_unit_ends r.long (let inside = r.inside in omega (arith, inside, other));
     inside = within;
   }
+
+-- no declarations at all
+pub none_begins : (source : Source) (token : ℕ) → NoneOf source (form translation_unit) 0 → token ≤ length source.terminals → HasNoUnit source token
+none_begins source token nothing within = record {
+  nothing = λ decls u. let z = bodies_apart u in nothing (length source.terminals) None z.after z.text;
+  inside = within;
+}
 
 at_most : (own : Bool) (n m : ℕ) → n ≤ (if own then m else 0) → m ≤ 1 → n ≤ (if own then 1 else 0)
 at_most true n m h k = omega (arith, h, k)

@@ -12,13 +12,11 @@ use Rattle.cpp_syntax.specs.Lookahead.{lookahead}
 use Rattle.cpp_syntax.specs.Longest.{LongestMatch}
 use Rattle.cpp_syntax.specs.View.{BuilderState}
 use Rattle.cpp_syntax.specs.Parsed.{Leaves, NoneOf}
-use Rattle.cpp_parse.specs.Alternatives.{object_declaration, function_definition, constructor_definition, destructor_definition, single, initialized, listed}
-use Rattle.cpp_parse.specs.Alternatives.{with_function_body, named_declarator, single_declaration, initialized_declaration, listed_declaration}
+use Rattle.cpp_parse.specs.Alternatives.{object_declaration, function_definition, constructor_definition, destructor_definition}
+use Rattle.cpp_parse.specs.Alternatives.{named_declarator, single_declaration, initialized_declaration, listed_declaration}
 use Rattle.cpp_parse.specs.Alternatives.{member_function, constructor_declared, constructor_defined, destructor_declared, destructor_defined}
 use Rattle.cpp_parse.specs.declared.functions.Definition.{Definition}
 use Rattle.cpp_parse.specs.declared.functions.Definition.TheVariants as definition
-use Rattle.cpp_parse.specs.declared.members.MemberShape.{MemberShape}
-use Rattle.cpp_parse.specs.declared.members.MemberShape.TheVariants as shape
 
 -- The longest text of a rule stands between two indices, whatever it reads.
 pub record Reaches (source : Source) (p : Rule) (from next : ℕ) : Type 0 where
@@ -58,17 +56,6 @@ OneDefinition source at definition.OfConstructor =
     NoneOf source object_declaration at × NoneOf source function_definition at × NoneOf source destructor_definition at
 OneDefinition source at definition.OfDestructor =
     NoneOf source object_declaration at × NoneOf source function_definition at × NoneOf source constructor_definition at
-
--- What a member can be whose type stands at an index, since it is none of the others.
-abbrev pub OneShape : Source → ℕ → MemberShape → Type 0
-OneShape source at shape.Function = NoneOf source single at × NoneOf source initialized at × NoneOf source listed at
-OneShape source at shape.Single = NoneOf source initialized at × NoneOf source listed at × NoneOf source with_function_body at
-OneShape source at shape.Initialized = NoneOf source single at × NoneOf source listed at × NoneOf source with_function_body at
-OneShape source at shape.Listed = NoneOf source single at × NoneOf source initialized at × NoneOf source with_function_body at
-
-abbrev pub ShapeFound : Source → ℕ → BuilderState → BuilderState → Result MemberShape AllocError → Type 0
-ShapeFound source at old new (Ok s) = Leaves old new × OneShape source at s
-ShapeFound source at old new (Err e) = Leaves old new
 
 -- Whether extern and a string stand at an index, or not.
 abbrev pub LinkageSeen : Source → ℕ → Bool → Type 0

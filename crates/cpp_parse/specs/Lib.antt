@@ -5,3 +5,4 @@ pub mod Lines
 pub mod Units
 pub mod Alternatives
 pub mod Answers
+pub mod MemberHeads

@@ -1,10 +1,10 @@
 -- Bodies that are noted for lambdas.
-use Rattle.std.specs.Prelude.{◌≡◌, ℕ, ◌<◌, ◌≤◌, nat_eq, nat_le, nat_lt, ◌&&◌, Bool, false, if◌then◌else◌, List, [], ◌∷◌, ◌++◌, map, count_by, slice_get}
+use Rattle.std.specs.Prelude.{◌≡◌, ℕ, ◌<◌, ◌≤◌, nat_eq, nat_le, nat_lt, ◌&&◌, Bool, false, if◌then◌else◌, List, [], ◌∷◌, map, count_by, slice_get}
 use Rattle.std.specs.Prelude.{Option, Some, None}
 use Rattle.cpp_ast.specs.declared.arena.Node.{Node}
 use Rattle.cpp_ast.specs.declared.arena.NodeId.{NodeId}
 use Rattle.cpp_ast.specs.declared.units.LamBody.{LamBody}
-use Rattle.cpp_ast.specs.Trees.{Tree, ShowsWith, kids_with}
+use Rattle.cpp_ast.specs.Trees.{Tree, ShowsWith}
 use Rattle.cpp_ast.specs.Units.{times_in}
 use Rattle.cpp_syntax.specs.View.{is_lambda}
 
@@ -54,8 +54,6 @@ BodiesShow bodies nodes (lam ∷ lams) [] = ⊥
 BodiesShow bodies nodes (lam ∷ lams) (tree ∷ trees) =
     (root : NodeId) × Among (noted_for lam root) bodies × ShowsWith bodies nodes root.0 tree × BodiesShow bodies nodes lams trees
 
--- The table of bodies by nodes.
-
 -- the lambdas and the bodies stand below an index
 abbrev pub AreWithin : ℕ → List LamBody → Type 0
 AreWithin most bodies = (k : ℕ) (body : LamBody) → slice_get bodies k ≡ Some body → (body.lam.0 < most) × (body.body.0 < most)
@@ -63,16 +61,3 @@ AreWithin most bodies = (k : ℕ) (body : LamBody) → slice_get bodies k ≡ So
 -- no lambda has two bodies
 pub record IsOnceEach (bodies : List LamBody) : Type 0 where
   pub each : (id : ℕ) → times_in id (lams_noted bodies) ≤ 1
-
--- the bodies in a table stand below an index
-abbrev pub HaveNodes : ℕ → List (Option NodeId) → Type 0
-HaveNodes most noted = (k : ℕ) (body : NodeId) → slice_get noted k ≡ Some (Some body) → body.0 < most
-
-abbrev pub at_most_one : Option (Option NodeId) → List NodeId
-at_most_one None = []
-at_most_one (Some None) = []
-at_most_one (Some (Some id)) = id ∷ []
-
--- a table holds for each node the body that is noted for it
-pub record IsNotedIn (bodies : List LamBody) (noted : List (Option NodeId)) : Type 0 where
-  pub each : (kids : List NodeId) (id : ℕ) → kids_with kids bodies id ≡ kids ++ at_most_one (slice_get noted id)

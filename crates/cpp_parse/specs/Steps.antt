@@ -16,8 +16,8 @@ use Rattle.cpp_syntax.specs.View.{BuiltTrees, body_of, trees_at}
 use Rattle.cpp_parse.specs.declared.parse.Declarations.{Declarations}
 use Rattle.cpp_parse.specs.declared.parse.Declarations.TheVariants as declarations
 use Rattle.cpp_parse.specs.declared.parse.Whole.{Whole}
-use Rattle.cpp_parse.specs.declared.parse.Reading.{Reading}
-use Rattle.cpp_parse.specs.declared.parse.Reading.TheVariants as reading
+use Rattle.cpp_parse.specs.declared.parse.UnitReading.{UnitReading}
+use Rattle.cpp_parse.specs.declared.parse.UnitReading.TheVariants as reading
 use Rattle.cpp_parse.specs.declared.parse.Answer.{Answer}
 use Rattle.cpp_parse.specs.declared.parse.Answer.TheVariants as answer
 use Rattle.cpp_parse.specs.NotedBodies.{AreNoted, roots_noted, one_from}
@@ -57,7 +57,7 @@ pub record IsWholeRead (source : Source) (whole : Whole) : Type 0 where
   pub only : (other : Trees) → IsUnit source other → other ≡ decls
   pub known : UnitIn whole.nodes whole.decls.items whole.bodies.items decls
 
-abbrev pub ReadsWhole : Source → Result Reading AllocError → Type 0
+abbrev pub ReadsWhole : Source → Result UnitReading AllocError → Type 0
 ReadsWhole source (Ok (reading.Read whole)) = IsWholeRead source whole
 ReadsWhole source (Ok (reading.Refused token)) = HasNoUnit source token
 ReadsWhole source (Err e) = Unit {0}

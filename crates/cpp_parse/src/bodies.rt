@@ -1,13 +1,16 @@
 //! Bodies of lambdas: C++14 5.1.2. A lambda is read without its body, and each body is read alone.
 
-ghost use Rattle.std.specs.Prelude.{length};
+ghost use Rattle.std.specs.Prelude.{◌≡◌, length, IfOk};
+ghost use Rattle.cpp_parse_expr.specs.Depths.{HaveNodes, IsNotedIn};
+ghost use Rattle.cpp_parse.specs.NotedBodies.{AreWithin, IsOnceEach};
 ghost use Rattle.cpp_parse.specs.Bodies.{AreInside, IsInside, ReadsBodies, ReadsBody, ReadsBlock};
 
 use crate::statements::compound_statement;
 use cpp_ast::{LamBody, NodeId, Nodes};
+use cpp_parse_expr::parse::{Found, Reading, take_reading};
 use cpp_syntax::limits::MAX_NESTED_CALLS;
 use cpp_syntax::shapes::descend;
-use cpp_syntax::{Builder, OpenBody, Parts, TypeNames};
+use cpp_syntax::{Builder, OpenBody, TypeNames};
 use std::alloc::{AllocError, Global};
 use std::mem;
 
@@ -77,29 +80,42 @@ fn read_block(
     requires { IsInside (length types.now.terminals) body }
     ensures { ReadsBlock types.now body nodes.old nodes.new result }
 {
-    let len = types.len();
     let start = (body.from - 1) as usize;
     let mut out = Builder::over(alloc, mem::replace(nodes, Nodes::new(alloc)));
     let read = compound_statement(types, start, MAX_NESTED_CALLS, &mut out);
-    let token = out.furthest_failure().max(start).min(len) as u32;
-    let Parts {
-        nodes: grown,
-        roots,
-        bodies,
-    } = out.into_parts();
-    *nodes = grown;
-    match read {
-        Ok(Some(next)) => {
-            if next == body.to as usize + 1 {
-                Ok(Block::Read {
-                    root: roots[0],
-                    bodies,
-                })
-            } else {
-                Ok(Block::Refused { token })
-            }
-        }
-        Ok(None) => Ok(Block::Refused { token }),
-        Err(error) => Err(error),
+    let Reading { found, token } = take_reading(types, start, read, out, nodes)?;
+    let Some(
+        Found {
+            roots,
+            next,
+            bodies,
+        },
+    ) = found
+    else {
+        return Ok(Block::Refused { token });
+    };
+    if next as usize != body.to as usize + 1 {
+        return Ok(Block::Refused { token });
     }
+    let root = roots[0];
+    Ok(Block::Read { root, bodies })
+}
+
+/// The body of each node, by the index of the node.
+pub fn bodies_by_node(
+    alloc: Global,
+    nodes: &Nodes,
+    bodies: &[LamBody],
+) -> Result<Vec<Option<NodeId>>, AllocError>
+    requires within { AreWithin (length nodes.now) bodies.now }
+    requires once { IsOnceEach bodies.now }
+    ensures noted { IfOk result (λ noted. IsNotedIn bodies.now noted.items) }
+    ensures long { IfOk result (λ noted. length noted.items ≡ length nodes.now) }
+    ensures there { IfOk result (λ noted. HaveNodes (length nodes.now) noted.items) }
+{
+    let mut noted: Vec<Option<NodeId>> = vec![in alloc; None; nodes.len() as usize]?;
+    'bodies: for body in bodies {
+        noted[body.lam.0 as usize] = Some(body.body);
+    }
+    Ok(noted)
 }

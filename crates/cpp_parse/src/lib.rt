@@ -25,7 +25,6 @@ mod bodies;
 mod classes;
 mod constructors;
 pub mod declarations;
-mod depth;
 mod functions;
 pub mod initializers;
 mod loops;

@@ -1,44 +1,31 @@
 //! Members of a class: C++14 clause 9.
 
-ghost use Rattle.std.specs.Prelude.{◌≡◌, ◌≤◌, true, false, length, Some, None};
+ghost use Rattle.std.specs.Prelude.{◌≡◌, ◌≤◌, true, length, Some, None};
 ghost use Rattle.cpp_syntax.specs.Source.{terminal_at};
 ghost use Rattle.cpp_syntax.specs.FirstSets.{first_of_types};
 ghost use Rattle.cpp_syntax.specs.Rules.{◌∣◌, form, member_declaration};
-ghost use Rattle.cpp_syntax.specs.Parsed.{ParsesLongest, NoneOf};
+ghost use Rattle.cpp_syntax.specs.Parsed.{ParsesLongest};
 ghost use Rattle.cpp_parse.specs.Alternatives.{access_label, single_declaration, initialized_declaration, listed_declaration, member_function};
 ghost use Rattle.cpp_parse.specs.Alternatives.{constructor_declared, constructor_defined, destructor_declared, destructor_defined};
-ghost use Rattle.cpp_parse.specs.Answers.{ShapeFound, IsConstructor, IsDestructor, ParametersSeen};
+ghost use Rattle.cpp_parse.specs.Answers.{IsConstructor, IsDestructor, ParametersSeen};
 
 use crate::constructors::{constructor_body, plain_constructor, plain_destructor};
 use crate::single_members::{
-    initialized_declaration, listed_declaration, member_function, semicolon_end, single_declaration,
+    MemberHead, begins_values, data_members, function_or_single, inline_function, note_values,
+    semicolon_end,
 };
 use crate::specifiers::{
-    attribute_end, node_from, optional_attribute, optional_explicit, optional_virtual,
-    virt_specifiers,
+    attribute_end, declared_token, node_from, optional_attribute, optional_explicit,
+    optional_virtual, virt_specifiers,
 };
 use crate::statements::compound_statement;
 use crate::terminals::{begins_type_at, is_access_at};
 use cpp_ast::NodeKind;
 use cpp_parse_expr::declarators::declarator;
-use cpp_parse_expr::expressions::assignment_expression;
 use cpp_parse_expr::types::type_specifier_seq;
 use cpp_syntax::read::node;
 use cpp_syntax::{Builder, Naming, Terminal, TypeNames};
 use std::alloc::AllocError;
-
-/// What a member is that begins with its type.
-#[derive(Clone, Copy, Debug, PartialEq, Eq)]
-pub enum MemberShape {
-    /// A function with its body.
-    Function,
-    /// One member, which may be a pure function.
-    Single,
-    /// One member with an initializer.
-    Initialized,
-    /// Several members.
-    Listed,
-}
 
 /// A member of a class.
 pub fn member_declaration(
@@ -187,14 +174,26 @@ fn typed_member(
     ensures { ParsesLongest text.now (single_declaration ∣ initialized_declaration ∣ listed_declaration ∣ member_function) at None out.old out.new result }
 {
     let start = out.checkpoint();
-    let shape = member_shape(text, at, depth_left, out)?;
-    out.cut(start);
-    match shape {
-        MemberShape::Function => member_function(text, at, depth_left, out),
-        MemberShape::Single => single_declaration(text, at, depth_left, out),
-        MemberShape::Initialized => initialized_declaration(text, at, depth_left, out),
-        MemberShape::Listed => listed_declaration(text, at, depth_left, out),
+    let Some(named) = type_specifier_seq(text, at, depth_left, out)? else {
+        return Ok(None);
+    };
+    let first = out.checkpoint();
+    let Some(behind) = declarator(text, named, Naming::Named, depth_left, out)? else {
+        return Ok(None);
+    };
+    let name = declared_token(first, out);
+    let head = MemberHead {
+        at,
+        start,
+        named,
+        first,
+        name,
+        behind,
+    };
+    if begins_values(text, behind) {
+        return data_members(text, head, depth_left, out);
     }
+    function_or_single(text, head, depth_left, out)
 }
 
 /// A member before whose type an attribute, `virtual` or `inline` stands.
@@ -208,60 +207,27 @@ fn specified_member(
     ensures { ParsesLongest text.now (single_declaration ∣ member_function) at None out.old out.new result }
 {
     let start = out.checkpoint();
-    let behind = optional_attribute(text, at, out)?;
-    let typed = optional_virtual(text, behind, out)?;
+    let after = optional_attribute(text, at, out)?;
+    let typed = optional_virtual(text, after, out)?;
     if text.is_at(typed, Terminal::Inline) {
-        out.cut(start);
-        return member_function(text, at, depth_left, out);
+        return inline_function(text, at, start, typed, depth_left, out);
     }
-    let shape = member_shape(text, typed, depth_left, out)?;
-    out.cut(start);
-    match shape {
-        MemberShape::Function => member_function(text, at, depth_left, out),
-        MemberShape::Single | MemberShape::Initialized | MemberShape::Listed => {
-            single_declaration(text, at, depth_left, out)
-        }
-    }
-}
-
-/// What a member is whose type begins at an index, by what stands behind its first declarator.
-fn member_shape(
-    text: &TypeNames,
-    at: usize,
-    depth_left: u32,
-    out: &mut Builder,
-) -> Result<MemberShape, AllocError>
-    requires here { at ≤ length text.now.terminals }
-    ensures { ShapeFound text.now at out.old out.new result }
-{
-    let Some(named) = type_specifier_seq(text, at, depth_left, out)? else {
-        return Ok(MemberShape::Single);
+    let Some(named) = type_specifier_seq(text, typed, depth_left, out)? else {
+        return Ok(None);
     };
+    let first = out.checkpoint();
     let Some(behind) = declarator(text, named, Naming::Named, depth_left, out)? else {
-        return Ok(MemberShape::Single);
+        return Ok(None);
     };
-    if text.is_at(behind, Terminal::Comma) {
-        return Ok(MemberShape::Listed);
-    }
-    if !text.is_at(behind, Terminal::Equal) {
-        let body = virt_specifiers(text, behind, out)?;
-        if text.is_at(body, Terminal::OpenBrace) {
-            return Ok(MemberShape::Function);
-        }
-        return Ok(MemberShape::Single);
-    }
-    let value = behind + 1;
-    let Some(end) = assignment_expression(text, value, depth_left, out)? else {
-        return Ok(MemberShape::Single);
+    let name = declared_token(first, out);
+    note_values(text, behind, depth_left, out)?;
+    let head = MemberHead {
+        at,
+        start,
+        named,
+        first,
+        name,
+        behind,
     };
-    if text.is_at(end, Terminal::Comma) {
-        return Ok(MemberShape::Listed);
-    }
-    if !text.is_at(value, Terminal::Zero) {
-        return Ok(MemberShape::Initialized);
-    }
-    if !text.is_at(value + 1, Terminal::Semicolon) {
-        return Ok(MemberShape::Initialized);
-    }
-    Ok(MemberShape::Single)
+    function_or_single(text, head, depth_left, out)
 }

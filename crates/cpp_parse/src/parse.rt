@@ -1,23 +1,25 @@
 //! The one call of this crate.
 
-ghost use Rattle.std.specs.Prelude.{◌≡◌, ◌≤◌, ℕ, IfOk, Err, length, map};
+ghost use Rattle.std.specs.Prelude.{◌≡◌, ◌≤◌, ℕ, IfOk, None, Err, length, map};
 ghost use Rattle.cpp_lex.specs.Tokens.{lexeme_of, lexemes_of};
 ghost use Rattle.cpp_syntax.specs.Classes.{source_of};
+ghost use Rattle.cpp_syntax.specs.Rules.{form, translation_unit};
+ghost use Rattle.cpp_syntax.specs.Parsed.{ParsesLongest};
 ghost use Rattle.cpp_parse.specs.Units.{ParsesUnit};
 ghost use Rattle.cpp_parse.specs.Steps.{ReadsDeclarations, ReadsWhole, AnswersUnit, IsWholeRead};
 ghost use Rattle.cpp_syntax.specs.declared.limits.TheConstants.{MAX_TOKENS};
 
-use crate::bodies::read_bodies;
+use crate::bodies::{bodies_by_node, read_bodies};
 use crate::declarations::translation_unit;
-use crate::depth::{bodies_by_node, first_deep_kid};
 use crate::statements::compound_statement;
 use cpp_ast::{LamBody, NodeId, Nodes, Unit};
 use cpp_lex::{Token, Tokens};
 use cpp_nests::first_nested;
 use cpp_parse_expr::ParseFault;
-use cpp_parse_expr::parse::token_at;
+use cpp_parse_expr::depth::first_deep_kid;
+use cpp_parse_expr::parse::{Found, Reading, take_reading, token_at};
 use cpp_syntax::limits::{MAX_DEPTH, MAX_NESTED_BODIES, MAX_NESTED_CALLS, MAX_NESTED_SEARCHES};
-use cpp_syntax::{Builder, OpenBody, Parts, Terminal, TypeNames};
+use cpp_syntax::{Builder, OpenBody, Terminal, TypeNames};
 use std::alloc::{AllocError, Global};
 use std::mem;
 
@@ -45,7 +47,7 @@ struct Whole {
 
 /// What all tokens were read as.
 #[derive(Drop)]
-enum Reading {
+enum UnitReading {
     Read(Whole),
     /// They are no unit; the token up to which they could be one.
     Refused { token: u32 },
@@ -101,13 +103,13 @@ fn answer_unit(alloc: Global, source: u32, tokens: &Tokens) -> Result<Answer, Al
 {
     let types = TypeNames::of(alloc, source, tokens)?;
     match read_whole(alloc, &types)? {
-        Reading::Read(whole) => measure(alloc, source, tokens, &types, whole),
-        Reading::Refused { token } => Ok(Answer::Refused { token }),
+        UnitReading::Read(whole) => measure(alloc, source, tokens, &types, whole),
+        UnitReading::Refused { token } => Ok(Answer::Refused { token }),
     }
 }
 
 /// Reads all tokens as declarations, and then the bodies of their lambdas.
-fn read_whole(alloc: Global, types: &TypeNames) -> Result<Reading, AllocError>
+fn read_whole(alloc: Global, types: &TypeNames) -> Result<UnitReading, AllocError>
     ensures { ReadsWhole types.now result }
 {
     let mut nodes = Nodes::new(alloc);
@@ -122,17 +124,17 @@ fn read_whole(alloc: Global, types: &TypeNames) -> Result<Reading, AllocError>
                 &mut nodes,
                 &mut noted,
             )? {
-                None => Ok(Reading::Read(Whole {
+                None => Ok(UnitReading::Read(Whole {
                     nodes,
                     decls,
                     bodies: noted,
                 })),
-                Some(token) => Ok(Reading::Refused { token }),
+                Some(token) => Ok(UnitReading::Refused { token }),
             }
         }
         Declarations::Refused { token } => {
             let token = furthest_token(alloc, types, token)?;
-            Ok(Reading::Refused { token })
+            Ok(UnitReading::Refused { token })
         }
     }
 }
@@ -180,30 +182,33 @@ fn read_declarations(
 ) -> Result<Declarations, AllocError>
     ensures { ReadsDeclarations types.now nodes.old nodes.new result }
 {
-    let len = types.len();
     let mut out = Builder::over(alloc, mem::replace(nodes, Nodes::new(alloc)));
-    let read = translation_unit(types, 0, MAX_NESTED_CALLS, &mut out);
-    let furthest_failure = out.furthest_failure();
-    let Parts {
-        nodes: grown,
-        roots,
-        bodies,
-    } = out.into_parts();
-    *nodes = grown;
-    match read {
-        Ok(next) => {
-            if next == len {
-                Ok(Declarations::Read {
-                    decls: roots,
-                    bodies,
-                })
-            } else {
-                let token = furthest_failure.max(next).min(len) as u32;
-                Ok(Declarations::Refused { token })
-            }
-        }
-        Err(error) => Err(error),
+    let read = read_unit(types, &mut out);
+    let Reading { found, token } = take_reading(types, 0, read, out, nodes)?;
+    let Some(
+        Found {
+            roots,
+            next,
+            bodies,
+        },
+    ) = found
+    else {
+        return Ok(Declarations::Refused { token });
+    };
+    if next as usize != types.len() {
+        return Ok(Declarations::Refused { token });
     }
+    Ok(Declarations::Read {
+        decls: roots,
+        bodies,
+    })
+}
+
+/// Reads declarations, as many as there are, into a builder.
+fn read_unit(types: &TypeNames, out: &mut Builder) -> Result<Option<usize>, AllocError>
+    ensures { ParsesLongest types.now (form translation_unit) 0 None out.old out.new result }
+{
+    Ok(Some(translation_unit(types, 0, MAX_NESTED_CALLS, out)?))
 }
 
 /// Answers a unit that was read, if it does not nest too deep.
@@ -219,6 +224,7 @@ fn measure(
     ensures { AnswersUnit source (lexemes_of tokens.now) result }
 {
     let noted = bodies_by_node(alloc, &whole.nodes, &whole.bodies)?;
+    let mut lambdas = Vec::new(alloc);
     if let Some(position) = first_deep_kid(
         &whole.nodes,
         &noted,
@@ -226,6 +232,7 @@ fn measure(
         1,
         MAX_DEPTH,
         MAX_NESTED_SEARCHES,
+        &mut lambdas,
     )? {
         let token = token_at(types, position);
         return Ok(Answer::TooDeep { token });

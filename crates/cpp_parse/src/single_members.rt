@@ -1,27 +1,43 @@
 //! Members that begin with their type: data members, functions and their bodies: C++14 9.2.
 
-ghost use Rattle.std.specs.Prelude.{◌≡◌, ◌≤◌, not, length, Some, None, Ok};
-ghost use Rattle.cpp_ast.specs.declared.kinds.NodeKind.TheVariants.{EqualInitializer};
+ghost use Rattle.std.specs.Prelude.{◌≡◌, ◌≤◌, ℕ, not, length, Some, None, Ok, OnOk, OnErr};
+ghost use Rattle.cpp_ast.specs.declared.kinds.NodeKind.TheVariants.{EqualInitializer, MemberDeclarator};
 ghost use Rattle.cpp_syntax.specs.Terminals.{semicolon};
-ghost use Rattle.cpp_syntax.specs.Rules.{form, node, optional, word, member_declarator, initialized_member, listed_member};
+ghost use Rattle.cpp_syntax.specs.Derivations.{Read, reads_node, positioned};
+ghost use Rattle.cpp_syntax.specs.Rules.{at_name, ◌∣◌, form, node, optional, word, listed_member};
 ghost use Rattle.cpp_syntax.specs.Types.{is_not_zero};
-ghost use Rattle.cpp_syntax.specs.View.{BuilderState};
-ghost use Rattle.cpp_syntax.specs.Parsed.{ParsesLongest, ParsesAlways};
+ghost use Rattle.cpp_syntax.specs.View.{BuilderState, appended, IsMark};
+ghost use Rattle.cpp_syntax.specs.Parsed.{ParsesLongest, ParsesAlways, ReadsLongest, Leaves};
 ghost use Rattle.cpp_parse.specs.Alternatives.{single_declaration, initialized_declaration, listed_declaration, more_members, member_function};
-ghost use Rattle.cpp_parse.specs.Alternatives.{member_function_alone, pure_specifier, value, value_but_zero};
+ghost use Rattle.cpp_parse.specs.Alternatives.{optional_attribute, optional_virtual, pure_specifier, value, value_but_zero};
+ghost use Rattle.cpp_parse.specs.MemberHeads.{IsHead, IsTyped, ValuesSeen};
 
-use crate::specifiers::{
-    declared_token, node_from, optional_attribute, optional_inline, optional_virtual,
-    virt_specifiers,
-};
+use crate::specifiers::{declared_token, node_from, optional_inline, virt_specifiers};
 use crate::statements::compound_statement;
 use cpp_ast::NodeKind;
 use cpp_parse_expr::declarators::declarator;
 use cpp_parse_expr::expressions::assignment_expression;
 use cpp_parse_expr::types::type_specifier_seq;
 use cpp_syntax::read::{leaf, node, node_at_name};
-use cpp_syntax::{Builder, Naming, Terminal, TypeNames};
+use cpp_syntax::{Builder, Checkpoint, Naming, Terminal, TypeNames};
 use std::alloc::AllocError;
+
+/// What was read of a member: what stands before its type, its type and its first declarator.
+#[derive(Clone, Copy, Debug, PartialEq, Eq)]
+pub struct MemberHead {
+    /// The index at which the member begins.
+    pub at: usize,
+    /// What was read before it.
+    pub start: Checkpoint,
+    /// The index behind its type.
+    pub named: usize,
+    /// What was read before the declarator.
+    pub first: Checkpoint,
+    /// The token of the name that the declarator declares.
+    pub name: Option<u32>,
+    /// The index behind the declarator.
+    pub behind: usize,
+}
 
 /// The index behind a semicolon, if one stands at an index.
 pub fn semicolon_end(text: &TypeNames, at: usize) -> usize
@@ -34,35 +50,21 @@ pub fn semicolon_end(text: &TypeNames, at: usize) -> usize
     at
 }
 
-/// A function with its body.
-pub fn member_function(
+/// What follows what stands before `inline` of a member that is a function with its body.
+pub fn inline_function(
     text: &TypeNames,
     at: usize,
+    start: Checkpoint,
+    changed: usize,
     depth_left: u32,
     out: &mut Builder,
 ) -> Result<Option<usize>, AllocError>
     requires here { at ≤ length text.now.terminals }
-    ensures { ParsesLongest text.now member_function at None out.old out.new result }
+    requires behind { changed ≤ length text.now.terminals }
+    ensures { (before first : BuilderState) (after : ℕ) → IsMark start before → ReadsLongest text.now optional_attribute at after None before first
+        → ReadsLongest text.now optional_virtual after changed None first out.old
+        → ParsesLongest text.now member_function at None before out.new result }
 {
-    let Some(next) = member_function_alone(text, at, depth_left, out)? else {
-        return Ok(None);
-    };
-    Ok(Some(semicolon_end(text, next)))
-}
-
-/// A function with its body, without a semicolon behind it.
-fn member_function_alone(
-    text: &TypeNames,
-    at: usize,
-    depth_left: u32,
-    out: &mut Builder,
-) -> Result<Option<usize>, AllocError>
-    requires here { at ≤ length text.now.terminals }
-    ensures { ParsesLongest text.now member_function_alone at None out.old out.new result }
-{
-    let start = out.checkpoint();
-    let behind = optional_attribute(text, at, out)?;
-    let changed = optional_virtual(text, behind, out)?;
     let typed = optional_inline(text, changed, out)?;
     let Some(named) = type_specifier_seq(text, typed, depth_left, out)? else {
         return Ok(None);
@@ -75,77 +77,128 @@ fn member_function_alone(
         return Ok(None);
     };
     node_from(text, at, NodeKind::FunctionDefinition, start, out)?;
-    Ok(Some(next))
+    Ok(Some(semicolon_end(text, next)))
 }
 
-/// One member.
-pub fn single_declaration(
+/// What follows the head of a member that is a function with its body, or one member, which may be a pure function.
+pub fn function_or_single(
     text: &TypeNames,
+    head: MemberHead,
+    depth_left: u32,
+    out: &mut Builder,
+) -> Result<Option<usize>, AllocError>
+    requires here { head.at ≤ length text.now.terminals }
+    requires behind { head.behind ≤ length text.now.terminals }
+    ensures { (before : BuilderState) → IsHead text.now head before out.old
+        → ParsesLongest text.now (single_declaration ∣ member_function) head.at None before out.new result }
+{
+    let end = virt_specifiers(text, head.behind, out)?;
+    if text.is_at(end, Terminal::OpenBrace) {
+        let Some(next) = compound_statement(text, end, depth_left, out)? else {
+            return Ok(None);
+        };
+        node_from(text, head.at, NodeKind::FunctionDefinition, head.start, out)?;
+        return Ok(Some(semicolon_end(text, next)));
+    }
+    let last = optional_pure(text, end, out)?;
+    member_node(text, head, out)?;
+    expect!(text.is_at(last, Terminal::Semicolon), out);
+    node_from(text, head.at, NodeKind::MemberDeclaration, head.start, out)?;
+    Ok(Some(last + 1))
+}
+
+/// What follows the head of data members: an initializer, further members, or both.
+pub fn data_members(
+    text: &TypeNames,
+    head: MemberHead,
+    depth_left: u32,
+    out: &mut Builder,
+) -> Result<Option<usize>, AllocError>
+    requires here { head.at ≤ length text.now.terminals }
+    requires behind { head.behind ≤ length text.now.terminals }
+    ensures { (before : BuilderState) → IsMark head.start before → IsTyped text.now head head.at before out.old
+        → ParsesLongest text.now (initialized_declaration ∣ listed_declaration) head.at None before out.new result }
+{
+    if !text.is_at(head.behind, Terminal::Equal) {
+        return several_members(text, head, head.behind, depth_left, out);
+    }
+    let mark = out.checkpoint();
+    let first = head.behind + 1;
+    let Some(next) = assignment_expression(text, first, depth_left, out)? else {
+        return Ok(None);
+    };
+    node(
+        text,
+        head.behind,
+        NodeKind::EqualInitializer,
+        Some(head.behind as u32),
+        mark,
+        out,
+    )?;
+    if text.is_at(next, Terminal::Comma) {
+        return several_members(text, head, next, depth_left, out);
+    }
+    if is_zero_alone(text, first, next) {
+        out.expected_at(next);
+        return Ok(None);
+    }
+    initialized_member(text, head, next, out)
+}
+
+/// The node of the declarator of a head and of what was read behind it.
+fn member_node(text: &TypeNames, head: MemberHead, out: &mut Builder) -> Result<(), AllocError>
+    ensures read { OnOk result ((before : BuilderState) (got : Read) → IsMark head.first before → out.old ≡ appended before got
+        → out.new ≡ appended before (reads_node MemberDeclarator (positioned at_name text.now head.named head.name got.trees) head.name got)) }
+    ensures memory { OnErr result (out.new ≡ out.old) }
+{
+    node_at_name(
+        text,
+        head.named,
+        NodeKind::MemberDeclarator,
+        head.name,
+        head.first,
+        out,
+    )
+}
+
+/// What follows the head and the initializer of one member.
+fn initialized_member(
+    text: &TypeNames,
+    head: MemberHead,
+    at: usize,
+    out: &mut Builder,
+) -> Result<Option<usize>, AllocError>
+    requires here { head.at ≤ length text.now.terminals }
+    ensures { (before between : BuilderState) → IsMark head.start before → IsTyped text.now head head.at before between
+        → ReadsLongest text.now (node EqualInitializer value_but_zero) head.behind at None between out.old
+        → ParsesLongest text.now initialized_declaration head.at None before out.new result }
+{
+    member_node(text, head, out)?;
+    expect!(text.is_at(at, Terminal::Semicolon), out);
+    node_from(text, head.at, NodeKind::MemberDeclaration, head.start, out)?;
+    Ok(Some(at + 1))
+}
+
+/// What follows the head and the initializer, if there is one, of the first of several members.
+fn several_members(
+    text: &TypeNames,
+    head: MemberHead,
     at: usize,
     depth_left: u32,
     out: &mut Builder,
 ) -> Result<Option<usize>, AllocError>
-    requires here { at ≤ length text.now.terminals }
-    ensures { ParsesLongest text.now single_declaration at None out.old out.new result }
+    requires here { head.at ≤ length text.now.terminals }
+    requires behind { at ≤ length text.now.terminals }
+    ensures { (before between : BuilderState) → IsMark head.start before → IsTyped text.now head head.at before between
+        → ReadsLongest text.now (optional (node EqualInitializer value)) head.behind at None between out.old
+        → ParsesLongest text.now listed_declaration head.at None before out.new result }
 {
-    let start = out.checkpoint();
-    let behind = optional_attribute(text, at, out)?;
-    let typed = optional_virtual(text, behind, out)?;
-    let Some(named) = type_specifier_seq(text, typed, depth_left, out)? else {
-        return Ok(None);
-    };
-    let Some(end) = member_declarator(text, named, depth_left, out)? else {
+    member_node(text, head, out)?;
+    let Some(end) = more_members(text, at, depth_left, out)? else {
         return Ok(None);
     };
     expect!(text.is_at(end, Terminal::Semicolon), out);
-    node_from(text, at, NodeKind::MemberDeclaration, start, out)?;
-    Ok(Some(end + 1))
-}
-
-/// One member with an initializer.
-pub fn initialized_declaration(
-    text: &TypeNames,
-    at: usize,
-    depth_left: u32,
-    out: &mut Builder,
-) -> Result<Option<usize>, AllocError>
-    requires here { at ≤ length text.now.terminals }
-    ensures { ParsesLongest text.now initialized_declaration at None out.old out.new result }
-{
-    let start = out.checkpoint();
-    let Some(named) = type_specifier_seq(text, at, depth_left, out)? else {
-        return Ok(None);
-    };
-    let Some(end) = initialized_member(text, named, depth_left, out)? else {
-        return Ok(None);
-    };
-    expect!(text.is_at(end, Terminal::Semicolon), out);
-    node_from(text, at, NodeKind::MemberDeclaration, start, out)?;
-    Ok(Some(end + 1))
-}
-
-/// Several members.
-pub fn listed_declaration(
-    text: &TypeNames,
-    at: usize,
-    depth_left: u32,
-    out: &mut Builder,
-) -> Result<Option<usize>, AllocError>
-    requires here { at ≤ length text.now.terminals }
-    ensures { ParsesLongest text.now listed_declaration at None out.old out.new result }
-{
-    let start = out.checkpoint();
-    let Some(named) = type_specifier_seq(text, at, depth_left, out)? else {
-        return Ok(None);
-    };
-    let Some(behind) = listed_member(text, named, depth_left, out)? else {
-        return Ok(None);
-    };
-    let Some(end) = more_members(text, behind, depth_left, out)? else {
-        return Ok(None);
-    };
-    expect!(text.is_at(end, Terminal::Semicolon), out);
-    node_from(text, at, NodeKind::MemberDeclaration, start, out)?;
+    node_from(text, head.at, NodeKind::MemberDeclaration, head.start, out)?;
     Ok(Some(end + 1))
 }
 
@@ -175,27 +228,6 @@ fn more_members(
     Ok(Some(next))
 }
 
-/// The declarator of a member alone, which may be a pure function.
-fn member_declarator(
-    text: &TypeNames,
-    at: usize,
-    depth_left: u32,
-    out: &mut Builder,
-) -> Result<Option<usize>, AllocError>
-    requires here { at ≤ length text.now.terminals }
-    ensures { ParsesLongest text.now (form member_declarator) at None out.old out.new result }
-{
-    let start = out.checkpoint();
-    let Some(behind) = declarator(text, at, Naming::Named, depth_left, out)? else {
-        return Ok(None);
-    };
-    let name = declared_token(start, out);
-    let end = virt_specifiers(text, behind, out)?;
-    let next = optional_pure(text, end, out)?;
-    node_at_name(text, at, NodeKind::MemberDeclarator, name, start, out)?;
-    Ok(Some(next))
-}
-
 /// `= 0`, or nothing.
 fn optional_pure(text: &TypeNames, at: usize, out: &mut Builder) -> Result<usize, AllocError>
     requires here { at ≤ length text.now.terminals }
@@ -219,59 +251,6 @@ fn optional_pure(text: &TypeNames, at: usize, out: &mut Builder) -> Result<usize
         out,
     )?;
     Ok(next)
-}
-
-/// The declarator of a member alone with an initializer.
-fn initialized_member(
-    text: &TypeNames,
-    at: usize,
-    depth_left: u32,
-    out: &mut Builder,
-) -> Result<Option<usize>, AllocError>
-    requires here { at ≤ length text.now.terminals }
-    ensures { ParsesLongest text.now (form initialized_member) at None out.old out.new result }
-{
-    let start = out.checkpoint();
-    let Some(behind) = declarator(text, at, Naming::Named, depth_left, out)? else {
-        return Ok(None);
-    };
-    let name = declared_token(start, out);
-    let Some(next) = value_but_zero(text, behind, depth_left, out)? else {
-        return Ok(None);
-    };
-    node_at_name(text, at, NodeKind::MemberDeclarator, name, start, out)?;
-    Ok(Some(next))
-}
-
-/// `=` and an initializer that is not `0` alone.
-fn value_but_zero(
-    text: &TypeNames,
-    at: usize,
-    depth_left: u32,
-    out: &mut Builder,
-) -> Result<Option<usize>, AllocError>
-    requires here { at ≤ length text.now.terminals }
-    ensures { ParsesLongest text.now (node EqualInitializer value_but_zero) at None out.old out.new result }
-{
-    expect!(text.is_at(at, Terminal::Equal), out);
-    let start = out.checkpoint();
-    let first = at + 1;
-    let Some(next) = assignment_expression(text, first, depth_left, out)? else {
-        return Ok(None);
-    };
-    if is_zero_alone(text, first, next) {
-        out.expected_at(next);
-        return Ok(None);
-    }
-    node(
-        text,
-        at,
-        NodeKind::EqualInitializer,
-        Some(at as u32),
-        start,
-        out,
-    )?;
-    Ok(Some(next))
 }
 
 /// Whether `0` stands alone between two indices.
@@ -344,4 +323,47 @@ fn equal_initializer(
         out,
     )?;
     Ok(Some(next))
+}
+
+/// Whether members with initializers or several members have their first declarator before an index: `,` stands there, or `=` without
+/// `0` and `;` behind it.
+pub fn begins_values(text: &TypeNames, at: usize) -> bool
+    ensures { ValuesSeen text.now at result }
+{
+    if text.is_at(at, Terminal::Comma) {
+        return true;
+    }
+    if !text.is_at(at, Terminal::Equal) {
+        return false;
+    }
+    let zero = at + 1;
+    if !text.is_at(zero, Terminal::Zero) {
+        return true;
+    }
+    let end = zero + 1;
+    if !text.is_at(end, Terminal::Semicolon) {
+        return true;
+    }
+    false
+}
+
+/// Where an initializer stands behind a declarator that can have none, notes how far it reads, so that a fault stands where that breaks
+/// off.
+pub fn note_values(
+    text: &TypeNames,
+    at: usize,
+    depth_left: u32,
+    out: &mut Builder,
+) -> Result<(), AllocError>
+    requires here { at ≤ length text.now.terminals }
+    ensures same { OnOk result (out.new ≡ out.old) }
+    ensures leaves { Leaves out.old out.new }
+{
+    if !begins_values(text, at) {
+        return Ok(());
+    }
+    let mark = out.checkpoint();
+    equal_initializer(text, at, depth_left, out)?;
+    out.cut(mark);
+    Ok(())
 }

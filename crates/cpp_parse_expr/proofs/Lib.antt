@@ -1,8 +1,7 @@
-pub mod TreeHeights
 pub mod FirstTooDeep
-pub mod DepthPaths
+pub mod NodeIds
+pub mod FirstDeepNode
 pub mod NodePositions
-pub mod LambdaDepths
 pub mod ParseAnswers
 pub mod ReaderAnswers
 pub mod Captures

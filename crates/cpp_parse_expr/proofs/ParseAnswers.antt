@@ -1,34 +1,33 @@
 -- From what readers answer to what the call does.
-use Rattle.std.proofs.Common.{◌≡◌, ℕ, suc, ◌+◌, ◌-◌, ◌<◌, ◌≤◌, nat_lt, nat_le, ◌&&◌, Bool, true, false, if◌then◌else◌, List, [], ◌∷◌, length, map, take, drop}
-use Rattle.std.proofs.Common.{get_or, slice_get, Some, None, refl, sym, ◌∙◌, ap, subst, arith, length-take-le, Vec, Global}
-use Rattle.std.proofs.lemmas.Bool.{and_from, leb-true, ltb-true}
-use Rattle.std.proofs.lemmas.List.Sums.{get_or-le-sum_by}
-use Rattle.std.proofs.lemmas.Option.{get_or_from_slice_get, slice_get_within}
+use Rattle.std.proofs.Common.{◌≡◌, ℕ, ◌+◌, ◌<◌, ◌≤◌, Bool, true, false, if◌then◌else◌, List, [], ◌∷◌, length, map, take}
+use Rattle.std.specs.declared.alloc.AllocError.{AllocError}
+use Rattle.std.proofs.Common.{get_or, Option, Some, None, Result, Ok, Err, refl, sym, ◌∙◌, ap, subst, arith, append-nil, length-append, Vec, Global}
+use Rattle.std.proofs.lemmas.List.{length-map}
+use Rattle.std.proofs.lemmas.Option.{slice_get_within}
 use Rattle.cpp_ast.proofs.NodeTrees.{cut_back}
 use Rattle.cpp_ast.specs.declared.arena.At.{At}
 use Rattle.cpp_ast.specs.declared.arena.Node.{Node}
 use Rattle.cpp_ast.specs.declared.arena.NodeId.{NodeId}
-use Rattle.cpp_ast.specs.Trees.{Tree, Trees, none, more, Shows, ShowsAll, Extends, deepest}
-use Rattle.cpp_ast.specs.Units.{times_in, times_a_kid}
+use Rattle.cpp_ast.specs.Trees.{Tree, node, Trees, none, more, kind_of, kid_depth, Shows, ShowsAll, Extends}
 use Rattle.cpp_syntax.specs.declared.positions.OpenBody.{OpenBody}
 use Rattle.cpp_syntax.specs.Source.{Source, position_at}
-use Rattle.cpp_syntax.specs.Rules.{Nonterminal, form}
+use Rattle.cpp_syntax.specs.Rules.{Nonterminal, Rule, form}
 use Rattle.cpp_syntax.specs.Derivations.{Read, no_read, one_tree, and_then, kept_apart}
-use Rattle.cpp_syntax.specs.View.{BuilderState, builder_state, appended, BuiltTrees, trees_at, body_of, lams_of, count_trees}
+use Rattle.cpp_syntax.specs.View.{BuilderState, builder_state, appended, BuiltTrees, trees_at, body_of, count_trees, count_lambdas, count_lambdas_in, is_lambda}
 use Rattle.cpp_syntax.specs.Lookahead.{lookahead}
 use Rattle.cpp_syntax.specs.Longest.{LongestMatch}
-use Rattle.cpp_syntax.specs.Parsed.{ReadsLongest, Leaves}
-use Rattle.cpp_syntax.proofs.BuilderMarks.{trees_count}
-use Rattle.cpp_parse_expr.proofs.SingleTrees.{is_single, one_tree_of}
+use Rattle.cpp_syntax.specs.Parsed.{ParsesLongest, ReadsLongest, Leaves}
+use Rattle.cpp_syntax.proofs.BuilderMarks.{trees_count, bodies_count}
+use Rattle.cpp_syntax.proofs.NodeKids.{front_of}
 use Rattle.cpp_parse_expr.specs.declared.parse.ExprForm.{ExprForm}
 use Rattle.cpp_parse_expr.specs.declared.parse.ExprForm.TheVariants as asked
-use Rattle.cpp_parse_expr.specs.Depths.{HoldOwn, HoldOnce, HoldLower, are_from, AreDepths, IsDeep, deep_node}
-use Rattle.cpp_parse_expr.specs.Parse.{form_of, tree_read, IsRead, IsTooDeep, IsParsed, open_bodies, lambda_depths}
 use Rattle.cpp_parse_expr.specs.declared.parse.BodyRange.{BodyRange}
+use Rattle.cpp_parse_expr.specs.Depths.{deep_node, lambda_depths, lambda_depths_in, Searches, IsNotedIn}
+use Rattle.cpp_parse_expr.specs.Parse.{form_of, tree_read, EndsInside, IsFound, IsRead, IsTooDeep, IsParsed, open_bodies}
+use Rattle.cpp_parse_expr.proofs.SingleTrees.{is_single, one_tree_of}
 use Rattle.cpp_parse_expr.proofs.NodePositions.{text_positioned, deep_position}
-use Rattle.cpp_parse_expr.proofs.LambdaDepths.{Pairs, lambda_pairs, BodyAt, body_at, body_depths}
-use Rattle.cpp_syntax.proofs.NodeKids.{front_of}
-use Rattle.cpp_parse_expr.proofs.DepthPaths.{held, among}
+use Rattle.cpp_parse_expr.proofs.FirstTooDeep.{none_low, some_high}
+use Rattle.cpp_parse_expr.proofs.FirstDeepNode.{own_depth}
 
 pub single_of : (f : ExprForm) → is_single (form_of f) ≡ true
 single_of asked.Expr = refl
@@ -55,160 +54,142 @@ leaves_base built new old b l = base_kept built new l.extra old b l.gained
 pub grown_from : (built new : BuilderState) (old grown : List Node) → new.base ≡ old → Extends new.base grown → Extends old grown
 grown_from built new old grown e x = subst (λ (ns : List Node). Extends ns grown) e x
 
-module _ (source : Source) (f : Nonterminal) (from next : ℕ) (built new : BuilderState) (grown : List Node) (roots : List NodeId)
-    (open_ : List OpenBody) (single : is_single f ≡ true) (empty : built.read ≡ no_read)
-    (reads : ReadsLongest source (form f) from next None built new) (parts : new ≡ builder_state (length new.base) grown roots open_) where
-  got_trees : trees_at grown roots ≡ reads.got.trees
-  got_trees = sym (ap (λ (z : BuilderState). z.read.trees) parts) ∙ ap (λ (z : Read). z.trees) (read_is built new reads.got empty reads.gained)
+pub ends_inside : (source : Source) (p : Rule) (a : ℕ) (k : Option ℕ) (u v : BuilderState) (r : Result (Option ℕ) AllocError)
+    → ParsesLongest source p a k u v r → EndsInside source r
+ends_inside source p a k u v (Ok (Some next)) h = h.inside
+ends_inside source p a k u v (Ok None) h = tt
+ends_inside source p a k u v (Err e) h = tt
 
-  got_bodies : map (body_of grown) open_ ≡ reads.got.bodies
-  got_bodies = sym (ap (λ (z : BuilderState). z.read.bodies) parts) ∙ ap (λ (z : Read). z.bodies) (read_is built new reads.got empty reads.gained)
+module _ (source : Source) (p : Rule) (from : ℕ) (before after : BuilderState) (grown : List Node) (roots : List NodeId) (open_ : List OpenBody)
+    (empty : before.read ≡ no_read) (built : after ≡ builder_state (length after.base) grown roots open_) (x : Extends after.base grown)
+    (shown : BuiltTrees (length after.base) grown roots open_) where
+  pub found : (next : ℕ) → ReadsLongest source p from next None before after → IsFound source p from next before.base grown roots open_
+  found next reads =
+      let kept : after.base ≡ before.base = base_kept before after reads.got before.base refl reads.gained in
+      let read : after.read ≡ reads.got = read_is before after reads.got empty reads.gained in
+      record {
+        got = reads.got;
+        long = reads.long;
+        inside = reads.inside;
+        grown = grown_from before after before.base grown kept x;
+        shown = subst (λ (ns : List Node). BuiltTrees (length ns) grown roots open_) kept shown;
+        trees = sym (ap (λ (z : BuilderState). z.read.trees) built) ∙ ap (λ (z : Read). z.trees) read;
+        bodies = sym (ap (λ (z : BuilderState). z.read.bodies) built) ∙ ap (λ (z : Read). z.bodies) read;
+      }
 
-  -- one root
-  pub roots_one : length roots ≡ 1
-  roots_one =
-      let one = one_tree_of reads.long.derives single in
-      let trees : trees_at grown roots ≡ one_tree one.0 = got_trees ∙ one.1 in
-      sym (trees_count grown roots) ∙ ap (λ (ts : Trees). count_trees ts) trees ∙ (let c : count_trees (one_tree one.0) ≡ 1 = refl in c)
+  pub left : Leaves before after → Extends before.base grown
+  left l = grown_from before after before.base grown (leaves_base before after before.base refl l) x
 
-  one_root : (ids : List NodeId) (root : NodeId) → length ids ≡ 1 → root ≡ get_or ids 0 root → ids ≡ root ∷ []
-  one_root [] root e f = absurd (omega (arith, e))
-  one_root (id ∷ []) root e f = ap (λ (z : NodeId). z ∷ []) (sym f)
-  one_root (id ∷ other ∷ ids) root e f = absurd (omega (arith, e))
+-- One tree.
 
-  pub is_read : (old : List Node) (root : NodeId) → built.base ≡ old → root ≡ get_or roots 0 root → Extends new.base grown
-      → BuiltTrees (length new.base) grown roots open_ → IsRead source f from old grown root next open_
-  is_read old root base at x shown =
-      let one = one_tree_of reads.long.derives single in
-      let trees : trees_at grown roots ≡ one_tree one.0 = got_trees ∙ one.1 in
-      let kept : new.base ≡ old = base_kept built new reads.got old base reads.gained in
-      let only : roots ≡ root ∷ [] = one_root roots root roots_one at in
-      let whole : reads.got ≡ tree_read one.0 reads.got.bodies = ap (λ (ts : Trees). let z : Read = record { trees = ts; bodies = reads.got.bodies }
-      in z) one.1 in
-      let here = front_of grown roots [] root (one_tree one.0) only (subst (λ (ts : Trees). ShowsAll grown roots ts) trees shown.shows) in
+pub one_root : (ids : List NodeId) (root : NodeId) → length ids ≡ 1 → root ≡ get_or ids 0 root → ids ≡ root ∷ []
+one_root [] root e f = absurd (omega (arith, e))
+one_root (id ∷ []) root e f = ap (λ (z : NodeId). z ∷ []) (sym f)
+one_root (id ∷ other ∷ ids) root e f = absurd (omega (arith, e))
+
+pub roots_one : (nodes : List Node) (roots : List NodeId) (tree : Tree) → trees_at nodes roots ≡ one_tree tree → length roots ≡ 1
+roots_one nodes roots tree e =
+    sym (trees_count nodes roots) ∙ ap (λ (ts : Trees). count_trees ts) e ∙ (let c : count_trees (one_tree tree) ≡ 1 = refl in c)
+
+module _ (source : Source) (f : Nonterminal) (from next : ℕ) (old grown : List Node) (roots : List NodeId) (open_ : List OpenBody)
+    (single : is_single f ≡ true) (r : IsFound source (form f) from next old grown roots open_) where
+  pub form_root : length roots ≡ 1
+  form_root = let one = one_tree_of r.long.derives single in roots_one grown roots one.0 (r.trees ∙ one.1)
+
+  pub is_read : (root : NodeId) → root ≡ get_or roots 0 root → IsRead source f from old grown root next open_
+  is_read root at =
+      let one = one_tree_of r.long.derives single in
+      let trees : trees_at grown roots ≡ one_tree one.0 = r.trees ∙ one.1 in
+      let only : roots ≡ root ∷ [] = one_root roots root form_root at in
+      let whole : r.got ≡ tree_read one.0 r.got.bodies = ap (λ (ts : Trees). let z : Read = record { trees = ts; bodies = r.got.bodies } in z) one.1 in
+      let here = front_of grown roots [] root (one_tree one.0) only (subst (λ (ts : Trees). ShowsAll grown roots ts) trees r.shown.shows) in
       let first : one.0 ≡ here.first = let e : more one.0 none ≡ more here.first here.others = here.are in cc in
       record {
         tree = one.0;
-        bodies = reads.got.bodies;
-        text = subst (λ (r : Read). LongestMatch (lookahead source) kept_apart source (form f) no_read from next None r) whole reads.long;
-        inside = reads.inside;
+        bodies = r.got.bodies;
+        text = subst (λ (z : Read). LongestMatch (lookahead source) kept_apart source (form f) no_read from next None z) whole r.long;
+        inside = r.inside;
         shows = subst (λ (t : Tree). Shows grown root.0 t) (sym first) here.shows;
-        grown = grown_from built new old grown kept x;
-        shown =
-            subst (λ (ns : List Node). BuiltTrees (length ns) grown (root ∷ []) open_) kept
-            (subst (λ (is : List NodeId). BuiltTrees (length new.base) grown is open_) only shown);
-        ranges = got_bodies;
+        grown = r.grown;
+        shown = subst (λ (is : List NodeId). BuiltTrees (length old) grown is open_) only r.shown;
+        ranges = r.bodies;
+        many =
+            sym (length-map open_ (body_of grown))
+            ∙ bodies_count grown roots open_ r.shown.lambdas
+            ∙ ap count_lambdas_in trees
+            ∙ (let one_more : count_lambdas_in (one_tree one.0) ≡ count_lambdas one.0 = omega arith in one_more);
       }
-
--- New nodes are held once at most, and hold no old one.
-
-one_at_most : (b : Bool) (n m : ℕ) → n + m ≤ (if b then 1 else 0) → n ≤ 1
-one_at_most true n m h = omega (arith, h)
-one_at_most false n m h = omega (arith, h)
-
-pub hold_once : (base : ℕ) (nodes : List Node) (ids : List NodeId) (open_ : List OpenBody) → BuiltTrees base nodes ids open_ → HoldOnce base nodes
-hold_once base nodes ids open_ s =
-    record { each = λ id. one_at_most (nat_le base id && nat_lt id (length nodes)) (times_a_kid id (drop base nodes)) (times_in id ids) (s.apart id) }
-
-held_new : (b c : Bool) (n m : ℕ) → n + m ≤ (if b && c then 1 else 0) → 1 ≤ n → b ≡ true
-held_new true c n m h k = refl
-held_new false c n m h k = absurd (omega (arith, h, k))
-
-from_each : (base : ℕ) (ids : List NodeId) → ((k : ℕ) (id : NodeId) → slice_get ids k ≡ Some id → nat_le base id.0 ≡ true) → are_from base ids ≡ true
-from_each base [] h = refl
-from_each base (id ∷ ids) h = and_from (nat_le base id.0) (are_from base ids) (h 0 id refl) (from_each base ids (λ k other e. h (suc k) other e))
-
-pub hold_own : (base : ℕ) (nodes : List Node) (ids : List NodeId) (open_ : List OpenBody) → BuiltTrees base nodes ids open_ → HoldOwn base nodes
-hold_own base nodes ids open_ s = record {
-  own = λ id n from e.
-      from_each base n.kids.items (λ k kid f.
-      let once = held n.kids.items k kid.0 f in
-      let whole = kids_held base nodes id n kid.0 from e once in
-      held_new (nat_le base kid.0) (nat_lt kid.0 (length nodes)) (times_a_kid kid.0 (drop base nodes)) (times_in kid.0 ids) (s.apart kid.0) whole);
-}
-  where
-    kids_held : (base : ℕ) (nodes : List Node) (id : ℕ) (n : Node) (kid : ℕ) → base ≤ id → slice_get nodes id ≡ Some n → 1 ≤ times_in kid n.kids.items
-        → 1 ≤ times_a_kid kid (drop base nodes)
-    kids_held base nodes id n kid from e once =
-        let there = among nodes base id n from e in
-        let found : times_in kid (get_or (drop base nodes) (id - base) n).kids.items ≡ times_in kid n.kids.items = ap
-        (λ (m : Node). times_in kid m.kids.items) (get_or_from_slice_get (drop base nodes) (id - base) n n there) in
-        let least = get_or-le-sum_by (λ (m : Node). times_in kid m.kids.items) (drop base nodes) (id - base) n
-        (slice_get_within (drop base nodes) (id - base) n there) in
-        omega (arith, once, found, least)
 
 pub cut_old : (old new : List Node) (n : ℕ) → Extends old new → n ≡ length old → take n new ≡ old
 cut_old old new n x e = ap (λ (k : ℕ). take k new) e ∙ cut_back old new x
 
--- What is known of nodes that were read.
-pub record Ready (nodes : List Node) (first root : ℕ) : Type 0 where
-  pub own : HoldOwn first nodes
-  pub once : HoldOnce first nodes
-  pub from : first ≤ root
-  pub within : root < length nodes
+shown_inside : (nodes : List Node) (id : ℕ) (tree : Tree) → Shows nodes id tree → id < length nodes
+shown_inside nodes id (node kind at token kids) s = slice_get_within nodes id (s.0).found (s.0).stands
 
-both_true : (b c : Bool) (n m : ℕ) → n + m ≤ (if b && c then 1 else 0) → 1 ≤ m → (b ≡ true) × (c ≡ true)
-both_true true true n m h k = (refl, refl)
-both_true true false n m h k = absurd (omega (arith, h, k))
-both_true false c n m h k = absurd (omega (arith, h, k))
+own_many : (own : Bool) (depth : ℕ) → length (own_depth own depth) ≡ (if own then 1 else 0)
+own_many true depth = refl
+own_many false depth = refl
 
-ready_from : (base : ℕ) (nodes : List Node) (root : NodeId) (open_ : List OpenBody) → BuiltTrees base nodes (root ∷ []) open_ → Ready nodes base root.0
-ready_from base nodes root open_ s =
-    let one = held (root ∷ []) 0 root.0 refl in
-    let inside = both_true (nat_le base root.0) (nat_lt root.0 (length nodes)) (times_a_kid root.0 (drop base nodes)) (times_in root.0 (root ∷ []))
-    (s.apart root.0) one in
-    record {
-      own = hold_own base nodes (root ∷ []) open_ s;
-      once = hold_once base nodes (root ∷ []) open_ s;
-      from = leb-true base root.0 inside.0;
-      within = ltb-true root.0 (length nodes) inside.1;
-    }
+-- as many depths as there are lambdas
+mutual
+  depths_many : (depth : ℕ) (tree : Tree) → length (lambda_depths depth tree) ≡ count_lambdas tree
+  depths_many depth (node kind at token kids) =
+      let both = length-append (lambda_depths_in depth kids) (own_depth (is_lambda kind) depth) in
+      let below = depths_many_in depth kids in
+      let own = own_many (is_lambda kind) depth in
+      omega (arith, both, below, own)
 
-module _ (source : Source) (f : Nonterminal) (from next first : ℕ) (nodes : List Node) (root : NodeId) (open_ : List OpenBody)
-    (few : first ≤ length nodes) (r : IsRead source f from (take first nodes) nodes root next open_) where
-  pub ready : Ready nodes first root.0
-  ready = subst (λ (n : ℕ). Ready nodes n root.0) (length-take-le first nodes few) (ready_from (length (take first nodes)) nodes root open_ r.shown)
+  depths_many_in : (depth : ℕ) (trees : Trees) → length (lambda_depths_in depth trees) ≡ count_lambdas_in trees
+  depths_many_in depth none = refl
+  depths_many_in depth (more t ts) =
+      let both = length-append (lambda_depths (kid_depth depth (kind_of t)) t) (lambda_depths_in depth ts) in
+      let first = depths_many (kid_depth depth (kind_of t)) t in
+      let rest = depths_many_in depth ts in
+      omega (arith, both, first, rest)
 
-  pub too_deep : (depth limit token id : ℕ) (found : Node) → (limit < deepest depth r.tree) × IsDeep nodes id (deep_node limit depth r.tree)
-      → slice_get nodes id ≡ Some found → token ≤ length source.terminals
-      → ((k : ℕ) → k ≤ length source.terminals → position_at source k ≡ found.at → position_at source token ≡ found.at)
-      → IsTooDeep source f from depth limit token
-  too_deep depth limit token id found deep stands inside at =
-      let same : deep.1.found ≡ found = let e : Some deep.1.found ≡ Some found = sym deep.1.stands ∙ stands in cc in
-      let is : deep_node limit depth r.tree ≡ Some found.at = deep.1.is ∙ ap (λ (n : Node). Some n.at) same in
-      let positioned = (text_positioned (length source.terminals) r.text.derives r.inside tt).trees in
-      let position = deep_position source (length source.terminals) limit depth r.tree found.at positioned.0 is in
-      record {
-        next = next;
-        tree = r.tree;
-        bodies = r.bodies;
-        text = r.text;
-        deep = deep.0;
-        position = is ∙ ap (λ (a : At). Some a) (sym (at position.token position.within position.is));
-        inside = inside;
-      }
+-- where no bodies are noted
+pub none_noted : IsNotedIn [] []
+none_noted = record { each = λ kids id. sym (append-nil kids) }
 
-  module _ (depth : ℕ) (depths : List ℕ) (lower : HoldLower first nodes) (are : AreDepths nodes root.0 depth first depths) where
-    pairs : Pairs nodes root.0 depth (lams_of open_) (lambda_depths depth r.tree)
-    pairs =
-        subst (λ (ids : List ℕ). Pairs nodes root.0 depth ids (lambda_depths depth r.tree)) (sym r.shown.lambdas)
-        (lambda_pairs nodes root.0 depth first ready.own lower root r.tree ready.from refl r.shows)
+module _ (source : Source) (f : Nonterminal) (from next : ℕ) (old nodes : List Node) (root : NodeId) (open_ : List OpenBody)
+    (r : IsRead source f from old nodes root next open_) where
+  pub root_inside : root.0 < length nodes
+  root_inside = shown_inside nodes root.0 r.tree r.shows
 
-    pub each_body : (k : ℕ) (body : OpenBody) → slice_get open_ k ≡ Some body → BodyAt nodes first (deepest depth r.tree) depths body.lam.0
-    each_body k body e = body_at nodes root.0 depth first depths r.tree open_ (lambda_depths depth r.tree) k body ready.within r.shows are pairs e
+  module _ (depth limit : ℕ) where
+    pub too_deep : (token : ℕ) (found : At) → Some found ≡ deep_node limit depth r.tree → token ≤ length source.terminals
+        → ((k : ℕ) → k ≤ length source.terminals → position_at source k ≡ found → position_at source token ≡ found)
+        → IsTooDeep source f from depth limit token
+    too_deep token found deep inside at =
+        let positioned = (text_positioned (length source.terminals) r.text.derives r.inside tt).trees in
+        let position = deep_position source (length source.terminals) limit depth r.tree found positioned.0 (sym deep) in
+        record {
+          next = next;
+          tree = r.tree;
+          bodies = r.bodies;
+          text = r.text;
+          deep = some_high limit depth r.tree found (sym deep);
+          position = sym deep ∙ ap (λ (a : At). Some a) (sym (at position.token position.within position.is));
+          inside = inside;
+        }
 
-    pub parsed : (limit : ℕ) (bodies : Vec BodyRange Global) → deepest depth r.tree ≤ limit → open_bodies bodies.items ≡ open_
-        → map (λ (b : BodyRange). b.depth) bodies.items ≡ map (λ (b : OpenBody). get_or depths (b.lam.0 - first) 0) open_
-        → IsParsed source f from depth limit (take first nodes) nodes (record { root = root; next = next; bodies = bodies })
-    parsed limit bodies low opens values = record {
+    pub each_depth : (depths : List ℕ) → Searches (deep_node limit depth r.tree) (lambda_depths depth r.tree) [] depths None
+        → length depths ≡ length open_
+    each_depth depths h = ap (λ (ds : List ℕ). length ds) h.1 ∙ depths_many depth r.tree ∙ sym r.many
+
+    pub parsed : (depths : List ℕ) (bodies : Vec BodyRange Global)
+        → Searches (deep_node limit depth r.tree) (lambda_depths depth r.tree) [] depths None → open_bodies bodies.items ≡ open_
+        → map (λ (b : BodyRange). b.depth) bodies.items ≡ depths
+        → IsParsed source f from depth limit old nodes (record { root = root; next = next; bodies = bodies })
+    parsed depths bodies h opens values = record {
       tree = r.tree;
       bodies = r.bodies;
       text = r.text;
       inside = r.inside;
-      shallow = low;
+      shallow = none_low limit depth r.tree (sym h.0);
       shows = r.shows;
       grown = r.grown;
-      shown = subst (λ (bs : List OpenBody). BuiltTrees (length (take first nodes)) nodes (root ∷ []) bs) (sym opens) r.shown;
+      shown = subst (λ (bs : List OpenBody). BuiltTrees (length old) nodes (root ∷ []) bs) (sym opens) r.shown;
       ranges = ap (λ (bs : List OpenBody). map (body_of nodes) bs) opens ∙ r.ranges;
-      depths = values ∙ body_depths nodes root.0 depth first depths open_ (lambda_depths depth r.tree) are pairs;
+      depths = values ∙ h.1;
     }

@@ -1,28 +1,12 @@
 -- How deep the nodes of a tree lie.
-use Rattle.std.specs.Prelude.{◌≡◌, ℕ, ◌+◌, ◌-◌, Bool, ◌<◌, ◌≤◌, max, nat_lt, nat_le, true, if◌then◌else◌, List, length, drop, slice_get, slice_index, Option}
-use Rattle.std.specs.Prelude.{Some, None}
-use Rattle.std.specs.List.{list_all}
-use Rattle.cpp_ast.specs.declared.kinds.NodeKind.{NodeKind}
+use Rattle.std.specs.Prelude.{◌≡◌, ℕ, ◌<◌, ◌≤◌, nat_lt, true, if◌then◌else◌, List, [], ◌∷◌, ◌++◌, slice_get, Option, Some, None}
 use Rattle.cpp_ast.specs.declared.arena.At.{At}
 use Rattle.cpp_ast.specs.declared.arena.NodeId.{NodeId}
 use Rattle.cpp_ast.specs.declared.arena.Node.{Node}
-use Rattle.cpp_ast.specs.Shapes.{counts_one}
-use Rattle.cpp_ast.specs.Trees.{Tree, node, Trees, none, more, kind_of, Shows, kid_depth}
+use Rattle.cpp_ast.specs.declared.units.LamBody.{LamBody}
+use Rattle.cpp_ast.specs.Trees.{Tree, node, Trees, none, more, kind_of, kid_depth, kids_with}
 use Rattle.cpp_ast.specs.Orders.{are_below}
-use Rattle.cpp_ast.specs.Units.{times_a_kid}
-
--- how much deeper a node of a kind lies than the node that holds it
-abbrev pub step : NodeKind → ℕ
-step kind = if counts_one kind then 1 else 0
-
--- how much deeper than the root of a tree its deepest node lies
-abbrev mutual
-  pub height : Tree → ℕ
-  height (node kind at token kids) = height_in kids
-
-  pub height_in : Trees → ℕ
-  height_in none = 0
-  height_in (more t ts) = max (step (kind_of t) + height t) (height_in ts)
+use Rattle.cpp_syntax.specs.View.{is_lambda}
 
 -- what is found in one index, or else in another
 abbrev pub or_else : Option At → Option At → Option At
@@ -39,65 +23,35 @@ abbrev mutual
   deep_kid limit depth none = None
   deep_kid limit depth (more t ts) = or_else (deep_node limit (kid_depth depth (kind_of t)) t) (deep_kid limit depth ts)
 
--- a node is a kid of another
-pub record IsKid (nodes : List Node) (holder id : ℕ) : Type 0 where
-  pub found : Node
-  pub stands : slice_get nodes holder ≡ Some found
-  pub position : ℕ
-  pub there : slice_get found.kids.items position ≡ Some (record { 0 = id })
+-- The depths of the lambdas of a tree whose root has this depth, those in the kids of a node before the node itself.
+abbrev mutual
+  pub lambda_depths : ℕ → Tree → List ℕ
+  lambda_depths depth (node kind at token kids) = lambda_depths_in depth kids ++ (if is_lambda kind then depth ∷ [] else [])
 
--- A node lies below a root, and this is its depth where the root has a depth.
-pub data Path (nodes : List Node) (root depth : ℕ) : ℕ → ℕ → Type 0 where
-  at_root : {id d : ℕ} → id ≡ root → d ≡ depth → Path nodes root depth id d
-  to_kid : {holder id above d : ℕ} {kid : Node} → Path nodes root depth holder above → IsKid nodes holder id → slice_get nodes id ≡ Some kid
-      → d ≡ kid_depth above kid.kind → Path nodes root depth id d
+  pub lambda_depths_in : ℕ → Trees → List ℕ
+  lambda_depths_in depth none = []
+  lambda_depths_in depth (more t ts) = lambda_depths (kid_depth depth (kind_of t)) t ++ lambda_depths_in depth ts
 
--- each of these ids is an index or stands behind it
-abbrev pub are_from : ℕ → List NodeId → Bool
-are_from first ids = list_all (λ (id : NodeId). nat_le first id.0) ids
-
--- the kids of the nodes from an index on stand there too
-pub record HoldOwn (first : ℕ) (nodes : List Node) : Type 0 where
-  pub own : (id : ℕ) (n : Node) → first ≤ id → slice_get nodes id ≡ Some n → are_from first n.kids.items ≡ true
+-- A search for the first node that lies too deep finds it; where there is none, it appends the depths of the lambdas.
+abbrev pub Searches : Option At → List ℕ → List ℕ → List ℕ → Option At → Type 0
+Searches deep depths old new None = (None ≡ deep) × (new ≡ old ++ depths)
+Searches deep depths old new (Some at) = Some at ≡ deep
 
 -- the kids of the nodes from an index on stand before them
 pub record HoldLower (first : ℕ) (nodes : List Node) : Type 0 where
   pub lower : (id : ℕ) (n : Node) → first ≤ id → slice_get nodes id ≡ Some n → are_below id n.kids.items ≡ true
 
--- the nodes from an index on hold each node once at most
-pub record HoldOnce (first : ℕ) (nodes : List Node) : Type 0 where
-  pub each : (id : ℕ) → times_a_kid id (drop first nodes) ≤ 1
+-- The bodies of lambdas, by the indices of the lambdas.
 
--- The numbers are the heights of the trees of the nodes from an index on, as far as there are some.
-pub record AreHeights (nodes : List Node) (first : ℕ) (heights : List ℕ) : Type 0 where
-  pub within : first + length heights ≤ length nodes
-  pub each : (i : ℕ) (tree : Tree) → i < length heights → Shows nodes (first + i) tree → slice_index heights i ≡ height tree
-  pub low : (i : ℕ) → slice_index heights i ≤ i
+-- the bodies in a table stand below an index
+abbrev pub HaveNodes : ℕ → List (Option NodeId) → Type 0
+HaveNodes most noted = (k : ℕ) (body : NodeId) → slice_get noted k ≡ Some (Some body) → body.0 < most
 
--- A node is the first of a tree that lies too deep; or none does.
-pub record IsDeep (nodes : List Node) (id : ℕ) (deep : Option At) : Type 0 where
-  pub found : Node
-  pub stands : slice_get nodes id ≡ Some found
-  pub is : deep ≡ Some found.at
+abbrev pub at_most_one : Option (Option NodeId) → List NodeId
+at_most_one None = []
+at_most_one (Some None) = []
+at_most_one (Some (Some id)) = id ∷ []
 
--- Some kids have the first node that lies too deep in the tree of one of them.
-pub record HasDeep (nodes : List Node) (id limit depth : ℕ) (trees : Trees) : Type 0 where
-  pub tree : Tree
-  pub shows : Shows nodes id tree
-  pub same : deep_kid limit depth trees ≡ deep_node limit (kid_depth depth (kind_of tree)) tree
-
--- Kids were given their depths, in a node of a depth, and no other number was changed.
-pub record HandsDown (nodes : List Node) (first : ℕ) (kids : List NodeId) (depth : ℕ) (old new : List ℕ) : Type 0 where
-  pub many : length new ≡ length old
-  pub given : (k : ℕ) (kid : NodeId) (n : Node) → slice_get kids k ≡ Some kid → slice_get nodes kid.0 ≡ Some n
-      → slice_index new (kid.0 - first) ≡ kid_depth depth n.kind
-  pub kept : (i : ℕ) → ((k : ℕ) (kid : NodeId) → slice_get kids k ≡ Some kid → kid.0 - first ≡ i → ⊥) → slice_index new i ≡ slice_index old i
-
--- the numbers are so low that they may grow on the way down from each index
-pub record AreLow (most : ℕ) (depths : List ℕ) : Type 0 where
-  pub low : (i : ℕ) → i < length depths → slice_index depths i + i ≤ most
-
--- The numbers are the depths of the nodes below a root, from an index on.
-pub record AreDepths (nodes : List Node) (root depth first : ℕ) (depths : List ℕ) : Type 0 where
-  pub many : first + length depths ≡ length nodes
-  pub each : (id d : ℕ) → Path nodes root depth id d → (first ≤ id) × (slice_index depths (id - first) ≡ d)
+-- a table holds for each node the body that is noted for it
+pub record IsNotedIn (bodies : List LamBody) (noted : List (Option NodeId)) : Type 0 where
+  pub each : (kids : List NodeId) (id : ℕ) → kids_with kids bodies id ≡ kids ++ at_most_one (slice_get noted id)

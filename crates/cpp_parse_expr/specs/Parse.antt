@@ -1,17 +1,18 @@
 -- What the call that reads a form answers.
-use Rattle.std.specs.Prelude.{◌≡◌, ℕ, ◌<◌, ◌≤◌, if◌then◌else◌, List, [], ◌∷◌, ◌++◌, length, map, Some, None, Result, Ok, Err}
+use Rattle.std.specs.Prelude.{◌≡◌, ℕ, ◌<◌, ◌≤◌, List, [], ◌∷◌, length, map, Option, Some, None, Result, Ok, Err}
 use Rattle.std.specs.declared.alloc.AllocError.{AllocError}
 use Rattle.cpp_ast.specs.declared.arena.Node.{Node}
 use Rattle.cpp_ast.specs.declared.arena.NodeId.{NodeId}
-use Rattle.cpp_ast.specs.Trees.{Tree, node, Trees, none, more, kind_of, Shows, Extends, kid_depth, deepest}
+use Rattle.cpp_ast.specs.Trees.{Tree, Shows, Extends, deepest}
 use Rattle.cpp_syntax.specs.declared.positions.OpenBody.{OpenBody}
 use Rattle.cpp_syntax.specs.Source.{Source, position_at}
-use Rattle.cpp_syntax.specs.Rules.{Nonterminal, expression, assignment_expression, conditional_expression, type_specifier_seq, type_id, declarator}
+use Rattle.cpp_syntax.specs.Rules.{Nonterminal, Rule, expression, assignment_expression, conditional_expression, type_specifier_seq, type_id, declarator}
 use Rattle.cpp_syntax.specs.Rules.{parameter_declaration, parameter_declaration_clause, function_qualifiers, whole, named, form}
 use Rattle.cpp_syntax.specs.Derivations.{Body, Read, no_read, one_tree, kept_apart}
 use Rattle.cpp_syntax.specs.Lookahead.{lookahead}
 use Rattle.cpp_syntax.specs.Longest.{LongestMatch, NoDerivation}
-use Rattle.cpp_syntax.specs.View.{is_lambda, body_of, BuiltTrees}
+use Rattle.cpp_syntax.specs.Parsed.{NoneOf}
+use Rattle.cpp_syntax.specs.View.{body_of, count_lambdas, trees_at, BuiltTrees}
 use Rattle.cpp_parse_expr.specs.declared.parse.ExprForm.{ExprForm}
 use Rattle.cpp_parse_expr.specs.declared.parse.ExprForm.TheVariants as asked
 use Rattle.cpp_parse_expr.specs.declared.parse.BodyRange.{BodyRange}
@@ -19,10 +20,10 @@ use Rattle.cpp_parse_expr.specs.declared.parse.ExprOut.{ExprOut}
 use Rattle.cpp_parse_expr.specs.declared.parse.ParseFault.{ParseFault}
 use Rattle.cpp_parse_expr.specs.declared.parse.ParseFault.TheVariants as fault
 use Rattle.cpp_parse_expr.specs.declared.parse.Reading.{Reading}
-use Rattle.cpp_parse_expr.specs.declared.parse.Reading.TheVariants as reading
+use Rattle.cpp_parse_expr.specs.declared.parse.Found.{Found}
 use Rattle.cpp_parse_expr.specs.declared.parse.Outcome.{Outcome}
 use Rattle.cpp_parse_expr.specs.declared.parse.Outcome.TheVariants as outcome
-use Rattle.cpp_parse_expr.specs.Depths.{deep_node}
+use Rattle.cpp_parse_expr.specs.Depths.{deep_node, lambda_depths}
 
 -- the form of the grammar that is asked for
 abbrev pub form_of : ExprForm → Nonterminal
@@ -47,15 +48,6 @@ IsText source f from next tree bodies = LongestMatch (lookahead source) kept_apa
 -- no text of a form begins at an index
 abbrev pub NoneBegins : Source → Nonterminal → ℕ → Type 0
 NoneBegins source f from = NoDerivation (lookahead source) kept_apart source (form f) no_read from
-
--- The depths of the lambdas of a tree whose root has this depth, those in the kids of a node before the node itself.
-abbrev mutual
-  pub lambda_depths : ℕ → Tree → List ℕ
-  lambda_depths depth (node kind at token kids) = lambda_depths_in depth kids ++ (if is_lambda kind then depth ∷ [] else [])
-
-  pub lambda_depths_in : ℕ → Trees → List ℕ
-  lambda_depths_in depth none = []
-  lambda_depths_in depth (more t ts) = lambda_depths (kid_depth depth (kind_of t)) t ++ lambda_depths_in depth ts
 
 -- a body without the depth of its lambda
 abbrev pub open_of : BodyRange → OpenBody
@@ -112,11 +104,34 @@ pub record IsRead (source : Source) (f : Nonterminal) (from : ℕ) (old new : Li
   pub grown : Extends old new
   pub shown : BuiltTrees (length old) new (root ∷ []) open_
   pub ranges : map (body_of new) open_ ≡ bodies
+  pub many : length open_ ≡ count_lambdas tree
 
-abbrev pub ReadsText : Source → Nonterminal → ℕ → List Node → List Node → Result Reading AllocError → Type 0
-ReadsText source f from old new (Ok (reading.Found root next open_)) = IsRead source f from old new root next open_.items
-ReadsText source f from old new (Ok (reading.Nothing token)) = IsRefused source f from token × Extends old new
-ReadsText source f from old new (Err e) = Extends old new
+-- the index that a reader answers, if there is one, is that of a token or behind the last
+abbrev pub EndsInside : Source → Result (Option ℕ) AllocError → Type 0
+EndsInside source (Ok (Some next)) = next ≤ length source.terminals
+EndsInside source (Ok None) = Unit {0}
+EndsInside source (Err e) = Unit {0}
+
+-- The longest text of a rule was read, behind nodes that were there.
+pub record IsFound (source : Source) (p : Rule) (from next : ℕ) (old new : List Node) (roots : List NodeId) (open_ : List OpenBody) : Type 0 where
+  pub got : Read
+  pub long : LongestMatch (lookahead source) kept_apart source p no_read from next None got
+  pub inside : next ≤ length source.terminals
+  pub grown : Extends old new
+  pub shown : BuiltTrees (length old) new roots open_
+  pub trees : trees_at new roots ≡ got.trees
+  pub bodies : map (body_of new) open_ ≡ got.bodies
+
+abbrev pub Finds : Source → Rule → ℕ → List Node → List Node → Option Found → Type 0
+Finds source p from old new (Some found) = IsFound source p from found.next old new found.roots.items found.bodies.items
+Finds source p from old new None = NoneOf source p from × Extends old new
+
+abbrev pub Takes : Source → Rule → ℕ → List Node → List Node → Result Reading AllocError → Type 0
+Takes source p from old new (Ok reading) = Finds source p from old new reading.found × (reading.token ≤ length source.terminals)
+Takes source p from old new (Err e) = Extends old new
+
+abbrev pub TakesForm : Source → Nonterminal → ℕ → List Node → List Node → Result Reading AllocError → Type 0
+TakesForm source f from old new result = Takes source (form f) from old new result
 
 abbrev pub Measures : Source → Nonterminal → ℕ → ℕ → ℕ → List Node → List Node → Result Outcome AllocError → Type 0
 Measures source f from depth limit old new (Ok (outcome.Parsed out)) = IsParsed source f from depth limit old new out

@@ -1,162 +1,121 @@
 //! How deep the nodes of a tree lie.
 
-ghost use Rattle.std.specs.Prelude.{◌≡◌, ◌≤◌, ◌<◌, ◌+◌, ◌-◌, ◌^◌, ℕ, length, IfOk, IfSome, MatchOption, None, Some, true, slice_get, slice_index};
+ghost use Rattle.std.specs.Prelude.{◌≡◌, ◌≤◌, ◌<◌, ◌^◌, List, length, IfOk, true, slice_get};
+ghost use Rattle.cpp_ast.specs.declared.units.LamBody.{LamBody as LamBodyRecord};
 ghost use Rattle.cpp_ast.specs.Orders.{are_below};
-ghost use Rattle.cpp_ast.specs.Trees.{Tree, Trees, Shows, ShowsAll, kind_of, deepest};
-ghost use Rattle.cpp_parse_expr.specs.Depths.{step, height, height_in, deep_node, deep_kid, are_from, HoldOwn, HoldLower, HoldOnce, AreHeights, IsDeep};
-ghost use Rattle.cpp_parse_expr.specs.Depths.{HasDeep, HandsDown, AreLow, AreDepths};
+ghost use Rattle.cpp_ast.specs.Trees.{Tree, Trees, ShowsWith, ShowsAllWith, kid_depth};
+ghost use Rattle.cpp_syntax.specs.View.{is_lambda};
+ghost use Rattle.cpp_parse_expr.specs.Depths.{deep_node, deep_kid, lambda_depths, lambda_depths_in, Searches, HaveNodes, IsNotedIn, at_most_one};
 
-use cpp_ast::{NodeId, NodeKind, Nodes};
-use std::alloc::{AllocError, Global};
+use cpp_ast::{At, NodeId, NodeKind, Nodes};
+use cpp_syntax::shapes::descend;
+use std::alloc::AllocError;
 
-/// How much deeper a node of a kind lies than the node that holds it.
-fn step(kind: NodeKind) -> u64
-    ensures { result ≡ step kind }
-{
-    if kind.counts_one() { 1 } else { 0 }
-}
-
-/// For each node from one on, how much deeper than it the deepest node of its tree lies.
-pub fn heights(alloc: Global, nodes: &Nodes, first: u32) -> Result<Vec<u64>, AllocError>
-    requires within { first ≤ length nodes.now }
-    requires own { HoldOwn first nodes.now }
-    ensures heights { IfOk result (λ heights. AreHeights nodes.now first heights.items) }
-    ensures all { IfOk result (λ heights. first + length heights.items ≡ length nodes.now) }
-    ensures lower { IfOk result (λ heights. HoldLower first nodes.now) }
-{
-    let mut heights: Vec<u64> = Vec::new(alloc);
-    'nodes: for id in first..nodes.len() {
-        let height = greatest_reach(nodes, first, &nodes.node(NodeId(id)).kids, &heights);
-        heights.push(height)?;
-    }
-    Ok(heights)
-}
-
-/// How much deeper than the node that holds some kids the deepest node below it lies.
-fn greatest_reach(nodes: &Nodes, first: u32, kids: &[NodeId], heights: &Vec<u64>) -> u64
-    requires known { AreHeights nodes.now first heights.now.items }
-    requires own { are_from first kids.now ≡ true }
-    requires below { are_below (first + length heights.now.items) kids.now ≡ true }
-    ensures greatest { (trees : Trees) → ShowsAll nodes.now kids.now trees → result ≡ height_in trees }
-    ensures low { result ≤ length heights.now.items }
-{
-    let mut height = 0;
-    'kids: for kid in kids {
-        height = height.max(reach(nodes, first, *kid, heights));
-    }
-    height
-}
-
-/// How much deeper than the node that holds it the deepest node of a kid's tree lies.
-fn reach(nodes: &Nodes, first: u32, kid: NodeId, heights: &Vec<u64>) -> u64
-    requires known { AreHeights nodes.now first heights.now.items }
-    requires own { first ≤ kid.0 }
-    requires below { kid.0 < first + length heights.now.items }
-    ensures reach { (tree : Tree) → Shows nodes.now kid.0 tree → result ≡ step (kind_of tree) + height tree }
-    ensures low { result ≤ length heights.now.items }
-{
-    step(nodes.node(kid).kind) + heights[(kid.0 - first) as usize]
-}
-
-/// The first node of a tree that lies deeper than a limit, where its root has a depth: a node comes before its kids, and
-/// these come in their order. It goes down one path, by the heights of all nodes from `first` on.
-pub fn first_deeper(
+/// The position of the first node that lies deeper than a limit, of a tree whose root has a depth: a node comes before its
+/// kids, these come in their order, and the body that is noted for a lambda comes after its kids. Where no node lies so deep,
+/// the depths of the lambdas are noted, in the order in which the lambdas end.
+#[cycle(down)]
+pub fn first_deep(
     nodes: &Nodes,
-    root: NodeId,
-    depth: u32,
+    noted: &[Option<NodeId>],
+    id: NodeId,
+    depth: u64,
     limit: u32,
-    first: u32,
-    heights: &Vec<u64>,
-) -> Option<NodeId>
-    requires known { AreHeights nodes.now first heights.now.items }
-    requires all { first + length heights.now.items ≡ length nodes.now }
-    requires own { HoldOwn first nodes.now }
-    requires root { root.0 < length nodes.now }
-    requires new { first ≤ root.0 }
-    ensures { (tree : Tree) → Shows nodes.now root.0 tree
-        → MatchOption result (deepest depth tree ≤ limit) (λ id. (limit < deepest depth tree) × IsDeep nodes.now id.0 (deep_node limit depth tree)) }
+    depth_left: u32,
+    lambdas: &mut Vec<u32>,
+) -> Result<Option<At>, AllocError>
+    requires there { HaveNodes (length nodes.now) noted.now }
+    requires inside { id.0 < length nodes.now }
+    ensures { IfOk result (λ position. (bodies : List LamBodyRecord) (tree : Tree) → IsNotedIn bodies noted.now → ShowsWith bodies nodes.now id.0 tree
+        → Searches (deep_node limit depth tree) (lambda_depths depth tree) lambdas.old.items lambdas.new.items position) }
 {
-    let limit = u64::from(limit);
-    let mut id = root;
-    let mut here = u64::from(depth);
-    'down: while here <= limit {
-        let Some(kid) = deeper_kid(nodes, &nodes.node(id).kids, here, limit, first, heights) else {
-            return None;
-        };
-        here += step(nodes.node(kid).kind);
-        id = kid;
+    let node = nodes.node(id);
+    let most = u64::from(limit);
+    if depth > most {
+        return Ok(Some(node.at));
     }
-    Some(id)
+    let inner = descend(depth_left)?;
+    if let Some(position) = first_deep_kid(
+        nodes, noted, &node.kids, depth, limit, inner, lambdas,
+    )? {
+        return Ok(Some(position));
+    }
+    if let Some(behind) = first_deep_in_body(nodes, noted, id, depth, limit, inner, lambdas)? {
+        return Ok(Some(behind));
+    }
+    if is_lambda(node.kind) {
+        lambdas.push(depth as u32)?;
+        return Ok(None);
+    }
+    Ok(None)
 }
 
-/// The first kid of a node of a depth whose tree reaches below the limit.
-fn deeper_kid(
+/// The same among the trees of the kids of a node of a depth.
+#[cycle(down)]
+pub fn first_deep_kid(
     nodes: &Nodes,
+    noted: &[Option<NodeId>],
     kids: &[NodeId],
-    here: u64,
-    limit: u64,
-    first: u32,
-    heights: &Vec<u64>,
-) -> Option<NodeId>
-    requires known { AreHeights nodes.now first heights.now.items }
-    requires own { are_from first kids.now ≡ true }
-    requires below { are_below (first + length heights.now.items) kids.now ≡ true }
-    requires here { here ≤ limit }
-    ensures deep { (trees : Trees) → ShowsAll nodes.now kids.now trees
-        → MatchOption result (deep_kid limit here trees ≡ None) (λ id. HasDeep nodes.now id.0 limit here trees) }
-    ensures lower { (position : ℕ) → are_below position kids.now ≡ true → IfSome result (λ id. id.0 < position) }
-    ensures own { IfSome result (λ id. first ≤ id.0) }
+    depth: u64,
+    limit: u32,
+    depth_left: u32,
+    lambdas: &mut Vec<u32>,
+) -> Result<Option<At>, AllocError>
+    requires there { HaveNodes (length nodes.now) noted.now }
+    requires below { are_below (length nodes.now) kids.now ≡ true }
+    requires here { depth ≤ limit }
+    ensures { IfOk result (λ position. (bodies : List LamBodyRecord) (trees : Trees) → IsNotedIn bodies noted.now
+        → ShowsAllWith bodies nodes.now kids.now trees
+        → Searches (deep_kid limit depth trees) (lambda_depths_in depth trees) lambdas.old.items lambdas.new.items position) }
 {
     'kids: for kid in kids {
-        if reach(nodes, first, *kid, heights) > limit - here {
-            return Some(*kid);
+        let below = depth_of_kid(nodes.node(*kid).kind, depth);
+        if let Some(position) = first_deep(nodes, noted, *kid, below, limit, depth_left, lambdas)? {
+            return Ok(Some(position));
         }
     }
-    None
+    Ok(None)
 }
 
-/// The depths of the nodes below a root, where it has a depth, for each node from `first` on. Those that do not lie below
-/// the root have any number.
-pub fn depths(
-    alloc: Global,
+/// The same in the body of a lambda of a depth, if one is noted for a node.
+#[cycle(down)]
+fn first_deep_in_body(
     nodes: &Nodes,
-    root: NodeId,
-    depth: u32,
-    first: u32,
-) -> Result<Vec<u64>, AllocError>
-    requires own { HoldOwn first nodes.now }
-    requires lower { HoldLower first nodes.now }
-    requires once { HoldOnce first nodes.now }
-    requires root { root.0 < length nodes.now }
-    requires new { first ≤ root.0 }
-    ensures { IfOk result (λ depths. AreDepths nodes.now root.0 depth first depths.items) }
+    noted: &[Option<NodeId>],
+    id: NodeId,
+    depth: u64,
+    limit: u32,
+    depth_left: u32,
+    lambdas: &mut Vec<u32>,
+) -> Result<Option<At>, AllocError>
+    requires there { HaveNodes (length nodes.now) noted.now }
+    requires here { depth ≤ limit }
+    ensures { IfOk result (λ position. (bodies : List LamBodyRecord) (trees : Trees) → IsNotedIn bodies noted.now
+        → ShowsAllWith bodies nodes.now (at_most_one (slice_get noted.now id.0)) trees
+        → Searches (deep_kid limit depth trees) (lambda_depths_in depth trees) lambdas.old.items lambdas.new.items position) }
 {
-    let mut depths: Vec<u64> = vec![in alloc; 0; (nodes.len() - first) as usize]?;
-    depths[(root.0 - first) as usize] = u64::from(depth);
-    'nodes: for id in (first..root.0 + 1).rev() {
-        let here = depths[(id - first) as usize];
-        hand_down(
-            nodes,
-            first,
-            &nodes.node(NodeId(id)).kids,
-            here,
-            &mut depths,
-        );
+    let lambda = id.0 as usize;
+    let many = noted.len();
+    if lambda >= many {
+        return Ok(None);
     }
-    Ok(depths)
+    match noted[lambda] {
+        Some(body) => first_deep_kid(nodes, noted, &[body], depth, limit, depth_left, lambdas),
+        None => Ok(None),
+    }
 }
 
-/// Gives each kid of a node its depth.
-fn hand_down(nodes: &Nodes, first: u32, kids: &[NodeId], depth: u64, depths: &mut Vec<u64>)
-    requires all { first + length depths.old.items ≡ length nodes.now }
-    requires own { are_from first kids.now ≡ true }
-    requires below { are_below (length nodes.now) kids.now ≡ true }
-    requires fits { depth + 1 < 2 ^ 64 }
-    ensures handed { HandsDown nodes.now first kids.now depth depths.old.items depths.new.items }
-    ensures low { (most position : ℕ) → are_below position kids.now ≡ true → depth + position ≤ most + first → AreLow most depths.old.items
-        → AreLow most depths.new.items }
+/// The depth of a kid of a kind in a node of a depth.
+fn depth_of_kid(kind: NodeKind, depth: u64) -> u64
+    requires { depth < 2 ^ 32 }
+    ensures { result ≡ kid_depth depth kind }
 {
-    'kids: for kid in kids {
-        depths[(kid.0 - first) as usize] = depth + step(nodes.node(*kid).kind);
-    }
+    if kind.counts_one() { depth + 1 } else { depth }
+}
+
+/// Whether a node of a kind is a lambda.
+fn is_lambda(kind: NodeKind) -> bool
+    ensures { result ≡ is_lambda kind }
+{
+    matches!(kind, NodeKind::Lambda)
 }

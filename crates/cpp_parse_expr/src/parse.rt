@@ -1,19 +1,21 @@
-//! The one call of this crate.
+//! The call that reads a form alone, and what it is made of.
 
-ghost use Rattle.std.specs.Prelude.{◌≡◌, ◌≤◌, ◌<◌, ◌-◌, ◌^◌, ℕ, IfOk, None, Some, length, map, take, slice_get, slice_index};
+ghost use Rattle.std.specs.Prelude.{◌≡◌, ◌≤◌, ℕ, IfOk, None, length, map};
 ghost use Rattle.cpp_syntax.specs.Source.{position_at};
-ghost use Rattle.cpp_syntax.specs.Parsed.{ParsesForm};
-ghost use Rattle.cpp_syntax.specs.declared.positions.OpenBody.{OpenBody as OpenBodyRecord};
-ghost use Rattle.cpp_parse_expr.specs.Parse.{form_of, open_bodies, Parses, ReadsText, Measures, IsRead};
+ghost use Rattle.cpp_syntax.specs.Rules.{Rule};
+ghost use Rattle.cpp_syntax.specs.Derivations.{no_read};
+ghost use Rattle.cpp_syntax.specs.View.{BuilderState};
+ghost use Rattle.cpp_syntax.specs.Parsed.{ParsesForm, ParsesLongest};
+ghost use Rattle.cpp_parse_expr.specs.Parse.{form_of, open_bodies, EndsInside, Parses, Takes, TakesForm, Measures};
 
 use crate::declarators::{
     declarator, function_qualifiers, parameter_clause, parameter_declaration, type_id,
 };
-use crate::depth::{depths, first_deeper, heights};
+use crate::depth::first_deep;
 use crate::expressions::{assignment_expression, conditional_expression, expression};
 use crate::types::type_specifier_seq;
 use cpp_ast::{At, NodeId, Nodes};
-use cpp_syntax::limits::MAX_NESTED_CALLS;
+use cpp_syntax::limits::{MAX_NESTED_CALLS, MAX_NESTED_SEARCHES};
 use cpp_syntax::{Builder, Naming, OpenBody, Parts, TypeNames};
 use std::alloc::{AllocError, Global};
 use std::mem;
@@ -81,19 +83,24 @@ pub enum ParseFault {
     Memory,
 }
 
-/// What a form was read as.
+/// What was read of tokens from an index on.
 #[derive(Drop)]
-enum Reading {
-    /// Its longest text.
-    Found {
-        root: NodeId,
-        next: u32,
-        bodies: Vec<OpenBody>,
-    },
-    /// There is none; the token up to which there could be one.
-    Nothing {
-        token: u32,
-    },
+pub struct Reading {
+    /// The longest text that begins there, if one does.
+    pub found: Option<Found>,
+    /// The token up to which there could be a longer one.
+    pub token: u32,
+}
+
+/// The longest text from an index on.
+#[derive(Drop)]
+pub struct Found {
+    /// The roots of its trees.
+    pub roots: Vec<NodeId>,
+    /// The index behind its last token.
+    pub next: u32,
+    /// The bodies of its lambdas, which are not read.
+    pub bodies: Vec<OpenBody>,
 }
 
 /// What is answered of a form, but for want of memory.
@@ -151,13 +158,31 @@ fn parse_text(
     requires { from ≤ length types.now.terminals }
     ensures { Measures types.now (form_of form) from depth limit nodes.old nodes.new result }
 {
-    let first = nodes.len();
-    match read_text(alloc, form, from, types, nodes)? {
-        Reading::Nothing { token } => Ok(Outcome::Refused { token }),
-        Reading::Found { root, next, bodies } => measure(
-            alloc, form, from, types, depth, limit, nodes, first, root, next, bodies,
-        ),
+    let Reading { found, token } = read_text(alloc, form, from, types, nodes)?;
+    let Some(Found {
+        roots,
+        next,
+        bodies,
+    }) = found
+    else {
+        return Ok(Outcome::Refused { token });
+    };
+    let root = roots[0];
+    let mut depths = Vec::new(alloc);
+    if let Some(position) = first_deep(
+        nodes,
+        &[],
+        root,
+        u64::from(depth),
+        limit,
+        MAX_NESTED_SEARCHES,
+        &mut depths,
+    )? {
+        let token = token_at(types, position);
+        return Ok(Outcome::TooDeep { token });
     }
+    let bodies = with_depths(alloc, &bodies, &depths)?;
+    Ok(Outcome::Parsed(ExprOut { root, next, bodies }))
 }
 
 /// Reads the longest text of a form.
@@ -169,12 +194,28 @@ fn read_text(
     nodes: &mut Nodes,
 ) -> Result<Reading, AllocError>
     requires { from ≤ length types.now.terminals }
-    ensures { ReadsText types.now (form_of form) from nodes.old nodes.new result }
+    ensures { TakesForm types.now (form_of form) from nodes.old nodes.new result }
+{
+    let at = from as usize;
+    let mut out = Builder::over(alloc, mem::replace(nodes, Nodes::new(alloc)));
+    let read = read_form(form, types, at, &mut out);
+    take_reading(types, at, read, out, nodes)
+}
+
+/// What a reader read of tokens from an index on: its answer, and the builder in which it left the rest. The builder's nodes are handed back.
+pub fn take_reading(
+    types: &TypeNames,
+    from: usize,
+    read: Result<Option<usize>, AllocError>,
+    out: Builder,
+    nodes: &mut Nodes,
+) -> Result<Reading, AllocError>
+    requires { EndsInside types.now read }
+    ensures { (rule : Rule) (before : BuilderState) → before.read ≡ no_read → ParsesLongest types.now rule from None before out read
+        → Takes types.now rule from before.base nodes.new result }
 {
     let len = types.len();
-    let mut out = Builder::over(alloc, mem::replace(nodes, Nodes::new(alloc)));
-    let read = read_form(form, types, from as usize, &mut out);
-    let token = out.furthest_failure().max(from as usize).min(len) as u32;
+    let furthest = out.furthest_failure().max(from);
     let Parts {
         nodes: grown,
         roots,
@@ -182,12 +223,23 @@ fn read_text(
     } = out.into_parts();
     *nodes = grown;
     match read {
-        Ok(Some(next)) => Ok(Reading::Found {
-            root: roots[0],
-            next: next as u32,
-            bodies,
-        }),
-        Ok(None) => Ok(Reading::Nothing { token }),
+        Ok(Some(next)) => {
+            let token = furthest.max(next).min(len) as u32;
+            let next = next as u32;
+            let found = Found {
+                roots,
+                next,
+                bodies,
+            };
+            Ok(Reading {
+                found: Some(found),
+                token,
+            })
+        }
+        Ok(None) => {
+            let token = furthest.min(len) as u32;
+            Ok(Reading { found: None, token })
+        }
         Err(error) => Err(error),
     }
 }
@@ -215,34 +267,6 @@ fn read_form(
     }
 }
 
-/// Answers a text that was read, if it does not nest too deep.
-fn measure(
-    alloc: Global,
-    form: ExprForm,
-    from: u32,
-    types: &TypeNames,
-    depth: u32,
-    limit: u32,
-    nodes: &Nodes,
-    first: u32,
-    root: NodeId,
-    next: u32,
-    bodies: Vec<OpenBody>,
-) -> Result<Outcome, AllocError>
-    requires first { first ≤ length nodes.now }
-    requires read { IsRead types.now (form_of form) from (take first nodes.now) nodes.now root next bodies.items }
-    ensures { Measures types.now (form_of form) from depth limit (take first nodes.now) nodes.now result }
-{
-    let heights = heights(alloc, nodes, first)?;
-    if let Some(deep) = first_deeper(nodes, root, depth, limit, first, &heights) {
-        let token = token_at(types, nodes.node(deep).at);
-        return Ok(Outcome::TooDeep { token });
-    }
-    let depths = depths(alloc, nodes, root, depth, first)?;
-    let bodies = with_depths(alloc, &bodies, &depths, first)?;
-    Ok(Outcome::Parsed(ExprOut { root, next, bodies }))
-}
-
 /// The first token that has an index, or the number of tokens where none has.
 pub fn token_at(types: &TypeNames, position: At) -> u32
     ensures inside { result ≤ length types.now.terminals }
@@ -260,20 +284,18 @@ pub fn token_at(types: &TypeNames, position: At) -> u32
 fn with_depths(
     alloc: Global,
     bodies: &[OpenBody],
-    depths: &[u64],
-    first: u32,
+    depths: &[u32],
 ) -> Result<Vec<BodyRange>, AllocError>
-    requires there { (k : ℕ) (body : OpenBodyRecord) → slice_get bodies.now k ≡ Some body → (first ≤ body.lam.0) × (body.lam.0 - first < length depths.now) }
-    requires shallow { (k : ℕ) (body : OpenBodyRecord) → slice_get bodies.now k ≡ Some body → slice_index depths.now (body.lam.0 - first) < 2 ^ 32 }
+    requires { length depths.now ≡ length bodies.now }
     ensures bodies { IfOk result (λ ranges. open_bodies ranges.items ≡ bodies.now) }
-    ensures depths { IfOk result (λ ranges. map (λ range. range.depth) ranges.items ≡ map (λ body. slice_index depths.now (body.lam.0 - first)) bodies.now) }
+    ensures depths { IfOk result (λ ranges. map (λ range. range.depth) ranges.items ≡ depths.now) }
 {
     let mut ranges = Vec::new(alloc);
-    'bodies: for body in bodies {
-        let depth = depths[(body.lam.0 - first) as usize] as u32;
+    'bodies: for k in 0..bodies.len() {
+        let body = bodies[k];
         ranges.push(BodyRange {
             lam: body.lam,
-            depth,
+            depth: depths[k],
             from: body.from,
             to: body.to,
         })?;

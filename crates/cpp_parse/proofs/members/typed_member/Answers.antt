@@ -1,39 +1,75 @@
-use Rattle.cpp_syntax.proofs.LongestMatches.{neither}
-use Rattle.cpp_parse_expr.proofs.ReaderAnswers.{parsed_err, parsed_left, parsed_right}
-use Rattle.cpp_parse.proofs.LongestAlone.{parsed_from}
+use Rattle.std.proofs.Common.{refl}
+use Rattle.cpp_syntax.proofs.LongestMatches.{seq_none, node_none, form_none, neither}
+use Rattle.cpp_syntax.proofs.Readers.{leaves_both, leaves_read, none_behind, none_seq}
+use Rattle.cpp_parse_expr.proofs.ReaderAnswers.{parsed_err}
+use Rattle.cpp_parse_expr.proofs.PostfixReaders.{parsed_instead, with_none_before, with_none_behind, with_same_before}
+use Rattle.cpp_parse.specs.declared.single_members.MemberHead.{MemberHead}
 use Rattle.cpp_parse.proofs.MemberStarts.{single_none, function_none, initialized_none, listed_none}
+use Rattle.cpp_parse.proofs.MemberHeads.{typed_head, bare_head, none_single, none_function, none_initialized, none_listed, as_it_is}
 use Rattle.cpp_parse.proofs.members.typed_member.Goals as goal
 
-pub returns-in_err-shape : goal.returns-in_err-shape
-returns-in_err-shape c = parsed_err _ _ _ _ c.from_residual.result c.from_residual.ensures.0 c.in_err-shape.ensures
+pub returns-in_err-named : goal.returns-in_err-named
+returns-in_err-named c = parsed_err _ _ _ _ c.from_residual.result c.from_residual.ensures.0 c.in_err-named.ensures
 
-pub returns-in-Function : goal.returns-in-Function
-returns-in-Function c =
-    let h = (rw c.in-Function.is at c.in_ok-shape.ensures.1) in
-    parsed_from _ _ _ _ _ _ _ c.member_function.result (c.cut.ensures _ _ c.checkpoint-start.ensures ((c.in_ok-shape.ensures).0).gained)
-    (parsed_right _ _ _ _ _ _ _ c.member_function.result (single_none c.requires.begins h.0)
-    (parsed_right _ _ _ _ _ _ _ c.member_function.result (initialized_none h.1) (parsed_right _ _ _ _ _ _ _ c.member_function.result
-    (listed_none h.2) (c.member_function.ensures))))
+pub returns-in_default : goal.returns-in_default
+returns-in_default c =
+    let y = rw c.in_default.is at c.in_ok-named.ensures in (
+      y.0,
+      neither (single_none c.requires.begins (none_seq y.1)) (neither (initialized_none (none_seq y.1)) (neither (listed_none (none_seq y.1))
+          (function_none c.requires.begins (none_seq y.1)))),
+    )
 
-pub returns-in-Single : goal.returns-in-Single
-returns-in-Single c =
-    let h = (rw c.in-Single.is at c.in_ok-shape.ensures.1) in
-    parsed_from _ _ _ _ _ _ _ c.single_declaration.result (c.cut.ensures _ _ c.checkpoint-start.ensures ((c.in_ok-shape.ensures).0).gained)
-    (parsed_left _ _ _ _ _ _ _ c.single_declaration.result (neither (initialized_none h.0)
-    (neither (listed_none h.1) (function_none c.requires.begins h.2))) c.single_declaration.ensures)
+pub returns-in_err-behind : goal.returns-in_err-behind
+returns-in_err-behind c =
+    parsed_err _ _ _ _ c.from_residual-in_err-behind.result c.from_residual-in_err-behind.ensures.0
+    (leaves_both (leaves_read (rw c.in-Some.is at c.in_ok-named.ensures)) c.in_err-behind.ensures)
 
-pub returns-in-Initialized : goal.returns-in-Initialized
-returns-in-Initialized c =
-    let h = (rw c.in-Initialized.is at c.in_ok-shape.ensures.1) in
-    parsed_from _ _ _ _ _ _ _ c.initialized_declaration.result (c.cut.ensures _ _ c.checkpoint-start.ensures ((c.in_ok-shape.ensures).0).gained)
-    (parsed_right _ _ _ _ _ _ _ c.initialized_declaration.result (single_none c.requires.begins h.0)
-    (parsed_left _ _ _ _ _ _ _ c.initialized_declaration.result (neither (listed_none h.1) (function_none c.requires.begins h.2))
-    c.initialized_declaration.ensures))
+pub returns-in_default-2 : goal.returns-in_default-2
+returns-in_default-2 c =
+    let read_named = rw c.in-Some.is at c.in_ok-named.ensures in
+    let y = rw c.in_default-2.is at c.in_ok-behind.ensures in (
+      leaves_both (leaves_read read_named) y.0,
+      neither (single_none c.requires.begins (none_behind read_named (none_seq (form_none (node_none (none_seq y.1)))) refl refl refl))
+          (neither (initialized_none (none_behind read_named (none_seq (form_none (node_none (none_seq y.1)))) refl refl refl))
+          (neither (listed_none (none_behind read_named (none_seq (form_none (node_none (none_seq y.1)))) refl refl refl))
+          (function_none c.requires.begins (none_behind read_named (none_seq y.1) refl refl refl)))),
+    )
 
-pub returns-in-Listed : goal.returns-in-Listed
-returns-in-Listed c =
-    let h = (rw c.in-Listed.is at c.in_ok-shape.ensures.1) in
-    parsed_from _ _ _ _ _ _ _ c.listed_declaration.result (c.cut.ensures _ _ c.checkpoint-start.ensures ((c.in_ok-shape.ensures).0).gained)
-    (parsed_right _ _ _ _ _ _ _ c.listed_declaration.result (single_none c.requires.begins h.0)
-    (parsed_right _ _ _ _ _ _ _ c.listed_declaration.result (initialized_none h.1) (parsed_left _ _ _ _ _ _ _ c.listed_declaration.result
-    (function_none c.requires.begins h.2) c.listed_declaration.ensures)))
+pub returns-then-begins_values : goal.returns-then-begins_values
+returns-then-begins_values c =
+    let read_named = rw c.in-Some.is at c.in_ok-named.ensures in
+    let read_behind = rw c.in-Some-2.is at c.in_ok-behind.ensures in
+    let head : MemberHead = record {
+      at = c.args.at;
+      start = c.checkpoint-start.result;
+      named = c.in-Some.named;
+      first = c.checkpoint-first.result;
+      name = c.declared_token-name.result;
+      behind = c.in-Some-2.behind;
+    } in
+    let x = typed_head head read_named c.checkpoint-first.ensures read_behind
+    (c.declared_token-name.ensures _ _ c.checkpoint-first.ensures (read_behind).gained) in
+    let h = bare_head head c.requires.here c.requires.begins c.checkpoint-start.ensures x in
+    let v = c.if-begins_values.ensures in
+    parsed_instead _ _ _ _ _ _ _ c.data_members.result
+    (with_none_before (none_single h v.0) (with_same_before (with_none_behind (none_function h v.1)))) refl
+    (c.data_members.ensures _ c.checkpoint-start.ensures x)
+
+pub returns : goal.returns
+returns c =
+    let read_named = rw c.in-Some.is at c.in_ok-named.ensures in
+    let read_behind = rw c.in-Some-2.is at c.in_ok-behind.ensures in
+    let head : MemberHead = record {
+      at = c.args.at;
+      start = c.checkpoint-start.result;
+      named = c.in-Some.named;
+      first = c.checkpoint-first.result;
+      name = c.declared_token-name.result;
+      behind = c.in-Some-2.behind;
+    } in
+    let x = typed_head head read_named c.checkpoint-first.ensures read_behind
+    (c.declared_token-name.ensures _ _ c.checkpoint-first.ensures (read_behind).gained) in
+    let v = c.if-begins_values.ensures in
+    parsed_instead _ _ _ _ _ _ _ c.function_or_single.result
+    (with_same_before (with_none_before (initialized_none (none_initialized x v.0)) (with_none_before (listed_none (none_listed x v.1)) as_it_is))) refl
+    (c.function_or_single.ensures _ (bare_head head c.requires.here c.requires.begins c.checkpoint-start.ensures x))

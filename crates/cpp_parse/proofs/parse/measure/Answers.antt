@@ -6,9 +6,9 @@ use Rattle.cpp_ast.specs.Orders.{are_below}
 use Rattle.cpp_ast.specs.Trees.{Trees, ShowsAllWith}
 use Rattle.cpp_syntax.specs.Source.{Source}
 use Rattle.cpp_syntax.specs.Lookahead.{IsUnit}
-use Rattle.cpp_parse.specs.NotedBodies.{AreWithin, IsOnceEach, IsNotedIn}
+use Rattle.cpp_parse.specs.NotedBodies.{AreWithin, IsOnceEach}
 use Rattle.cpp_parse.specs.Units.{deepest_allowed}
-use Rattle.cpp_parse_expr.specs.Depths.{deep_kid}
+use Rattle.cpp_parse_expr.specs.Depths.{deep_kid, IsNotedIn}
 use Rattle.cpp_parse.proofs.UnitRead.{are_within, are_once, held_once, too_deep, is_shallow}
 use Rattle.cpp_parse.proofs.parse.measure.Goals as goal
 
@@ -43,9 +43,9 @@ returns c =
     let here = rw c.in_default.is at c.in_ok-position.ensures in
     let noted : IsNotedIn c.args.whole.bodies.items c.deref-2.result.now = subst (λ (bs : List LamBody). IsNotedIn bs c.deref-2.result.now)
     c.deref.ensures.value (subst (IsNotedIn c.deref.result.now) (sym c.deref-2.ensures.value) c.in_ok-noted.ensures.noted) in
-    let low : None ≡ deep_kid deepest_allowed 1 c.requires.read.decls = here c.args.whole.bodies.items c.requires.read.decls noted
+    let low : None ≡ deep_kid deepest_allowed 1 c.requires.read.decls = (here c.args.whole.bodies.items c.requires.read.decls noted
     (subst (λ (ids : List NodeId). ShowsAllWith c.args.whole.bodies.items c.args.whole.nodes ids c.requires.read.decls)
-    (sym c.deref-3.ensures.value) c.requires.read.known.shows) in
+    (sym c.deref-3.ensures.value) c.requires.read.known.shows)).0 in
     record {
       decls = c.requires.read.decls;
       derives = subst (λ (z : Source). IsUnit z c.requires.read.decls) c.requires.types c.requires.read.derives;

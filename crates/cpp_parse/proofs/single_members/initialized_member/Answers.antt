@@ -1,36 +1,39 @@
 use Rattle.std.proofs.Common.{refl}
-use Rattle.cpp_syntax.proofs.LongestMatches.{node_none, seq_ends}
-use Rattle.cpp_syntax.proofs.Readers.{leaves_same, leaves_both, leaves_read, reads_form, none_seq, none_form}
-use Rattle.cpp_parse_expr.proofs.ReaderAnswers.{parsed_err}
-use Rattle.cpp_parse.proofs.NamedDeclarators.{member_made, none_name}
+use Rattle.cpp_syntax.specs.declared.terminal.Terminal.TheVariants as terminal
+use Rattle.cpp_syntax.specs.Terminals.{semicolon}
+use Rattle.cpp_syntax.specs.Rules.{initialized_member}
+use Rattle.cpp_syntax.proofs.SingleTerminals.{passed, refused}
+use Rattle.cpp_syntax.proofs.LongestMatches.{word_none, seq_none, node_none}
+use Rattle.cpp_syntax.proofs.Readers.{leaves_same, leaves_both, leaves_read, reads_seq, reads_word, reads_form, none_behind}
+use Rattle.cpp_syntax.proofs.ReaderLoops.{reads_mark_next}
+use Rattle.cpp_parse_expr.proofs.ReaderAnswers.{parsed_err, made_at_name}
+use Rattle.cpp_parse.proofs.LongestAlone.{none_marked}
+use Rattle.cpp_parse.proofs.NamedDeclarators.{member_made}
+use Rattle.cpp_parse.proofs.MemberHeads.{leaves_typed}
 use Rattle.cpp_parse.proofs.single_members.initialized_member.Goals as goal
 
-pub returns-in_default : goal.returns-in_default
-returns-in_default c =
-    let x = rw c.in_default.is at c.in_ok-behind.ensures in
-    (x.0, none_form (node_none (none_seq x.1)))
+pub returns-in_err-member_node : goal.returns-in_err-member_node
+returns-in_err-member_node c = λ before between m x y.
+    parsed_err _ _ _ _ c.from_residual.result c.from_residual.ensures.0
+    (leaves_both (leaves_typed x) (leaves_both (leaves_read y) (leaves_same c.in_err-member_node.ensures.memory)))
 
-pub returns-in_err-next : goal.returns-in_err-next
-returns-in_err-next c =
-    parsed_err _ _ _ _ c.from_residual-in_err-next.result c.from_residual-in_err-next.ensures.0
-    (leaves_both (leaves_read (rw c.in-Some.is at c.in_ok-behind.ensures)) (c.in_err-next.ensures))
+pub returns-then-not-is_at : goal.returns-then-not-is_at
+returns-then-not-is_at c = λ before between m x y.
+    let one = reads_form {f = initialized_member} (member_made x.declared y refl refl refl x.name x.mark c.in_ok-member_node.ensures.read) in (
+      leaves_both (leaves_read x.typed) (leaves_both (leaves_read one) (leaves_same c.expected_at.ensures)),
+      node_none (none_marked (none_behind x.typed (none_behind one (word_none (refused semicolon terminal.Semicolon refl _ (c.if-not-is_at.ensures.no refl)))
+          refl refl refl) refl refl refl)),
+    )
 
-pub returns-in_default-2 : goal.returns-in_default-2
-returns-in_default-2 c =
-    let read_behind = rw c.in-Some.is at c.in_ok-behind.ensures in
-    let y = rw c.in_default-2.is at c.in_ok-next.ensures in
-    (leaves_both (leaves_read read_behind) (y.0), none_form (node_none (seq_ends (read_behind).long (none_name y.1 refl _) refl refl)))
-
-pub returns-in_err-node_at_name : goal.returns-in_err-node_at_name
-returns-in_err-node_at_name c =
-    let read_behind = rw c.in-Some.is at c.in_ok-behind.ensures in
-    parsed_err _ _ _ _ c.from_residual-in_err-node_at_name.result c.from_residual-in_err-node_at_name.ensures.0
-    (leaves_both (leaves_read read_behind) (leaves_both (leaves_read (rw c.in-Some-2.is at c.in_ok-next.ensures))
-    (leaves_same c.in_err-node_at_name.ensures.memory)))
+pub returns-in_err-node_from : goal.returns-in_err-node_from
+returns-in_err-node_from c = λ before between m x y.
+    let one = reads_form {f = initialized_member} (member_made x.declared y refl refl refl x.name x.mark c.in_ok-member_node.ensures.read) in
+    parsed_err _ _ _ _ c.from_residual-in_err-node_from.result c.from_residual-in_err-node_from.ensures.0
+    (leaves_both (leaves_read x.typed) (leaves_both (leaves_read one) (leaves_same c.in_err-node_from.ensures.memory)))
 
 pub returns : goal.returns
-returns c =
-    let read_behind = rw c.in-Some.is at c.in_ok-behind.ensures in
-    reads_form (member_made read_behind (rw c.in-Some-2.is at c.in_ok-next.ensures) refl refl refl
-    (c.declared_token-name.ensures _ _ c.checkpoint-start.ensures (read_behind).gained) c.checkpoint-start.ensures
-    c.in_ok-node_at_name.ensures.read)
+returns c = λ before between m x y.
+    let one = reads_form {f = initialized_member} (member_made x.declared y refl refl refl x.name x.mark c.in_ok-member_node.ensures.read) in
+    made_at_name (reads_seq (reads_mark_next c.requires.here) (reads_seq x.typed (reads_seq one
+    (reads_word (passed semicolon terminal.Semicolon refl _ (c.if-not-is_at.ensures.yes refl)) (c.if-not-is_at.ensures.inside refl refl)) refl refl) refl
+    refl) refl refl) m c.in_ok-node_from.ensures.read
