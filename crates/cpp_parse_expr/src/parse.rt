@@ -159,11 +159,13 @@ fn parse_text(
     ensures { Measures types.now (form_of form) from depth limit nodes.old nodes.new result }
 {
     let Reading { found, token } = read_text(alloc, form, from, types, nodes)?;
-    let Some(Found {
-        roots,
-        next,
-        bodies,
-    }) = found
+    let Some(
+        Found {
+            roots,
+            next,
+            bodies,
+        },
+    ) = found
     else {
         return Ok(Outcome::Refused { token });
     };

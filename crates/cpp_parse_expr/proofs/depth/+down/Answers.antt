@@ -1,5 +1,5 @@
 -- Where the first node of some trees stands that lies too deep, and the depths of their lambdas.
-use Rattle.std.proofs.Common.{rules, ◌≡◌, Bool, ◌≤◌, ◌++◌, [], List, ℕ, refl, sym, ◌∙◌, ap, subst, arith, length, Some, None, get_or, slice_get, true, append-nil, Option, ◌<◌}
+use Rattle.std.proofs.Common.{rules, ◌≡◌, Bool, ◌≤◌, ◌++◌, List, refl, sym, ◌∙◌, ap, subst, arith, length, Some, None, get_or, slice_get, true, append-nil, Option, ◌<◌}
 use Rattle.std.proofs.lemmas.Option.{slice_get-get_or}
 use Rattle.cpp_ast.specs.declared.arena.NodeId.{NodeId}
 use Rattle.cpp_ast.specs.Orders.{are_below}

@@ -1,4 +1,4 @@
-use Rattle.std.proofs.Common.{◌≡◌, ◌∙◌, ℕ, List, [], Some, None, sym, ap, subst, length, arith}
+use Rattle.std.proofs.Common.{◌∙◌, ℕ, List, [], Some, None, sym, ap, subst, length, arith}
 use Rattle.std.proofs.lemmas.Option.{none-some}
 use Rattle.cpp_syntax.specs.declared.positions.OpenBody.{OpenBody}
 use Rattle.cpp_parse_expr.specs.Depths.{deep_node, lambda_depths, Searches}

@@ -22,8 +22,11 @@ returns-in-Ok-None c = λ rule before empty parsed.
     let result : c.args.read ≡ Ok None = c.in-Ok-None.is ∙ ap (λ (o : Option ℕ). Ok o) none in
     let reads : Leaves before c.args.out × NoneOf c.args.types.now rule c.args.from = subst
     (λ (r : Result (Option ℕ) AllocError). ParsesLongest c.args.types.now rule c.args.from None before c.args.out r) result parsed in (
-      (reads.1, left c.args.types.now rule c.args.from before c.args.out c.into_parts-grown.result.nodes c.into_parts-grown.result.roots.items
-          c.into_parts-grown.result.bodies.items empty c.into_parts-grown.ensures.built c.into_parts-grown.ensures.grown
-          c.into_parts-grown.ensures.shown reads.0),
+      (
+        reads.1,
+        left c.args.types.now rule c.args.from before c.args.out c.into_parts-grown.result.nodes c.into_parts-grown.result.roots.items
+            c.into_parts-grown.result.bodies.items empty c.into_parts-grown.ensures.built c.into_parts-grown.ensures.grown
+            c.into_parts-grown.ensures.shown reads.0,
+      ),
       (let least = c.min-token-in-Ok-None.ensures in let long = c.len-len.ensures.len in omega (arith, least, long)),
     )
