@@ -7,10 +7,10 @@ use Rattle.cpp_ast.proofs.NodeTrees.{extends_trans, extends_refl}
 use Rattle.cpp_ast.specs.declared.arena.Node.{Node}
 use Rattle.cpp_ast.specs.declared.arena.NodeId.{NodeId}
 use Rattle.cpp_ast.specs.declared.units.LamBody.{LamBody}
-use Rattle.cpp_ast.specs.Trees.{Tree, Trees, Extends}
+use Rattle.cpp_ast.specs.Trees.{Tree, Trees}
 use Rattle.cpp_syntax.specs.declared.positions.OpenBody.{OpenBody}
 use Rattle.cpp_syntax.specs.Source.{Source}
-use Rattle.cpp_syntax.specs.Rules.{Nonterminal, form, Lookahead, compound_statement}
+use Rattle.cpp_syntax.specs.Rules.{form, Lookahead, compound_statement}
 use Rattle.cpp_syntax.specs.Derivations.{Body, Read, no_read, one_tree, kept_apart}
 use Rattle.cpp_syntax.specs.Lookahead.{lookahead}
 use Rattle.cpp_syntax.specs.Longest.{LongestMatch, NoDerivation}

@@ -1,7 +1,5 @@
 -- What is known of a rule's longest text alone, and what readers answer from it.
-use Rattle.std.proofs.Common.{◌≡◌, ℕ, ◌⊎◌, inl, inr, true, false, sym as back, subst, Option, Some, None, Result, Ok, Err, true≢false}
-use Rattle.std.specs.Result.{IsErr}
-use Rattle.std.specs.declared.alloc.AllocError.{AllocError}
+use Rattle.std.proofs.Common.{◌≡◌, ℕ, true, false, sym as back, subst, Option, Some, None}
 use Rattle.cpp_ast.specs.declared.kinds.NodeKind.{NodeKind}
 use Rattle.cpp_syntax.specs.declared.positions.Checkpoint.{Checkpoint}
 use Rattle.cpp_syntax.specs.Source.{Source}
@@ -10,7 +8,7 @@ use Rattle.cpp_syntax.specs.Derivations.{Read, no_read, reads_node, positioned, 
 use Rattle.cpp_syntax.specs.FirstSets.{rule_nullable}
 use Rattle.cpp_syntax.specs.Longest.{LongestMatch, NoDerivation, is_free}
 use Rattle.cpp_syntax.specs.View.{BuilderState, appended, IsMark}
-use Rattle.cpp_syntax.specs.Parsed.{Leaves, ReadsLongest, NoneOf, ParsesLongest}
+use Rattle.cpp_syntax.specs.Parsed.{Leaves, ReadsLongest, NoneOf}
 use Rattle.cpp_syntax.proofs.DisjointFirstSets.{apart}
 use Rattle.cpp_syntax.proofs.IndependentDerivations.{free_none}
 use Rattle.cpp_syntax.proofs.LongestMatches.{carry, seq_ends, left_out, many_begins, many_ends}

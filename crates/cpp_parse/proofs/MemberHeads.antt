@@ -20,8 +20,8 @@ use Rattle.cpp_parse_expr.proofs.ReaderAnswers.{none_unlike, made_at_name}
 use Rattle.cpp_parse_expr.proofs.PostfixReaders.{Instead}
 use Rattle.cpp_parse.specs.declared.single_members.MemberHead.{MemberHead}
 use Rattle.cpp_parse.specs.MemberHeads.{IsTyped, IsHead, rest_single, rest_initialized, rest_listed, rest_function}
-use Rattle.cpp_parse.specs.Alternatives.{single_declaration, initialized_declaration, listed_declaration, member_function_alone, member_function}
-use Rattle.cpp_parse.specs.Alternatives.{single, initialized, listed, types, named_declarator, optional_attribute, optional_virtual}
+use Rattle.cpp_parse.specs.Alternatives.{single_declaration, member_function_alone, member_function}
+use Rattle.cpp_parse.specs.Alternatives.{initialized, listed, types, named_declarator, optional_attribute, optional_virtual}
 use Rattle.cpp_parse.proofs.LongestAlone.{reached, none_marked, none_skipped}
 use Rattle.cpp_parse.proofs.MemberShapes.{no_single, no_initialized, no_listed, no_function_body}
 

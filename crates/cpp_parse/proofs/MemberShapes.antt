@@ -5,12 +5,10 @@ use Rattle.std.proofs.Common.{true≢false}
 use Rattle.std.proofs.lemmas.Bool.{not-true, and_from, and_parts, cases_Bool}
 use Rattle.cpp_syntax.specs.declared.terminal.Terminal.{Terminal}
 use Rattle.cpp_syntax.specs.Source.{Source, terminal_at}
-use Rattle.cpp_ast.specs.declared.kinds.NodeKind.TheVariants.{EqualInitializer}
 use Rattle.cpp_syntax.specs.Terminals.{level_of, is_zero, is_integer, semicolon, comma, equal, open_paren}
 use Rattle.cpp_syntax.specs.Types.{is_not_zero}
-use Rattle.cpp_syntax.specs.Rules.{Nonterminal, cast_expression, binary_expression, assignment_expression, compound_statement, a_cast, Rule, word, ◌·◌, form}
-use Rattle.cpp_syntax.specs.Rules.{node, where_, optional}
-use Rattle.cpp_syntax.specs.Grammar.{virt_specifiers}
+use Rattle.cpp_syntax.specs.Rules.{Nonterminal, cast_expression, binary_expression, assignment_expression, a_cast, word, ◌·◌, form}
+use Rattle.cpp_syntax.specs.Rules.{where_, optional}
 use Rattle.cpp_syntax.specs.Derivations.{Read, no_read, kept_apart, Derives, is_nothing, is_word, is_mark, is_both, is_left, is_right, is_node, is_where}
 use Rattle.cpp_syntax.specs.Longest.{LongestMatch}
 use Rattle.cpp_syntax.specs.Lookahead.{lookahead}

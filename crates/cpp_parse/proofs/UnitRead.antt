@@ -11,7 +11,7 @@ use Rattle.cpp_ast.specs.declared.arena.NodeId.{NodeId}
 use Rattle.cpp_ast.specs.declared.kinds.NodeKind.TheVariants.{Absent}
 use Rattle.cpp_ast.specs.declared.units.LamBody.{LamBody}
 use Rattle.cpp_ast.specs.Orders.{IsOrdered}
-use Rattle.cpp_ast.specs.Trees.{Tree, node, Trees, Extends, unit_depth}
+use Rattle.cpp_ast.specs.Trees.{Tree, node, Trees, unit_depth}
 use Rattle.cpp_ast.specs.Units.{times_in, times_a_kid}
 use Rattle.cpp_syntax.specs.declared.positions.OpenBody.{OpenBody}
 use Rattle.cpp_syntax.specs.Source.{Source, position_at}

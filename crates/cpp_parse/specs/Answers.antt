@@ -1,6 +1,5 @@
 -- What readers of declarations and members answer beside what is read.
-use Rattle.std.specs.Prelude.{◌≡◌, ℕ, ◌+◌, ◌≤◌, Bool, true, false, length, Option, Some, None, Result, Ok, Err}
-use Rattle.std.specs.declared.alloc.AllocError.{AllocError}
+use Rattle.std.specs.Prelude.{◌≡◌, ℕ, ◌+◌, ◌≤◌, Bool, true, false, length, Option, Some, None}
 use Rattle.cpp_ast.specs.declared.kinds.NodeKind.TheVariants.{Attribute}
 use Rattle.cpp_syntax.specs.Source.{Source, position_at, terminal_at}
 use Rattle.cpp_syntax.specs.Terminals.{is_type_name, is_string, extern_word, colon_colon, close_paren}
@@ -10,8 +9,7 @@ use Rattle.cpp_syntax.specs.Grammar.{attribute}
 use Rattle.cpp_syntax.specs.Derivations.{Read, no_read, reads_node, kept_apart}
 use Rattle.cpp_syntax.specs.Lookahead.{lookahead}
 use Rattle.cpp_syntax.specs.Longest.{LongestMatch}
-use Rattle.cpp_syntax.specs.View.{BuilderState}
-use Rattle.cpp_syntax.specs.Parsed.{Leaves, NoneOf}
+use Rattle.cpp_syntax.specs.Parsed.{NoneOf}
 use Rattle.cpp_parse.specs.Alternatives.{object_declaration, function_definition, constructor_definition, destructor_definition}
 use Rattle.cpp_parse.specs.Alternatives.{named_declarator, single_declaration, initialized_declaration, listed_declaration}
 use Rattle.cpp_parse.specs.Alternatives.{member_function, constructor_declared, constructor_defined, destructor_declared, destructor_defined}

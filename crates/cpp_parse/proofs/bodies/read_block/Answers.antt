@@ -1,4 +1,4 @@
-use Rattle.std.proofs.Common.{◌≡◌, ◌-◌, ◌∙◌, ℕ, List, Some, None, subst, arith, length}
+use Rattle.std.proofs.Common.{◌-◌, ◌∙◌, List, None, subst, arith}
 use Rattle.cpp_ast.specs.declared.arena.Node.{Node}
 use Rattle.cpp_syntax.specs.Rules.{form, compound_statement}
 use Rattle.cpp_parse_expr.specs.Parse.{IsFound}

@@ -3,8 +3,8 @@ use Rattle.cpp_syntax.specs.declared.terminal.Terminal.TheVariants as terminal
 use Rattle.cpp_syntax.specs.Terminals.{inline_word}
 use Rattle.cpp_syntax.proofs.SingleTerminals.{passed, refused}
 use Rattle.cpp_syntax.proofs.LongestMatches.{mark_none, node_none, form_none, neither}
-use Rattle.cpp_syntax.proofs.Readers.{leaves_both, leaves_read, leaves_same, none_behind, none_seq}
-use Rattle.cpp_parse_expr.proofs.ReaderAnswers.{parsed_err, none_unlike, parsed_left, parsed_right}
+use Rattle.cpp_syntax.proofs.Readers.{leaves_both, leaves_read, none_behind, none_seq}
+use Rattle.cpp_parse_expr.proofs.ReaderAnswers.{parsed_err, none_unlike, parsed_right}
 use Rattle.cpp_parse.specs.declared.single_members.MemberHead.{MemberHead}
 use Rattle.cpp_parse.proofs.LongestAlone.{none_marked, none_skipped}
 use Rattle.cpp_parse.proofs.MemberHeads.{typed_head, typed_until, full_head}

@@ -1,5 +1,5 @@
 use Rattle.std.proofs.Common.{refl}
-use Rattle.cpp_syntax.proofs.LongestMatches.{seq_none, node_none, form_none, neither}
+use Rattle.cpp_syntax.proofs.LongestMatches.{node_none, form_none, neither}
 use Rattle.cpp_syntax.proofs.Readers.{leaves_both, leaves_read, none_behind, none_seq}
 use Rattle.cpp_parse_expr.proofs.ReaderAnswers.{parsed_err}
 use Rattle.cpp_parse_expr.proofs.PostfixReaders.{parsed_instead, with_none_before, with_none_behind, with_same_before}

@@ -1,4 +1,4 @@
-use Rattle.std.proofs.Common.{◌≡◌, ◌∙◌, List, None, subst, arith}
+use Rattle.std.proofs.Common.{◌∙◌, List, None, subst, arith}
 use Rattle.cpp_ast.specs.declared.arena.Node.{Node}
 use Rattle.cpp_syntax.specs.Rules.{form, translation_unit}
 use Rattle.cpp_parse_expr.specs.Parse.{IsFound}

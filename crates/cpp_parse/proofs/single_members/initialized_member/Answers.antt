@@ -3,7 +3,7 @@ use Rattle.cpp_syntax.specs.declared.terminal.Terminal.TheVariants as terminal
 use Rattle.cpp_syntax.specs.Terminals.{semicolon}
 use Rattle.cpp_syntax.specs.Rules.{initialized_member}
 use Rattle.cpp_syntax.proofs.SingleTerminals.{passed, refused}
-use Rattle.cpp_syntax.proofs.LongestMatches.{word_none, seq_none, node_none}
+use Rattle.cpp_syntax.proofs.LongestMatches.{word_none, node_none}
 use Rattle.cpp_syntax.proofs.Readers.{leaves_same, leaves_both, leaves_read, reads_seq, reads_word, reads_form, none_behind}
 use Rattle.cpp_syntax.proofs.ReaderLoops.{reads_mark_next}
 use Rattle.cpp_parse_expr.proofs.ReaderAnswers.{parsed_err, made_at_name}
