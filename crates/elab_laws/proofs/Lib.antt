@@ -1,0 +1,12 @@
+pub mod Arithmetic
+pub mod Assigning
+pub mod Calling
+pub mod Casting
+pub mod Converting
+pub mod Equal
+pub mod Naming
+pub mod Parts
+pub mod Primary
+pub mod Reading
+pub mod Tests
+pub mod Unary

@@ -1,0 +1,118 @@
+-- Casts (C++14 5.2.3, 5.2.9, 5.4), `sizeof` (5.3.3) and `throw` (15.1).
+use Rattle.std.specs.Prelude.{◌≡◌, ℕ, true, false, List, [], ◌∷◌, is_some, Option, Some, None, Result, Ok}
+use Rattle.elab_rules.specs.tx_ints.declared.kinds.IntKind.TheVariants.{ULong}
+use Rattle.elab_rules.specs.cpp_types.Typ.{Typ, void, int, ref, class}
+use Rattle.elab_rules.specs.cpp_types.Conversion.{referred}
+use Rattle.elab_rules.specs.cpp_lex.Tokens.{Lexeme}
+use Rattle.elab_rules.specs.cpp_ast.Trees as syntax
+use Rattle.elab_rules.specs.cpp_ast.declared.arena.At.{At as SyntaxAt}
+use Rattle.elab_rules.specs.cpp_ast.declared.kinds.NodeKind.{NodeKind}
+use Rattle.elab_rules.specs.cpp_ast.declared.kinds.NodeKind.TheVariants as k
+use Rattle.elab_rules.specs.cpp_tree.declared.kinds.TKind.TheVariants.{Literal, Throw, Rethrow, Construct, CopyFrom}
+use Rattle.elab_rules.specs.cpp_tree.Trees.{Tree, kind_of, typ_in}
+use Rattle.elab_rules.specs.cpp_tree.Typing.{form_in, unqualified, kind_in, is_reference}
+use Rattle.elab_rules.specs.cpp_tree.Notation.{plain}
+use Rattle.elab_rules.specs.elab_ctx.Ctx.{Ctx, Work}
+use Rattle.elab_rules.specs.elab_ctx.Steps.{and_then, Operand, Typed, TypedAll, at_of}
+use Rattle.elab_rules.specs.Objects.{size_of}
+use Rattle.elab_rules.specs.Initialising.{class_number, makers, constructor_at, arguments, is_prvalue_itself}
+use Rattle.elab_rules.specs.cpp_overload.Overload.{Argument, IsChosen}
+use Rattle.elab_rules.specs.cpp_overload.declared.calls.NoBest.{NoBest}
+use Rattle.elab_rules.specs.Names.{is_tx_exception}
+use Rattle.elab_rules.specs.Expressions.{expression_of, expression_with, operands_of, specified_with, chosen_operand, type_id_of, type_id_with}
+use Rattle.elab_rules.specs.Types.{no_specifiers, specified_type}
+use Rattle.elab_laws.specs.Reading.{On, IsPrvalue, IsLvalue, value_type, operand_of, AnyOne}
+
+-- what is cast to a type has that type: an lvalue exactly for a reference (5.4 p1), and else a prvalue, without qualifiers where it is no object (5 p6)
+pub data CastTo (t : Typ) (e : Tree) : Type 0 where
+  to_void : form_in t ≡ void → IsPrvalue (plain void) e → CastTo t e
+  to_reference : (u : Typ) → form_in t ≡ ref u → IsLvalue u e → CastTo t e
+  to_scalar : is_some (kind_in (form_in t)) ≡ true → IsPrvalue (unqualified t) e → CastTo t e
+  -- an object of the class, which is initialised by the operand
+  to_class : (n : ℕ) → class_number t ≡ Some n → class_number (typ_in e) ≡ Some n → CastTo t e
+  to_exception : is_tx_exception t ≡ true → is_tx_exception (typ_in e) ≡ true → CastTo t e
+
+-- the type is read, then the operand
+pub record OfCast (s : List Lexeme) (c : Ctx) (w : Work) (a b : syntax.Tree) (r : Typed) : Type 0 where
+  pub typ : Typ
+  pub typ_is : type_id_of s c w a ≡ Ok typ
+  pub operand : Typed
+  pub operand_is : operand_of s c w b ≡ Ok operand
+  pub holds : CastTo typ r.operand.tree
+
+-- of the constructors of a class, and its trivial copy behind them, these arguments mean the one with this index: whatever is the answer of overload resolution (13.3.1.3)
+pub record Makes (c : Ctx) (n : ℕ) (args : List Argument) (i : ℕ) : Type 0 where
+  pub each : (r : Result ℕ NoBest) → IsChosen c.classes (makers c n) args r → r ≡ Ok i
+
+-- an object is made by a constructor, or by the trivial copy
+pub data MadeBy (e : Tree) : Option ℕ → Type 0 where
+  by_constructor : (k : ℕ) → kind_of e ≡ Construct k → MadeBy e (Some k)
+  by_copy : kind_of e ≡ CopyFrom → MadeBy e None
+
+pub record Built (c : Ctx) (n : ℕ) (args : List Argument) (e : Tree) : Type 0 where
+  pub index : ℕ
+  pub means : Makes c n args index
+  pub made : MadeBy e (constructor_at c n index)
+
+-- `T(a, ..)`: the type of a specifier (5.2.3). With one operand it is a cast; an object of a class is made by a constructor, but for a prvalue of that class. `T()` of a reference is left open: C++14 refuses it (8.5 p9)
+pub record OfFunctional (s : List Lexeme) (c : Ctx) (w : Work) (p : SyntaxAt) (base : syntax.Tree) (es : syntax.Trees) (r : Typed) : Type 0 where
+  pub typ : Typ
+  pub typ_is : and_then (specified_with s c c.closures w no_specifiers base) (specified_type (at_of p)) ≡ Ok typ
+  pub args : TypedAll
+  pub args_are : operands_of s c w es ≡ Ok args
+  pub of_one : (x : Operand) → args.operands ≡ x ∷ [] → CastTo typ r.operand.tree
+  pub of_class : (n : ℕ) (x : Operand) (xs : List Operand) → form_in typ ≡ class n → args.operands ≡ x ∷ xs → is_prvalue_itself n (x ∷ xs) ≡ false → Built c n (arguments (x ∷ xs)) r.operand.tree
+  pub of_any : is_reference typ ≡ false → CastTo typ r.operand.tree
+
+-- the size of objects of a type, or of the type to which it refers (p2), a prvalue of type `std::size_t`, which is `unsigned long` (p6)
+pub record SizeOf (c : Ctx) (w : Work) (t : Typ) (r : Typed) : Type 0 where
+  pub value : kind_of r.operand.tree ≡ Literal (size_of c.classes (referred t))
+  pub result : IsPrvalue (plain (int ULong)) r.operand.tree
+  -- the operand is not evaluated (p1): nothing is made for it
+  pub nothing_made : r.work ≡ w
+
+pub record OfSizeType (s : List Lexeme) (c : Ctx) (w : Work) (a : syntax.Tree) (r : Typed) : Type 0 where
+  pub typ : Typ
+  pub typ_is : type_id_with s c [] w a ≡ Ok typ
+  pub size : SizeOf c w typ r
+
+pub record OfSizeExpression (s : List Lexeme) (c : Ctx) (w : Work) (a : syntax.Tree) (r : Typed) : Type 0 where
+  pub operand : Typed
+  pub operand_is : and_then (expression_with s c [] w a) (chosen_operand c) ≡ Ok operand
+  pub size : SizeOf c w (typ_in operand.operand.tree) r
+
+-- what is thrown is an object of the type of the value, without qualifiers (15.1 p3)
+pub record Thrown (c : Ctx) (x : Operand) (e : Tree) : Type 0 where
+  pub is : kind_of e ≡ Throw
+  pub result : IsPrvalue (plain (value_type x)) e
+
+pub record IsAgain (e : Tree) : Type 0 where
+  pub is : kind_of e ≡ Rethrow
+  pub result : IsPrvalue (plain void) e
+
+-- The laws
+
+abbrev pub EachCast : NodeKind → Type 0
+EachCast kind = (s : List Lexeme) (c : Ctx) (w : Work) (p : SyntaxAt) (t : Option ℕ) (a b : syntax.Tree) → On (OfCast s c w a b) (expression_of s c w (syntax.node kind p t (syntax.more a (syntax.more b syntax.none))))
+
+abbrev pub StaticCasts : Type 0
+StaticCasts = EachCast k.StaticCast
+
+abbrev pub Casts : Type 0
+Casts = EachCast k.CastExpression
+
+abbrev pub FunctionalCasts : Type 0
+FunctionalCasts = (s : List Lexeme) (c : Ctx) (w : Work) (p : SyntaxAt) (t : Option ℕ) (base : syntax.Tree) (es : syntax.Trees) → On (OfFunctional s c w p base es) (expression_of s c w (syntax.node k.FunctionalCast p t (syntax.more base es)))
+
+abbrev pub SizesOfTypes : Type 0
+SizesOfTypes = (s : List Lexeme) (c : Ctx) (w : Work) (p : SyntaxAt) (t : Option ℕ) (a : syntax.Tree) → On (OfSizeType s c w a) (expression_of s c w (syntax.node k.SizeofType p t (syntax.more a syntax.none)))
+
+abbrev pub SizesOfExpressions : Type 0
+SizesOfExpressions = (s : List Lexeme) (c : Ctx) (w : Work) (p : SyntaxAt) (t : Option ℕ) (a : syntax.Tree) → On (OfSizeExpression s c w a) (expression_of s c w (syntax.node k.SizeofExpression p t (syntax.more a syntax.none)))
+
+abbrev pub Throws : Type 0
+Throws = AnyOne k.ThrowExpression Thrown
+
+-- `throw;`
+abbrev pub Rethrows : Type 0
+Rethrows = (s : List Lexeme) (c : Ctx) (w : Work) (p : SyntaxAt) (t : ℕ) → On (λ (r : Typed). IsAgain r.operand.tree) (expression_of s c w (syntax.node k.ThrowExpression p (Some t) syntax.none))

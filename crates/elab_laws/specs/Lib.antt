@@ -1,0 +1,10 @@
+pub mod Arithmetic
+pub mod Assigning
+pub mod Calling
+pub mod Casting
+pub mod Naming
+pub mod Parts
+pub mod Primary
+pub mod Reading
+pub mod Tests
+pub mod Unary
