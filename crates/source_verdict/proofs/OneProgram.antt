@@ -1,6 +1,7 @@
 -- Texts that are accepted have one program and no fault: their tokens are the only ones, and their units the only ones that these derive.
-use Rattle.std.proofs.Common.{◌≡◌, ℕ, suc, List, [], ◌∷◌, sym, ap, ap₂, subst, ◌∙◌, refl, Ok, Err}
+use Rattle.std.proofs.Common.{◌≡◌, ℕ, suc, List, [], ◌∷◌, sym, ap, ap₂, subst, ◌∙◌, refl, Ok, Err, Bool, true, false}
 use Rattle.std.specs.Prelude.{Result}
+use Rattle.std.proofs.lemmas.Bool.{false≢true}
 use Rattle.cpp_ast.specs.declared.units.Unit.{Unit as UnitRecord}
 use Rattle.cpp_ast.specs.Trees.{Trees}
 use Rattle.cpp_lex.specs.Tokens.{Lexeme, IsTokens}
@@ -41,7 +42,7 @@ one_sources n (text ∷ texts) (u ∷ us) [] ys read a b = elim a [ ]
 one_sources n (text ∷ texts) (u ∷ us) (x ∷ xs) [] read a b = elim b [ ]
 one_sources n (text ∷ texts) (u ∷ us) (x ∷ xs) (y ∷ ys) read a b = ap₂ (λ (z : Source) (zs : List Source). z ∷ zs) (one_source n text u x y read.0 a.0 b.0) (one_sources (suc n) texts us xs ys read.1 a.1 b.1)
 
-value_or : TypedProgram → Result TypedProgram ElabFault → TypedProgram
+abbrev value_or : TypedProgram → Result TypedProgram ElabFault → TypedProgram
 value_or d (Ok a) = a
 value_or d (Err e) = d
 
@@ -55,21 +56,24 @@ still_faulty : (r : Result State ElabFault) (f g : State → Result TypedProgram
 still_faulty (Ok st) f g e h is = h st is
 still_faulty (Err x) f g e h is = is
 
+abbrev is_fault : Result TypedProgram ElabFault → Bool
+is_fault (Ok p) = false
+is_fault (Err e) = true
+
 -- the fault of the first sources is that of all
 first_faulty : (n : ℕ) (texts : List (List ℕ)) (us : List UnitRecord) (firsts all : List Source) → AreRead n texts us → AreFirstSources n texts firsts → AreSourcesOf n texts all
     → (i : ℕ) (p : TypedProgram) (traits : List Traits) (e : ElabFault) → program_from i p traits firsts ≡ Err e → program_from i p traits all ≡ Err e
-first_faulty n texts us [] all read a b i p traits e ()
+first_faulty n texts us [] all read a b i p traits e is = absurd (false≢true (ap is_fault is))
 first_faulty n [] us (x ∷ xs) all read a b i p traits e is = elim a [ ]
 first_faulty n (text ∷ texts) [] (x ∷ xs) all read a b i p traits e is = elim read [ ]
 first_faulty n (text ∷ texts) (u ∷ us) (x ∷ xs) [] read a b i p traits e is = elim b [ ]
 first_faulty n (text ∷ texts) (u ∷ us) (x ∷ xs) (y ∷ ys) read a b i p traits e is =
     subst (λ (z : Source). program_from i p traits (z ∷ ys) ≡ Err e) (one_source n text u x y read.0 a.0 b.0)
     (still_faulty (unit_from x.tokens (start_behind i p traits) x.decls) (λ (st : State). program_from (suc i) (with_unit p x st) st.ctx.traits xs) (λ (st : State). program_from (suc i) (with_unit p x st) st.ctx.traits ys) e
-        (λ st is'. first_faulty (suc n) texts us xs ys read.1 a.1 b.1 (suc i) (with_unit p x st) st.ctx.traits e is') is)
+    (λ st is'. first_faulty (suc n) texts us xs ys read.1 a.1 b.1 (suc i) (with_unit p x st) st.ctx.traits e is') is)
 
 no_fault : (r : Result TypedProgram ElabFault) (p : TypedProgram) (e : ElabFault) → r ≡ Ok p → r ≡ Err e → ⊥
-no_fault (Ok x) p e is ()
-no_fault (Err x) p e () is
+no_fault r p e is not = false≢true (ap is_fault (sym is ∙ not))
 
 faulty_too : (texts : List (List ℕ)) (p : Program) (e : ElabFault) → Accepts texts p → (f : HasFault texts e) → program_of f.sources ≡ Err e → ⊥
 faulty_too texts p e a f is =
