@@ -3,14 +3,11 @@
 #![tactic(auto)]
 
 mod bodies;
-mod classes;
 mod entries;
-mod functions;
 mod generating;
-mod globals;
 mod lines;
+mod lowered;
+mod naming;
 mod renaming;
-mod sizes;
-mod uses;
 
 pub use generating::generate;

@@ -1,6 +1,6 @@
 //! Lines.
 
-use cpp_layout::below::At;
+use cpp_tree::below::At;
 use low_code::LowInstr;
 use std::alloc::{AllocError, Global};
 use tx_code::LineRow;

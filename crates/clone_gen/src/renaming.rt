@@ -2,7 +2,7 @@
 
 use low_code::NameTable;
 use std::alloc::{AllocError, Global};
-use tx_code::{Body, Instr, Object, Row};
+use tx_code::{Body, Instr, Row};
 
 // What an instruction names.
 fn named(instr: Instr) -> Option<u32> {
@@ -58,14 +58,8 @@ impl Renaming {
         }
     }
 
-    // The name with this number and 1, if it is one, is used.
-    fn note_some(&mut self, number: u32) {
-        if let Some(name) = number.checked_sub(1) {
-            self.note(name);
-        }
-    }
-
-    fn note_body(&mut self, body: &Option<Body>) {
+    /// The names of a body are used.
+    pub fn note_body(&mut self, body: &Option<Body>) {
         let Some(body) = body else {
             return;
         };
@@ -78,40 +72,6 @@ impl Renaming {
             if row.what == 1 {
                 self.note(row.ty);
             }
-        }
-    }
-
-    fn note_classes(&mut self, object: &Object) {
-        for class in &object.classes {
-            self.note(class.name);
-            self.note(class.text);
-            self.note_some(class.base);
-            for member in &class.members {
-                self.note(member.name);
-                self.note(member.ty);
-            }
-            for slot in &class.slots {
-                self.note_some(*slot);
-            }
-        }
-    }
-
-    /// The names of an object are used.
-    pub fn note_object(&mut self, object: &Object) {
-        self.note_classes(object);
-        for global in &object.globals {
-            self.note(global.symbol);
-            self.note(global.ty);
-            for cell in &global.cells {
-                self.note_some(cell.symbol);
-            }
-        }
-        for func in &object.funcs {
-            self.note(func.symbol);
-            self.note(func.ty);
-            self.note_some(func.text);
-            self.note_body(&func.plain);
-            self.note_body(&func.safe);
         }
     }
 
@@ -140,14 +100,6 @@ impl Renaming {
         self.numbers.get(name as usize).copied().unwrap_or(0)
     }
 
-    // The new number of a name, of which 1 is taken before and given back.
-    fn some_number(&self, number: u32) -> u32 {
-        match number.checked_sub(1) {
-            Some(name) => self.number(name).saturating_add(1),
-            None => 0,
-        }
-    }
-
     fn rename_row(&self, row: Row) -> Row {
         if row.what == 1 {
             Row {
@@ -159,7 +111,8 @@ impl Renaming {
         }
     }
 
-    fn rename_body(&self, body: &mut Option<Body>) {
+    /// The body with the new numbers.
+    pub fn rename_body(&self, body: &mut Option<Body>) {
         let Some(body) = body else {
             return;
         };
@@ -170,40 +123,6 @@ impl Renaming {
         }
         for row in body.rows.iter_mut() {
             *row = self.rename_row(*row);
-        }
-    }
-
-    fn rename_classes(&self, object: &mut Object) {
-        for class in object.classes.iter_mut() {
-            class.name = self.number(class.name);
-            class.text = self.number(class.text);
-            class.base = self.some_number(class.base);
-            for member in class.members.iter_mut() {
-                member.name = self.number(member.name);
-                member.ty = self.number(member.ty);
-            }
-            for slot in class.slots.iter_mut() {
-                *slot = self.some_number(*slot);
-            }
-        }
-    }
-
-    /// The object with the new numbers.
-    pub fn rename(&self, object: &mut Object) {
-        self.rename_classes(object);
-        for global in object.globals.iter_mut() {
-            global.symbol = self.number(global.symbol);
-            global.ty = self.number(global.ty);
-            for cell in global.cells.iter_mut() {
-                cell.symbol = self.some_number(cell.symbol);
-            }
-        }
-        for func in object.funcs.iter_mut() {
-            func.symbol = self.number(func.symbol);
-            func.ty = self.number(func.ty);
-            func.text = self.some_number(func.text);
-            self.rename_body(&mut func.plain);
-            self.rename_body(&mut func.safe);
         }
     }
 }

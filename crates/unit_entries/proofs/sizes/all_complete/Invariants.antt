@@ -1,8 +1,8 @@
 use Rattle.std.proofs.Common.{map, drop}
-use Rattle.cpp_layout.specs.cpp_types.Typ.{typ_of}
-use Rattle.cpp_layout.specs.cpp_types.Class.{classes_of}
-use Rattle.cpp_layout.specs.Frames.{AllComplete}
-use Rattle.clone_gen.proofs.sizes.all_complete.Given as goal
+use Rattle.cpp_tree.specs.cpp_types.Typ.{typ_of}
+use Rattle.cpp_tree.specs.cpp_types.Class.{classes_of}
+use Rattle.cpp_tree.specs.cpp_layout.Frames.{AllComplete}
+use Rattle.unit_entries.proofs.sizes.all_complete.Given as goal
 
 -- all items are complete where those that are left are
 abbrev pub invariant-loop-item : goal.invariant-loop-item

@@ -1,14 +1,14 @@
 //! Sizes and offsets. What their calls need is tested before; where it does not hold, that counts as want of memory.
 
-ghost use Rattle.std.specs.Prelude.{◌≡◌, ◌≤◌, true, false, map};
-ghost use Rattle.cpp_layout.specs.cpp_types.Typ.{typ, class, typ_of, shape_form};
-ghost use Rattle.cpp_layout.specs.cpp_types.Class.{InOrder, classes_of};
-ghost use Rattle.cpp_layout.specs.Layout.{class_extent};
-ghost use Rattle.cpp_layout.specs.Measured.{IsComplete, HoldsComplete, HasMember};
-ghost use Rattle.cpp_layout.specs.Frames.{AllComplete};
+ghost use Rattle.std.specs.Prelude.{◌≡◌, ◌≤◌, true, false, map, slice_get, Some, IfOk};
+ghost use Rattle.cpp_tree.specs.cpp_types.Typ.{typ, class, typ_of, shape_form};
+ghost use Rattle.cpp_tree.specs.cpp_types.Class.{Class, Member, InOrder, classes_of};
+ghost use Rattle.cpp_tree.specs.cpp_layout.Layout.{class_extent, extent_of, frame_size};
+ghost use Rattle.cpp_tree.specs.cpp_layout.Measured.{IsComplete, HoldsComplete, HasMember, Measured, member_offset as offset_of_member};
+ghost use Rattle.cpp_tree.specs.cpp_layout.Frames.{AllComplete, IsFrame, item_extents};
 
-use cpp_layout::below::{ClassRec, Shape, Ty, held_class, is_in_order, record_at};
 use cpp_layout::{FrameRec, SizeAlign, frame, offset, size_align};
+use cpp_tree::below::{ClassRec, Shape, Ty, held_class, is_in_order, record_at};
 use std::alloc::{AllocError, Global};
 
 // Whether a class of the list is complete.
@@ -54,8 +54,8 @@ fn has_member(classes: &[ClassRec], class: u32, member: u32) -> bool
     }
 }
 
-/// A class as a type.
-pub fn class_type(number: u32) -> Ty
+// A class as a type.
+fn class_type(number: u32) -> Ty
     ensures { typ_of result ≡ typ (class number) false false }
 {
     Ty {
@@ -77,7 +77,9 @@ fn is_within(classes: &[ClassRec], number: u32) -> bool
 }
 
 /// The size and the alignment of a type's objects.
-pub fn extent(ty: &Ty, classes: &[ClassRec]) -> Result<SizeAlign, AllocError> {
+pub fn extent(ty: &Ty, classes: &[ClassRec]) -> Result<SizeAlign, AllocError>
+    ensures { IfOk result (λ s. Measured (extent_of (classes_of classes.now) (typ_of ty.now)) s) }
+{
     if !is_in_order(classes) {
         return Err(AllocError);
     }
@@ -90,8 +92,17 @@ pub fn extent(ty: &Ty, classes: &[ClassRec]) -> Result<SizeAlign, AllocError> {
     }
 }
 
+/// The size and the alignment of a class's objects.
+pub fn class_size(number: u32, classes: &[ClassRec]) -> Result<SizeAlign, AllocError>
+    ensures { IfOk result (λ s. Measured (class_extent (classes_of classes.now) number) s) }
+{
+    extent(&class_type(number), classes)
+}
+
 /// Where a member lies in the objects of its class.
-pub fn member_offset(classes: &[ClassRec], class: u32, member: u32) -> Result<u32, AllocError> {
+pub fn member_offset(classes: &[ClassRec], class: u32, member: u32) -> Result<u32, AllocError>
+    ensures { IfOk result (λ o. (c : Class) (m : Member) → slice_get (classes_of classes.now) class ≡ Some c → slice_get c.members member ≡ Some m → o ≡ offset_of_member (classes_of classes.now) class c member m) }
+{
     if !is_in_order(classes) {
         return Err(AllocError);
     }
@@ -108,7 +119,9 @@ pub fn member_offset(classes: &[ClassRec], class: u32, member: u32) -> Result<u3
 }
 
 /// Where the items of a frame lie.
-pub fn frame_of(alloc: Global, items: &[Ty], classes: &[ClassRec]) -> Result<FrameRec, AllocError> {
+pub fn frame_of(alloc: Global, items: &[Ty], classes: &[ClassRec]) -> Result<FrameRec, AllocError>
+    ensures { IfOk result (λ f. IsFrame (classes_of classes.now) (map typ_of items.now) f) }
+{
     if !is_in_order(classes) {
         return Err(AllocError);
     }

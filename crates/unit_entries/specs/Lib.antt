@@ -1,0 +1,4 @@
+pub mod Records
+pub mod Uses
+pub mod Marked
+pub mod Entries
