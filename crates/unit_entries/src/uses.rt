@@ -109,26 +109,26 @@ fn equal_functions(a: &FnTy, b: &FnTy) -> bool
 }
 
 // Whether a function of a unit is that function of a class.
-fn is_that(func: &TFunc, class: u32, record: &FuncRec) -> bool
-    ensures { result ≡ is_that_function class (function_of record.now) func.now.class (function_of func.now.rec) }
+fn is_that(func: &TFunc, class: u32, found: &FuncRec) -> bool
+    ensures { result ≡ is_that_function class (function_of found.now) func.now.class (function_of func.now.rec) }
 {
     match func.class {
         Some(other) => {
             other == class
-                && is_name(&func.rec.name, &record.name)
-                && func.rec.is_const == record.is_const
-                && equal_functions(&func.rec.ty, &record.ty)
+                && is_name(&func.rec.name, &found.name)
+                && func.rec.is_const == found.is_const
+                && equal_functions(&func.rec.ty, &found.ty)
         }
         None => false,
     }
 }
 
 // The index of a function of a class among those of a unit.
-fn index_in(funcs: &[TFunc], class: u32, record: &FuncRec) -> Option<usize>
-    ensures { (trees : List Tree) → result ≡ index_among class (function_of record.now) 0 (map (func_of trees) funcs.now) }
+fn index_in(funcs: &[TFunc], class: u32, found: &FuncRec) -> Option<usize>
+    ensures { (trees : List Tree) → result ≡ index_among class (function_of found.now) 0 (map (func_of trees) funcs.now) }
 {
     for (i, func) in funcs.iter().enumerate() {
-        if is_that(func, class, record) {
+        if is_that(func, class, found) {
             return Some(i);
         }
     }
