@@ -1,8 +1,8 @@
 -- What `races` comes to.
 use Rattle.std.specs.Prelude.{◌≤◌, ◌<◌, ℕ, Bool, List, take, length, string_bytes}
-use Rattle.std.specs.List.{All}
 use Rattle.run_command.specs.command_io.Writes.{Written}
 use Rattle.run_command.specs.cpp_tree.declared.program.Program.{Program}
+use Rattle.run_command.specs.cpp_tree.Units.{program_of}
 use Rattle.run_command.specs.exec_command.Exec.{schedule_name, bad_schedule_line}
 use Rattle.object_races.specs.ObjectRaces.{DecidesObjects}
 use Rattle.run_command.specs.Commands.{source_files, wants_of, AreTexts, TooMany, no_files}
@@ -15,33 +15,33 @@ use Rattle.run_command.specs.tx_answers.Ends.{Ends, Refuses}
 use Rattle.run_command.specs.tx_answers.declared.answer.Answer.{Answer}
 use Rattle.run_command.specs.tx_answers.declared.answer.Status.TheVariants.{BadSchedule}
 use Rattle.run_command.specs.tx_code.Objects.{ObjectView}
-use Rattle.run_command.specs.tx_code.WellFormed.{IsObject}
 use Rattle.run_command.specs.tx_host.Told.{HostState}
 use Rattle.run_command.specs.tx_words.declared.command.Races.{Races}
 use Rattle.run_command.specs.tx_words.declared.command.RunOptions.{RunOptions}
+use Rattle.run_command.specs.unit_objects.Units.{AreUnitObjects}
 
--- Some objects are linked, verified and run, and the races of the run are reported. Which ones the compiler makes of a program is not told yet.
-pub record RacesSome (o : RunOptions) (file input entries : List ℕ) (a : Answer) (writes : List Written) : Type 0 where
+-- The units of a program are compiled to objects that have exactly their entries; these are linked and run, and the races of the run are reported. What code the bodies have is not told.
+pub record RacesUnits (o : RunOptions) (file : List ℕ) (p : Program) (names : List (List ℕ)) (input entries : List ℕ) (a : Answer) (writes : List Written) : Type 0 where
   pub objects : List ObjectView
-  pub are_objects : All IsObject objects
+  pub are_objects : AreUnitObjects (program_of p) names objects
   pub decides : DecidesObjects o file objects input entries a writes
 
--- A linked program is run, and its races are reported; what was run is a run of its source, in the order that is answered.
-pub record RacesLinked (o : RunOptions) (file : List ℕ) (g : Given) (input entries : List ℕ) (a : Answer) (writes : List Written) : Type 0 where
-  pub some : RacesSome o file input entries a writes
+-- The units of a linked program are run, and its races are reported; what was run is a run of the program, in the order that is answered.
+pub record RacesLinked (o : RunOptions) (file : List ℕ) (g : Given) (names : List (List ℕ)) (input entries : List ℕ) (a : Answer) (writes : List Written) : Type 0 where
+  pub units : RacesUnits o file g.program names input entries a writes
   pub source : IsOfLinked g input a
 
 -- a safe program, with `fold` one that shows the program that it folds to, is compiled and run, and the races of that run are reported
-pub record CompilesAndRaces (o : RunOptions) (fold : Bool) (file : List ℕ) (p : Program) (input entries : List ℕ) (a : Answer) (writes : List Written) : Type 0 where
+pub record CompilesAndRaces (o : RunOptions) (fold : Bool) (file : List ℕ) (p : Program) (names : List (List ℕ)) (input entries : List ℕ) (a : Answer) (writes : List Written) : Type 0 where
   pub program : Program
   pub compiled : Compiled fold p program
-  pub races : RacesSome o file input entries a writes
+  pub races : RacesUnits o file program names input entries a writes
   pub source : IsOfSource p input a
 
 -- the first refusal of the texts; or they are a safe program, which is compiled and run
 pub data DecidesTexts (o : RunOptions) (fold : Bool) (file : List ℕ) (names texts : List (List ℕ)) (input entries : List ℕ) (a : Answer) (writes : List Written) : Type 0 where
   refuses : RefusesTexts names texts a writes → DecidesTexts o fold file names texts input entries a writes
-  runs : (p : Program) → Accepts texts p → CompilesAndRaces o fold file p input entries a writes → DecidesTexts o fold file names texts input entries a writes
+  runs : (p : Program) → Accepts texts p → CompilesAndRaces o fold file p names input entries a writes → DecidesTexts o fold file names texts input entries a writes
 
 -- the schedule is read: a run looks at its first entries alone
 pub data Decides (r : Races) (sources : List (List ℕ)) (input schedule : List ℕ) (a : Answer) (writes : List Written) : Type 0 where

@@ -1,44 +1,25 @@
 //! What is decided on texts: the verdict, and the run of what accepted sources are compiled to, with its races.
 
 ghost use Rattle.std.specs.Prelude.{◌≡◌, map, IfOk, true, nat_lt, string_bytes};
-ghost use Rattle.std.specs.List.{list_all, All};
+ghost use Rattle.std.specs.List.{list_all};
 ghost use Rattle.run_command.specs.command_io.Writes.{written_of};
 ghost use Rattle.run_command.specs.exec_command.Exec.{CanRun};
-ghost use Rattle.run_command.specs.tx_code.Objects.{object_view};
-ghost use Rattle.run_command.specs.tx_code.WellFormed.{IsObject};
 ghost use Rattle.run_command.specs.tx_events.declared.TheConstants.{THREAD_LIMIT};
 ghost use Rattle.run_command.specs.cpp_tree.Units.{program_of};
 ghost use Rattle.run_command.specs.cpp_tree.WellFormed.{WellFormed};
 ghost use Rattle.run_command.specs.tx_safety.Answers.{checked_in};
 ghost use Rattle.run_command.specs.tx_safety.Safe.{IsSafe};
-ghost use Rattle.races_command.specs.Commands.{CompilesAndRaces, DecidesTexts, RacesLinked, RacesSome};
+ghost use Rattle.races_command.specs.Commands.{CompilesAndRaces, DecidesTexts, RacesLinked};
 
 use object_races::with_objects;
 use run_command::below::{
-    Decision, Object, RunOptions, SafeProgram, Verdict, unit_objects, verdict_of,
+    Decision, RunOptions, SafeProgram, Verdict, unit_objects, verdict_of,
 };
 use run_command::laws::runs_of_compiled;
 use run_command::{folded_if, held_against_source};
 use src_bind::Choices;
 use src_link::choices;
 use std::alloc::{AllocError, Global};
-
-// Objects are linked, verified and run, and the races of the run are reported.
-fn with_all(
-    alloc: Global,
-    options: &RunOptions,
-    file: &str,
-    objects: &[Object],
-    input: Vec<u8>,
-    entries: &[u8],
-) -> Result<Decision, AllocError>
-    requires objects { All (λ o. IsObject (object_view o)) objects.now }
-    requires options { CanRun options.now }
-    requires threads { list_all (λ t. nat_lt t THREAD_LIMIT) entries.now ≡ true }
-    ensures { IfOk result (λ d. RacesSome options.now file.now input.items entries.now d.answer (map written_of d.writes.items)) }
-{
-    with_objects(alloc, options, file, objects, input, entries)
-}
 
 // The objects of a program are run, and the races of the run are reported; the run is held against the source, linked by these choices.
 fn run_program(
@@ -54,11 +35,11 @@ fn run_program(
 ) -> Result<Decision, AllocError>
     requires options { CanRun options.now }
     requires threads { list_all (λ t. nat_lt t THREAD_LIMIT) entries.now ≡ true }
-    ensures { IfOk result (λ d. RacesLinked options.now file.now (record { program = checked_in safe.now; choices = choices.now }) input.items entries.now d.answer (map written_of d.writes.items)) }
+    ensures { IfOk result (λ d. RacesLinked options.now file.now (record { program = checked_in safe.now; choices = choices.now }) (map string_bytes names.now) input.items entries.now d.answer (map written_of d.writes.items)) }
 {
     let objects = unit_objects(alloc, safe, names, texts)?;
     let given = Vec::from_slice(alloc, input.as_slice())?;
-    let decision = with_all(alloc, options, file, objects.as_slice(), given, entries)?;
+    let decision = with_objects(alloc, options, file, objects.as_slice(), given, entries)?;
     held_against_source(alloc, safe.program(), choices, input.as_slice(), decision)
 }
 
@@ -79,7 +60,7 @@ fn compiled(
     requires threads { list_all (λ t. nat_lt t THREAD_LIMIT) entries.now ≡ true }
     requires well_formed { WellFormed (checked_in safe) }
     requires safe { IsSafe (program_of (checked_in safe)) }
-    ensures { IfOk result (λ d. CompilesAndRaces options.now fold file.now (checked_in safe) input.items entries.now d.answer (map written_of d.writes.items)) }
+    ensures { IfOk result (λ d. CompilesAndRaces options.now fold file.now (checked_in safe) (map string_bytes names.now) input.items entries.now d.answer (map written_of d.writes.items)) }
 {
     let choices = choices(alloc, &safe)?;
     let program = folded_if(alloc, fold, safe)?;

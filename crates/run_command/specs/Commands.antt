@@ -5,6 +5,7 @@ use Rattle.command_io.specs.Reads.{Wanted, wanted_each, wanted_given, bytes_of}
 use Rattle.command_io.specs.Writes.{Written, to_file}
 use Rattle.command_io.specs.declared.files.FileKind.TheVariants.{Source, Input, Schedule}
 use Rattle.cpp_tree.specs.declared.program.Program.{Program}
+use Rattle.cpp_tree.specs.Units.{program_of}
 use Rattle.exec_command.specs.Exec.{schedule_name, bad_schedule_line}
 use Rattle.exec_command.specs.Files.{schedule_file}
 use Rattle.object_bytes.specs.Spelling.{object_bytes}
@@ -22,6 +23,7 @@ use Rattle.tx_words.specs.declared.command.Run.{Run}
 use Rattle.tx_words.specs.declared.command.RunOptions.{RunOptions}
 use Rattle.tx_words.specs.declared.command.PickerName.TheVariants.{Round}
 use Rattle.tx_words.specs.declared.command.PolicyName.TheVariants.{Older}
+use Rattle.unit_objects.specs.Units.{IsUnitObject}
 
 -- ---- run
 
@@ -67,23 +69,28 @@ pub data Runs (r : Run) (old new : HostState) (a : Answer) : Type 0 where
 
 -- ---- build
 
--- the bytes of some object are written to the file. Which object the compiler makes of a unit is not told yet.
-pub record PutsSome (to : List ℕ) (a : Answer) (writes : List Written) : Type 0 where
-  pub object : ObjectView
-  pub is_object : IsObject object
+-- the bytes of an object are written to the file
+pub record Puts (to : List ℕ) (object : ObjectView) (a : Answer) (writes : List Written) : Type 0 where
   pub answer : a ≡ bare Done
   pub writes_are : writes ≡ to_file to (object_bytes object) ∷ []
 
+-- it is the object of the first unit, and has exactly its entries; what code its bodies have is not told
+pub record PutsUnit (p : Program) (name to : List ℕ) (a : Answer) (writes : List Written) : Type 0 where
+  pub object : ObjectView
+  pub is_object : IsObject object
+  pub of : IsUnitObject (program_of p) name 0 object
+  pub puts : Puts to object a writes
+
 -- a safe program is compiled
-pub record CompilesAndPuts (fold : Bool) (p : Program) (to : List ℕ) (a : Answer) (writes : List Written) : Type 0 where
+pub record CompilesAndPuts (fold : Bool) (p : Program) (name to : List ℕ) (a : Answer) (writes : List Written) : Type 0 where
   pub program : Program
   pub compiled : Compiled fold p program
-  pub puts : PutsSome to a writes
+  pub puts : PutsUnit program name to a writes
 
 -- the first refusal of the text; or it is a safe program, which is compiled
 pub data DecidesBuild (fold : Bool) (name to text : List ℕ) (a : Answer) (writes : List Written) : Type 0 where
   refuses : RefusesTexts (name ∷ []) (text ∷ []) a writes → DecidesBuild fold name to text a writes
-  builds : (p : Program) → Accepts (text ∷ []) p → CompilesAndPuts fold p to a writes → DecidesBuild fold name to text a writes
+  builds : (p : Program) → Accepts (text ∷ []) p → CompilesAndPuts fold p name to a writes → DecidesBuild fold name to text a writes
 
 -- ---- selftest
 

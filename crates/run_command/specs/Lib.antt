@@ -11,5 +11,6 @@ pub use Rattle.cpp_tree.specs.tx_events as tx_events
 pub use Rattle.tx_host.specs as tx_host
 pub use Rattle.tx_safety.specs as tx_safety
 pub use Rattle.tx_words.specs as tx_words
+pub use Rattle.unit_objects.specs as unit_objects
 pub mod Runs
 pub mod Commands

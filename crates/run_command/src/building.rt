@@ -8,7 +8,7 @@ ghost use Rattle.cpp_tree.specs.Units.{program_of};
 ghost use Rattle.cpp_tree.specs.WellFormed.{WellFormed};
 ghost use Rattle.tx_safety.specs.Answers.{checked_in};
 ghost use Rattle.tx_safety.specs.Safe.{IsSafe};
-ghost use Rattle.run_command.specs.Commands.{CompilesAndPuts, DecidesBuild, PutsSome};
+ghost use Rattle.run_command.specs.Commands.{CompilesAndPuts, DecidesBuild, Puts, PutsUnit};
 ghost use Rattle.tx_answers.specs.Ends.{Ends, on_one};
 ghost use Rattle.tx_code.specs.Objects.{object_view};
 ghost use Rattle.tx_code.specs.WellFormed.{IsObject};
@@ -27,7 +27,7 @@ use unit_objects::unit_object;
 // The bytes of the object are written to this file.
 fn put(alloc: Global, to: &str, object: &Object) -> Result<Decision, AllocError>
     requires { IsObject (object_view object.now) }
-    ensures { IfOk result (λ d. PutsSome to.now d.answer (map written_of d.writes.items)) }
+    ensures { IfOk result (λ d. Puts to.now (object_view object.now) d.answer (map written_of d.writes.items)) }
 {
     let name = String::from_str(alloc, to)?;
     let bytes = write(alloc, object)?;
@@ -46,7 +46,7 @@ fn put_program(
     to: &str,
     text: &[u8],
 ) -> Result<Decision, AllocError>
-    ensures { IfOk result (λ d. PutsSome to.now d.answer (map written_of d.writes.items)) }
+    ensures { IfOk result (λ d. PutsUnit (checked_in safe.now) name.now to.now d.answer (map written_of d.writes.items)) }
 {
     // The program of one source has its unit.
     if safe.program().units.is_empty() {
@@ -67,7 +67,7 @@ fn built(
 ) -> Result<Decision, AllocError>
     requires well_formed { WellFormed (checked_in safe) }
     requires safe { IsSafe (program_of (checked_in safe)) }
-    ensures { IfOk result (λ d. CompilesAndPuts fold (checked_in safe) to.now d.answer (map written_of d.writes.items)) }
+    ensures { IfOk result (λ d. CompilesAndPuts fold (checked_in safe) name.now to.now d.answer (map written_of d.writes.items)) }
 {
     let program = folded_if(alloc, fold, safe)?;
     put_program(alloc, &program, name, to, text)

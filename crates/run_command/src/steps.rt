@@ -1,17 +1,15 @@
 //! What is decided on texts: the verdict, and the run of what accepted sources are compiled to.
 
 ghost use Rattle.std.specs.Prelude.{◌≡◌, map, IfOk, true, nat_lt, string_bytes};
-ghost use Rattle.std.specs.List.{list_all, All};
+ghost use Rattle.std.specs.List.{list_all};
 ghost use Rattle.command_io.specs.Writes.{written_of};
 ghost use Rattle.exec_command.specs.Exec.{CanRun};
-ghost use Rattle.tx_code.specs.Objects.{object_view};
-ghost use Rattle.tx_code.specs.WellFormed.{IsObject};
 ghost use Rattle.cpp_tree.specs.tx_events.declared.TheConstants.{THREAD_LIMIT};
 ghost use Rattle.cpp_tree.specs.Units.{program_of};
 ghost use Rattle.cpp_tree.specs.WellFormed.{WellFormed};
 ghost use Rattle.tx_safety.specs.Answers.{checked_in};
 ghost use Rattle.tx_safety.specs.Safe.{IsSafe};
-ghost use Rattle.run_command.specs.Runs.{Compiled, CompilesAndRuns, DecidesTexts, IsHeld, RunsLinked, RunsSome};
+ghost use Rattle.run_command.specs.Runs.{Compiled, CompilesAndRuns, DecidesTexts, IsHeld, RunsLinked};
 
 use crate::laws::runs_of_compiled;
 use cpp_tree::Program;
@@ -22,27 +20,10 @@ use src_bind::Choices;
 use src_link::choices;
 use std::alloc::{AllocError, Global};
 use tx_answers::Decision;
-use tx_code::Object;
 use tx_safety::SafeProgram;
 use tx_safety::laws::readable;
 use tx_words::RunOptions;
 use unit_objects::unit_objects;
-
-// Objects are linked, verified and run.
-fn with_all(
-    alloc: Global,
-    options: &RunOptions,
-    objects: &[Object],
-    input: Vec<u8>,
-    entries: &[u8],
-) -> Result<Decision, AllocError>
-    requires objects { All (λ o. IsObject (object_view o)) objects.now }
-    requires options { CanRun options.now }
-    requires threads { list_all (λ t. nat_lt t THREAD_LIMIT) entries.now ≡ true }
-    ensures { IfOk result (λ d. RunsSome options.now input.items entries.now d.answer (map written_of d.writes.items)) }
-{
-    with_compiled(alloc, options, objects, input, entries)
-}
 
 /// What is compiled of a program: with `fold` the program that it folds to.
 pub fn folded_if(alloc: Global, fold: bool, safe: SafeProgram) -> Result<SafeProgram, AllocError>
@@ -87,11 +68,11 @@ fn run_program(
 ) -> Result<Decision, AllocError>
     requires options { CanRun options.now }
     requires threads { list_all (λ t. nat_lt t THREAD_LIMIT) entries.now ≡ true }
-    ensures { IfOk result (λ d. RunsLinked options.now (record { program = checked_in safe.now; choices = choices.now }) input.items entries.now d.answer (map written_of d.writes.items)) }
+    ensures { IfOk result (λ d. RunsLinked options.now (record { program = checked_in safe.now; choices = choices.now }) (map string_bytes names.now) input.items entries.now d.answer (map written_of d.writes.items)) }
 {
     let objects = unit_objects(alloc, safe, names, texts)?;
     let given = Vec::from_slice(alloc, input.as_slice())?;
-    let decision = with_all(alloc, options, objects.as_slice(), given, entries)?;
+    let decision = with_compiled(alloc, options, objects.as_slice(), given, entries)?;
     held_against_source(alloc, safe.program(), choices, input.as_slice(), decision)
 }
 
@@ -110,7 +91,7 @@ fn compiled(
     requires threads { list_all (λ t. nat_lt t THREAD_LIMIT) entries.now ≡ true }
     requires well_formed { WellFormed (checked_in safe) }
     requires safe { IsSafe (program_of (checked_in safe)) }
-    ensures { IfOk result (λ d. CompilesAndRuns options.now fold (checked_in safe) input.items entries.now d.answer (map written_of d.writes.items)) }
+    ensures { IfOk result (λ d. CompilesAndRuns options.now fold (checked_in safe) (map string_bytes names.now) input.items entries.now d.answer (map written_of d.writes.items)) }
 {
     let choices = choices(alloc, &safe)?;
     let program = folded_if(alloc, fold, safe)?;
