@@ -22,7 +22,7 @@ texts-preserved c =
     let views : map object_view c.push.new.self.items ≡ map object_view objects ++ object_view object ∷ [] = ap (λ (os : List Object). map object_view os) pushed ∙ views_too objects object in
     let found = c.in-Some.ensures.lookup in
     let named : slice_get names c.texts.index ≡ Some c.as_bytes.result.now =
-        name_at c.args.names.now c.texts.index c.in-Some.name.now (slice_get-get_or c.args.names.now c.texts.index c.in-Some.name.now found.3.0 ∙ ap Some (sym found.1)) ∙ ap Some (sym c.as_bytes.ensures.value) in
+    name_at c.args.names.now c.texts.index c.in-Some.name.now (slice_get-get_or c.args.names.now c.texts.index c.in-Some.name.now found.3.0 ∙ ap Some (sym found.1)) ∙ ap Some (sym c.as_bytes.ensures.value) in
     let at : length (map object_view objects) ≡ c.texts.index = c.texts.invariant.many in
     record {
       objects = subst (All (λ (o : Object). IsObject (object_view o))) (sym pushed)
