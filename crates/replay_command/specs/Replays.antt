@@ -2,7 +2,6 @@
 use Rattle.std.specs.Prelude.{◌≡◌, ◌≤◌, ◌<◌, ℕ, List, [], ◌∷◌, ◌++◌, length, Option, Some, None, codes, map, string_bytes, Ok, Err}
 use Rattle.std.specs.Option.{option_map}
 use Rattle.std.specs.Fmt.{decimal}
-use Rattle.std.specs.List.{All}
 use Rattle.command_io.specs.Reads.{Wanted, wanted, wanted_each, wanted_given, bytes_of}
 use Rattle.command_io.specs.Writes.{Written, to_out, to_err}
 use Rattle.command_io.specs.declared.files.FileKind.TheVariants.{Source, Input, Schedule as ScheduleFile}
@@ -28,10 +27,10 @@ use Rattle.tx_answers.specs.declared.answer.Status.TheVariants.{Refused, StepsOu
 use Rattle.tx_code.specs.Images.{ImageView}
 use Rattle.tx_code.specs.Linked.{ImageOf}
 use Rattle.tx_code.specs.Objects.{ObjectView}
-use Rattle.tx_code.specs.WellFormed.{IsObject}
 use Rattle.cpp_tree.specs.tx_events.declared.End.{End}
 use Rattle.tx_host.specs.Told.{HostState}
 use Rattle.tx_words.specs.declared.command.Replay.{Replay}
+use Rattle.unit_objects.specs.Units.{AreUnitObjects}
 
 -- ---- the files
 
@@ -98,16 +97,16 @@ pub data DecidesObjects (r : Replay) (p : Program) (objects : List ObjectView) (
   faulty : (fault : LinkFault) → Faulty objects fault → RefusesLink fault a writes → DecidesObjects r p objects input order a writes
   linked : (image : ImageView) → ImageOf objects image → DecidesBound r p input order a writes → DecidesObjects r p objects input order a writes
 
--- Some objects are linked. Which ones the compiler makes of a program is not told yet.
-pub record DecidesSome (r : Replay) (p : Program) (input order : List ℕ) (a : Answer) (writes : List Written) : Type 0 where
+-- The objects of the program's units, with exactly their entries, are linked, so that what can't be linked is refused.
+pub record DecidesUnits (r : Replay) (p : Program) (input order : List ℕ) (a : Answer) (writes : List Written) : Type 0 where
   pub objects : List ObjectView
-  pub are_objects : All IsObject objects
+  pub are_objects : AreUnitObjects (program_of p) (source_files r) objects
   pub decides : DecidesObjects r p objects input order a writes
 
 -- the first refusal of the texts; or they are a safe program
 pub data DecidesTexts (r : Replay) (texts : List (List ℕ)) (input order : List ℕ) (a : Answer) (writes : List Written) : Type 0 where
   refuses : RefusesTexts (source_files r) texts a writes → DecidesTexts r texts input order a writes
-  accepts : (p : Program) → Accepts texts p → DecidesSome r p input order a writes → DecidesTexts r texts input order a writes
+  accepts : (p : Program) → Accepts texts p → DecidesUnits r p input order a writes → DecidesTexts r texts input order a writes
 
 -- an order of more entries is refused
 pub data OnEntries (r : Replay) (texts : List (List ℕ)) (input entries : List ℕ) (a : Answer) (writes : List Written) : Type 0 where

@@ -8,7 +8,7 @@ ghost use Rattle.src_bind.specs.Bounds.{given};
 ghost use Rattle.src_bind.specs.Tables.{CanBind, typed};
 ghost use Rattle.tx_code.specs.Objects.{object_view};
 ghost use Rattle.tx_code.specs.WellFormed.{IsObject};
-ghost use Rattle.replay_command.specs.Replays.{Decides, OnKept, DecidesTexts, DecidesSome, DecidesObjects, DecidesBound, DecidesOrder};
+ghost use Rattle.replay_command.specs.Replays.{Decides, OnKept, DecidesTexts, DecidesUnits, DecidesObjects, DecidesBound, DecidesOrder};
 ghost use Rattle.tx_safety.specs.Answers.{checked_in};
 
 use crate::answers::{ended, not_a_run, spent, too_long};
@@ -91,7 +91,7 @@ fn compiled(
     input: &[u8],
     order: &[u8],
 ) -> Result<Decision, AllocError>
-    ensures { IfOk result (λ d. DecidesSome words.now (checked_in safe.now) input.now order.now d.answer (map written_of d.writes.items)) }
+    ensures { IfOk result (λ d. DecidesUnits words.now (checked_in safe.now) input.now order.now d.answer (map written_of d.writes.items)) }
 {
     let objects = unit_objects(alloc, safe, words.sources.as_slice(), texts)?;
     with_objects(alloc, words, safe, objects.as_slice(), input, order)
