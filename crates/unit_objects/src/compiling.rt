@@ -1,12 +1,15 @@
 //! The object of a unit, and those of all units.
 
-ghost use Rattle.std.specs.Prelude.{◌≡◌, ◌<◌, length, map, IfOk};
+ghost use Rattle.std.specs.Prelude.{◌≡◌, ◌<◌, length, map, slice_get, Some, IfOk};
 ghost use Rattle.std.specs.List.{All};
 ghost use Rattle.tx_code.specs.Objects.{object_view};
 ghost use Rattle.tx_code.specs.WellFormed.{IsObject};
 ghost use Rattle.tx_safety.specs.Answers.{checked_in};
+ghost use Rattle.cpp_tree.specs.Units.{Unit, unit_of, program_of};
+ghost use Rattle.unit_objects.specs.Compiled.{safe_from, IsUnitObject};
 
 use clone_gen::generate;
+use cpp_tree::UnitTree;
 use std::alloc::{AllocError, Global};
 use tx_code::Object;
 use tx_safety::SafeProgram;
@@ -28,21 +31,23 @@ fn line_starts(alloc: Global, text: &[u8]) -> Result<Vec<u32>, AllocError> {
 }
 
 // Which functions of a unit are safe.
-fn safe_functions(alloc: Global, safe: &SafeProgram, unit: u32) -> Result<Vec<bool>, AllocError>
+fn safe_row(
+    alloc: Global,
+    safe: &SafeProgram,
+    unit: u32,
+    tree: &UnitTree,
+) -> Result<Vec<bool>, AllocError>
     requires { unit < length (checked_in safe.now).units.items }
+    ensures { IfOk result (λ v. v.items ≡ safe_from (program_of (checked_in safe.now)) unit 0 (unit_of tree.now).funcs) }
 {
-    let mut marks = Vec::new(alloc);
-    let Some(tree) = safe.program().units.get(unit as usize) else {
-        return Err(AllocError);
-    };
-    for index in 0..tree.funcs.len() {
-        match u32::try_from(index) {
-            Ok(func) => marks.push(safe.is_safe(unit, func))?,
-            // No unit has so many.
-            Err(_) => return Err(AllocError),
-        }
+    let mut row = Vec::new(alloc);
+    for (i, _func) in tree.funcs.iter().enumerate() {
+        let Ok(func) = u32::try_from(i) else {
+            return Err(AllocError);
+        };
+        row.push(safe.is_safe(unit, func))?;
     }
-    Ok(marks)
+    Ok(row)
 }
 
 /// The object of a unit of a safe program, from a source of this name and text.
@@ -54,18 +59,17 @@ pub fn unit_object(
     text: &[u8],
 ) -> Result<Object, AllocError>
     requires { unit < length (checked_in safe.now).units.items }
-    ensures { IfOk result (λ o. IsObject (object_view o)) }
+    ensures object { IfOk result (λ o. IsObject (object_view o)) }
+    ensures unit { IfOk result (λ o. (u : Unit) → slice_get (program_of (checked_in safe.now)).units unit ≡ Some u → IsUnitObject (program_of (checked_in safe.now)) unit u name.now (object_view o)) }
 {
-    let marks = safe_functions(alloc, safe, unit)?;
+    let program = safe.program();
+    let Some(tree) = program.units.get(unit as usize) else {
+        return Err(AllocError);
+    };
+    let row = safe_row(alloc, safe, unit, tree)?;
     let starts = line_starts(alloc, text)?;
-    generate(
-        alloc,
-        safe.program(),
-        unit,
-        marks.as_slice(),
-        name,
-        starts.as_slice(),
-    )
+    let object = generate(alloc, program, unit, &row, name, &starts)?;
+    Ok(object)
 }
 
 // The object of a unit, if the program has the unit.
