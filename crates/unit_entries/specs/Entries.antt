@@ -64,7 +64,7 @@ inline_text defs f = cond (is_some f.body && is_inline f.linkage) (Some (definit
 
 abbrev pub is_declared : Safety → Bool
 is_declared Undeclared = false
-is_declared safety = true
+is_declared _ = true
 
 abbrev pub is_safe_signature : Signature → Bool
 is_safe_signature (signature ps r safe) = safe
