@@ -12,9 +12,7 @@ ghost use Rattle.run_command.specs.tx_safety.Safe.{IsSafe};
 ghost use Rattle.races_command.specs.Commands.{CompilesAndRaces, DecidesTexts, RacesLinked};
 
 use object_races::with_objects;
-use run_command::below::{
-    Decision, RunOptions, SafeProgram, Verdict, unit_objects, verdict_of,
-};
+use run_command::below::{Decision, RunOptions, SafeProgram, Verdict, unit_objects, verdict_of};
 use run_command::laws::runs_of_compiled;
 use run_command::{folded_if, held_against_source};
 use src_bind::Choices;
