@@ -1,5 +1,5 @@
 -- A unit with a call in an atomic block: `int main() { atomic_commit { g(); } }`, with `g` and `h` declared.
-use Rattle.std.specs.Prelude.{ℕ, Bool, false, List, [], ◌∷◌, map, codes, Option, Some, None}
+use Rattle.std.specs.Prelude.{ℕ, false, List, [], ◌∷◌, codes, Option, Some, None}
 use Rattle.cpp_tree.specs.tx_ints.declared.kinds.IntKind.TheVariants.{Int}
 use Rattle.cpp_tree.specs.cpp_types.Typ.{Typ, typ, void, int, signature, none}
 use Rattle.cpp_tree.specs.cpp_types.Class.{Function}
