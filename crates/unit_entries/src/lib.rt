@@ -6,6 +6,7 @@
 
 mod bodies;
 pub mod classes;
+pub mod examples;
 pub mod functions;
 pub mod globals;
 pub mod naming;
