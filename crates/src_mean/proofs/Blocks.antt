@@ -324,7 +324,6 @@ silent_keeps Silent bs i = refl
 silent_keeps e bs i = absurd (false≢true i)
 
 done_keeps : (e : Event) (bs : List Open) → is_done e ≡ true → blocks_after e bs ≡ bs
-done_keeps Silent bs i = refl
 done_keeps Done bs i = refl
 done_keeps e bs i = absurd (false≢true i)
 
@@ -400,7 +399,6 @@ last_blocks [] i = refl
 last_blocks (f ∷ k) i = absurd (false≢true i)
 
 done_follows : (e : Event) (bs : List Open) → bs ≡ [] → is_done e ≡ true → follows e bs ≡ true
-done_follows Silent bs n i = refl
 done_follows Done bs n i = ap is_empty n
 done_follows e bs n i = absurd (false≢true i)
 

@@ -124,7 +124,7 @@ pub data Frame : Type 0 where
   -- the ends
   Starts : (main : Bool) → Frame  -- the thread's function has ended
   Halted : End → Frame
-  Ended : Frame
+  Ended : Frame  -- the thread stays at its end
 
 -- the next event, the frame at hand, and what is left to do with the reply, the innermost first
 pub record State : Type 0 where

@@ -48,7 +48,7 @@ is_plain e = true
 
 abbrev pub is_done : Event → Bool
 is_done Done = true
-is_done e = is_silent e
+is_done e = false
 
 -- the event and what is left to do with its reply go together: a node is entered by a silent step
 abbrev pub settled : Event → List Frame → Bool

@@ -421,7 +421,7 @@ give p h v (Taking e base offset kind ∷ k) = write h (plus base offset) kind f
 give p h v (Handling e ∷ k) = give p h v k
 give p h v (Starts main ∷ k) = first_end main h v k
 give p h v (Halted end ∷ k) = at (Stop end) h (Halted end ∷ k)
-give p h v (Ended ∷ k) = at Silent h (Ended ∷ k)
+give p h v (Ended ∷ k) = at Done h (Ended ∷ k)
 
 -- The thread
 

@@ -239,6 +239,6 @@ fn give_end(state: &mut State, bound: &Bound<'_>, frame: EndFrame, value: u64) -
                 Frame::End(EndFrame::Halted(end)),
             )
         }
-        EndFrame::Ended => state.goes(bound, Frame::End(EndFrame::Ended)),
+        EndFrame::Ended => state.comes(bound, Event::Done, Frame::End(EndFrame::Ended)),
     }
 }
