@@ -1,0 +1,259 @@
+-- From a note along the instruction to the next notes, as moves of both threads.
+use Rattle.std.proofs.Common.{ℕ, zero, suc, ℤ, ◌≡◌, ◌+◌, ◌-◌, ◌<◌, ◌≤◌, ◌⊎◌, ⊎_elim, inl, inr, Bool, true, false, refl, ap, ap₂, sym, ◌∙◌, subst, List, [], ◌∷◌, Option, Some, None, Result, Ok, Err, ◌^◌, ◌*◌, arith}
+use Rattle.std.specs.Prelude.{nat_le}
+use Rattle.std.proofs.lemmas.Bool.{true≢false, leb-true}
+use Rattle.std.proofs.Math.Nat.{pow-le-pow_right}
+use Rattle.tx_ints.proofs.WordLaws.{word_below}
+use Rattle.tx_ints.specs.declared.kinds.ArithTrap.{ArithTrap}
+use Rattle.tx_events.specs.declared.End.{End}
+use Rattle.tx_events.specs.declared.Event.{Event}
+use Rattle.tx_events.specs.declared.Event.TheVariants.{Silent, Stop}
+use Rattle.tx_events.specs.declared.Reply.{Reply}
+use Rattle.tx_events.specs.declared.Reply.TheVariants.{Nothing, Loaded, Byte, Id}
+use Rattle.tx_events.specs.Thread.{Thread, Open, Atomic, Sync, Answers, is_silent}
+use Rattle.tx_events.specs.Simulation.{Path, here, step}
+use Rattle.lockstep.specs.Moves.{Ranked, Meeting, Striding, Waiting, Move, meets, strides, waits, leads}
+use Rattle.tx_code.specs.Meaning.{Names, Home, Frame, Runs, Act, Does, Ends, Free, Building, Flying, step_act, event_of, state_after, thread}
+use Rattle.tx_code.specs.Meaning as code
+use Rattle.cpp_tree.specs.cpp_types.Typ.{Typ}
+use Rattle.src_mean.specs.Linked.{Func, Program}
+use Rattle.src_mean.specs.Exceptions as exceptions
+use Rattle.src_mean.specs.Frames.{State}
+use Rattle.src_mean.specs.Frames as frames
+use Rattle.src_mean.specs.Source.{source, give, applied, reply_word}
+use Rattle.symbolic_source.specs.Terms.{Term, variable, Exception, made, Values, eval}
+use Rattle.symbolic_source.specs.Frames.{Waiting as Waits, Frame as Form, words_of, throws, returns, breaks, continues}
+use Rattle.symbolic_source.specs.Outcomes.{Doing, silent, reads, writes, puts_out, takes_in, joins, begins_atomic, begins_sync, ends_block, leaves_block, Outcome, goes, Shows}
+use Rattle.symbolic_source.specs.Outcomes as outcomes
+use Rattle.symbolic_source.specs.Steps.{given, advanced}
+use Rattle.symbolic_source.specs.Small.{IsSmall, AreWords, Advanced}
+use Rattle.symbolic_source.specs.Replacing.{Replacing, seen_by, in_terms, in_outcome, in_doing, in_waitings, in_frames}
+use Rattle.symbolic_source.proofs.TermLemmas.{term_below}
+use Rattle.symbolic_source.proofs.Advance.{advance, replied as value_after}
+use Rattle.symbolic_source.proofs.Replaced.{terms_replaced, exception_replaced, outcome_replaced, outcome_placed}
+use Rattle.symbolic_code.specs.Places.{Place, Hold, nothing, making, flying, coded, all_coded, hold_of, frame_at, replied, later}
+use Rattle.symbolic_code.specs.Following.{Next, refused, quietly, either_way, unless_trap, loudly, ends, Follows, Loud}
+use Rattle.body_check.specs.Notes.{Note, Bounds, in_caught, in_hold, in_place, is_loud, no_answers, Lands, LandsOn, Fits}
+use Rattle.body_check.specs.Linked.{Held, Based, Stands, Stopped}
+
+-- paths one behind the other
+pub joined : {S : Type 0} (a : Thread S) {m n : ℕ} {s t u : S} → Path a m s t → Path a n t u → Path a (m + n) s u
+joined a {n} {s} {u} here w = subst (λ z. Path a z s u) (none n) w
+  where
+    none : (n : ℕ) → n ≡ 0 + n
+    none n = omega arith
+joined a {n} {s} {u} (step {n = m} e v) w = subst (λ z. Path a z s u) (turned m n) (step e (joined a v w))
+  where
+    turned : (m n : ℕ) → m + n + 1 ≡ m + 1 + n
+    turned m n = omega arith
+
+-- a path of no steps
+pub still : {S : Type 0} (a : Thread S) {n : ℕ} {s t : S} → Path a n s t → n ≡ 0 → s ≡ t
+still a here e = refl
+still a (step {n = m} i w) e = absurd (none m e)
+  where
+    none : (m : ℕ) → m + 1 ≡ 0 → ⊥
+    none m e = omega (arith, e)
+
+pub either_zero : (n : ℕ) {A : Type 0} → (n ≡ 0 → A) → ((n ≡ 0 → ⊥) → A) → A
+either_zero zero g h = g refl
+either_zero (suc n) g h = h (λ e. omega (arith, e))
+
+pub either_result : (r : Result ℤ ArithTrap) {A : Type 0} → ((v : ℤ) → r ≡ Ok v → A) → ((trap : ArithTrap) → r ≡ Err trap → A) → A
+either_result (Ok v) g h = g v refl
+either_result (Err trap) g h = h trap refl
+
+module _ (p : Program) (f : Func) (numbers : Typ → ℕ) (r : Replacing) (x : Values) where
+  caught_replaced : (es : List Exception) → all_coded p f numbers x (in_caught r es) ≡ all_coded p f numbers (seen_by p f r x) es
+  caught_replaced [] = refl
+  caught_replaced (e ∷ es) = ap₂ (λ (u : exceptions.Exception) (v : List code.Exception). coded numbers u ∷ v) (exception_replaced p f r x e) (caught_replaced es)
+
+  held_replaced : (h : Hold) → hold_of p f numbers x (in_hold r h) ≡ hold_of p f numbers (seen_by p f r x) h
+  held_replaced nothing = refl
+  held_replaced (making t puts) = ap (λ (u : exceptions.Exception). Building (coded numbers u)) (exception_replaced p f r x (made t puts))
+  held_replaced (flying e) = ap (λ (u : exceptions.Exception). Flying (coded numbers u)) (exception_replaced p f r x e)
+
+  pub frame_replaced : (home : Home) (index : ℕ) (q : Place) → frame_at p f numbers x home index (in_place r q) ≡ frame_at p f numbers (seen_by p f r x) home index q
+  frame_replaced home index q =
+      ap₂ (λ (u : List code.Exception) (v : code.Held). record { home = home; nest = record { opens = q.opens; caught = u; held = v }; index = index; words = words_of p f x (in_terms r q.operands) }) (caught_replaced q.caught) (held_replaced q.hold)
+      ∙ ap (λ (z : List ℕ). record { home = home; nest = record { opens = q.opens; caught = all_coded p f numbers (seen_by p f r x) q.caught; held = hold_of p f numbers (seen_by p f r x) q.hold }; index = index; words = z }) (terms_replaced p f r x q.operands)
+
+loud_event : (p : Program) (f : Func) (x : Values) (doing : Doing) → is_loud doing ≡ true → is_silent (outcomes.event_of p f x doing) ≡ false
+loud_event p f x silent h = absurd (true≢false (sym h))
+loud_event p f x (reads a n v) h = refl
+loud_event p f x (writes a k w v) h = refl
+loud_event p f x (puts_out b) h = refl
+loud_event p f x takes_in h = refl
+loud_event p f x (joins i) h = refl
+loud_event p f x (begins_atomic k) h = refl
+loud_event p f x begins_sync h = refl
+loud_event p f x (ends_block (Atomic k)) h = refl
+loud_event p f x (ends_block Sync) h = refl
+loud_event p f x (leaves_block Sync exit) h = refl
+loud_event p f x (leaves_block (Atomic k) (throws e)) h = refl
+loud_event p f x (leaves_block (Atomic k) (returns w)) h = refl
+loud_event p f x (leaves_block (Atomic k) breaks) h = refl
+loud_event p f x (leaves_block (Atomic k) continues) h = refl
+
+narrow : (size value : ℕ) → nat_le size 8 ≡ true → value < 2 ^ (8 * size) → value < 2 ^ 64
+narrow size value e h =
+    let more = pow-le-pow_right {n = 2} (omega arith) (eight size (leb-true size 8 e)) in
+    omega (arith, h, more)
+  where
+    eight : (n : ℕ) → n ≤ 8 → 8 * n ≤ 64
+    eight n h = omega (arith, h)
+
+-- the word of a reply
+reply_small : (p : Program) (f : Func) (x : Values) (doing : Doing) (reply : Reply) → is_loud doing ≡ true → Answers (outcomes.event_of p f x doing) reply → reply_word reply < 2 ^ 64
+reply_small p f x (reads a n v) (Loaded w) h g = narrow n w h g
+reply_small p f x (reads a n v) Nothing h g = absurd g
+reply_small p f x (reads a n v) (Byte z) h g = absurd g
+reply_small p f x (reads a n v) (Id z) h g = absurd g
+reply_small p f x doing Nothing h g = omega arith
+reply_small p f x doing (Byte z) h g = word_below z
+reply_small p f x doing (Id z) h g = word_below z
+reply_small p f x silent (Loaded w) h g = absurd cc
+reply_small p f x (writes a k u v) (Loaded w) h g = absurd cc
+reply_small p f x (puts_out b) (Loaded w) h g = absurd cc
+reply_small p f x takes_in (Loaded w) h g = absurd g
+reply_small p f x (joins i) (Loaded w) h g = absurd cc
+reply_small p f x (begins_atomic k) (Loaded w) h g = absurd cc
+reply_small p f x begins_sync (Loaded w) h g = absurd cc
+reply_small p f x (ends_block (Atomic k)) (Loaded w) h g = absurd cc
+reply_small p f x (ends_block Sync) (Loaded w) h g = absurd cc
+reply_small p f x (leaves_block Sync exit) (Loaded w) h g = absurd cc
+reply_small p f x (leaves_block (Atomic k) (throws e)) (Loaded w) h g = absurd cc
+reply_small p f x (leaves_block (Atomic k) (returns u)) (Loaded w) h g = absurd cc
+reply_small p f x (leaves_block (Atomic k) breaks) (Loaded w) h g = absurd cc
+reply_small p f x (leaves_block (Atomic k) continues) (Loaded w) h g = absurd cc
+
+module _ (p : Program) (names : Names) (b : Bounds) (Related : ℕ → State → code.State → Type 0) (stops : (s : State) (c : code.State) → Stopped names s c → Related 0 s c) where
+  -- both stop
+  stopped_after : (end : End) (t : State) (c : code.State) (reply : Reply) → outcomes.Stops end t → step_act names c ≡ Ends (Stop end) → Stopped names ((source p).after t reply) ((thread names).after c reply)
+  stopped_after end t c reply g e = record {
+    end = end;
+    here = g.here;
+    others = g.others;
+    first = ap (λ (z : State). (source p).after z reply) g.is;
+    second = subst (λ z. step_act names z ≡ Ends (Stop end)) (ap (λ z. state_after c z reply) (sym e)) e;
+  }
+
+  pub stop_meets : (end : End) (t : State) (c : code.State) → outcomes.Stops end t → step_act names c ≡ Ends (Stop end) → Meeting (source p) (thread names) b.most Related t c
+  stop_meets end t c g e = record {
+    loud = ap (λ (z : State). is_silent z.event) g.is;
+    same = ap event_of e ∙ sym (ap (λ (z : State). z.event) g.is);
+    on = λ reply fits. record { rank = 0; low = omega arith; related = stops ((source p).after t reply) ((thread names).after c reply) (stopped_after end t c reply g e) };
+  }
+
+module _ (p : Program) (names : Names) (numbers : Typ → ℕ) (h : Held) (b : Bounds) (home : Home) (limit : ℕ) (rest : List frames.Frame) (below_frames : List Frame) (small : IsSmall p)
+    (Related : ℕ → State → code.State → Type 0)
+    (stands : (rank : ℕ) (s : State) (top : Frame) → Stands p numbers h home limit rest rank s top → Related rank s (Runs top below_frames))
+    (stops : (s : State) (c : code.State) → Stopped names s c → Related 0 s c) where
+  abbrev Moves : ℕ → State → code.State → Type 0
+  Moves rank s c = Move (source p) (thread names) b.most b.longest Related rank s c
+
+  -- where a way has led
+  pub record Landed (lag rank : ℕ) (s : State) (top : Frame) : Type 0 where
+    pub to : State
+    pub path : Path (source p) lag s to
+    pub related : Related rank to (Runs top below_frames)
+
+  pub landed : (x : Values) (bounded : AreWords x) (based : Based home limit x) (index : ℕ) (q : Place) (o : Outcome) (s : State) (l : Lands p h.func b h.notes index q o) → Shows p h.func x rest o s → Landed l.lag l.note.rank s (frame_at p h.func numbers x home index q)
+  landed x bounded based index q o s l g =
+      let a = advance p h.func x no_answers rest small bounded (λ n handler answer e. absurd (cc)) l.lag o s g l.foreseen in
+      record {
+        to = a.to;
+        path = subst (λ z. Path (source p) z s a.to) a.long a.path;
+        related = stands l.note.rank a.to (frame_at p h.func numbers x home index q) (record {
+          values = seen_by p h.func l.terms x;
+          are_words = λ n. term_below p h.func x bounded (l.terms.word n);
+          based = based;
+          index = index;
+          note = l.note;
+          is = l.is;
+          ranked = refl;
+          frame = ap (λ (z : Place). frame_at p h.func numbers x home index z) (sym l.same_place) ∙ frame_replaced p h.func numbers l.terms x home index l.note.place;
+          shows = outcome_replaced p h.func l.terms x rest l.note.outcome a.to (subst (λ z. Shows p h.func x rest z a.to) (sym l.same_outcome) a.shows);
+        });
+      }
+
+  silent_next : (c d : code.State) → step_act names c ≡ code.goes d → (thread names).next c ≡ Silent
+  silent_next c d e = ap event_of e
+
+  silent_after : (c d : code.State) → step_act names c ≡ code.goes d → d ≡ (thread names).after c Nothing
+  silent_after c d e = ap (λ z. state_after c z Nothing) (sym e)
+
+  -- a silent step of the code, behind and before silent steps of the source
+  strode : (lead lag rank after : ℕ) (s t u : State) (c d : code.State) → Path (source p) lead s t → Path (source p) lag t u → step_act names c ≡ code.goes d → lead + lag ≤ b.longest → after ≤ b.most
+      → Related after u d → (1 ≤ lead + lag) ⊎ (after + 1 ≤ rank) → Moves rank s c
+  strode lead lag rank after s t u c d v w e short low related g = by_steps (lead + lag) refl
+    where
+      stays : (1 ≤ lead + lag) ⊎ (after + 1 ≤ rank) → lead + lag ≡ 0 → after + 1 ≤ rank
+      stays (inl m) i = absurd (omega (arith, m, i))
+      stays (inr m) i = m
+
+      by_steps : (n : ℕ) → lead + lag ≡ n → Moves rank s c
+      by_steps zero i = waits (record {
+        lower = after;
+        falls = stays g i;
+        silent = silent_next c d e;
+        goes = subst (λ z. Related after s z) (silent_after c d e) (subst (λ z. Related after z d) (sym (still (source p) (joined (source p) v w) i)) related);
+      })
+      by_steps (suc n) i = strides (record {
+        steps = n;
+        few = omega (arith, i, short);
+        to = u;
+        path = subst (λ z. Path (source p) z s u) (next n i) (joined (source p) v w);
+        silent = silent_next c d e;
+        goes = record { rank = after; low = low; related = subst (λ z. Related after u z) (silent_after c d e) related };
+      })
+        where
+          next : (n : ℕ) → lead + lag ≡ suc n → lead + lag ≡ n + 1
+          next n i = omega (arith, i)
+
+  -- after a reply
+  words_after : (x : Values) (reply : Reply) → AreWords x → reply_word reply < 2 ^ 64 → AreWords (replied x reply)
+  words_after x reply bounded small_reply zero = small_reply
+  words_after x reply bounded small_reply (suc n) = bounded n
+
+  foreseen_after : (x : Values) (doing : Doing) (ws : List Waits) (k : List Form) (t : State) (reply : Reply) → AreWords (replied x reply) → Shows p h.func x rest (goes doing ws k) t
+      → Shows p h.func (replied x reply) rest (given p h.func no_answers (in_waitings later ws) (variable 0) (in_frames later k)) ((source p).after t reply)
+  foreseen_after x doing ws k t reply bounded g =
+      value_after p h.func (replied x reply) no_answers rest small bounded (λ n handler answer e. absurd (cc)) (in_doing later doing) (in_waitings later ws) (in_frames later k) t reply (variable 0)
+      (outcome_placed p h.func later (replied x reply) rest (goes doing ws k) t g) refl
+
+  replies : (x : Values) (based : Based home limit x) (index : ℕ) (q : Place) (o : Outcome) (t : State) (d : code.State) (l : Lands p h.func b h.notes index q o) → AreWords x → l.lag ≡ 0 → Shows p h.func x rest o t
+      → d ≡ Runs (frame_at p h.func numbers x home index q) below_frames → Ranked b.most Related t d
+  replies x based index q o t d l bounded e g i =
+      let r = landed x bounded based index q o t l g in
+      record {
+        rank = l.note.rank;
+        low = l.low;
+        related = subst (λ z. Related l.note.rank t z) (sym i) (subst (λ z. Related l.note.rank z (Runs (frame_at p h.func numbers x home index q) below_frames)) (sym (still (source p) r.path e)) r.related);
+      }
+
+  event_meets : (x : Values) (based : Based home limit x) (t : State) (c : code.State) (doing : Doing) (ws : List Waits) (k : List Form) (index : ℕ) (q : Place) → AreWords x → is_loud doing ≡ true
+      → (l : Lands p h.func b h.notes index q (given p h.func no_answers (in_waitings later ws) (variable 0) (in_frames later k))) → l.lag ≡ 0
+      → Loud p h.func numbers x home rest below_frames doing index q (step_act names c) → Shows p h.func x rest (goes doing ws k) t → Meeting (source p) (thread names) b.most Related t c
+  event_meets x based t c doing ws k index q bounded loud l e a g = record {
+    loud = ap (λ (z : State). is_silent z.event) g ∙ loud_event p h.func x doing loud;
+    same = ap event_of a.does ∙ sym (ap (λ (z : State). z.event) g);
+    on = λ reply fits.
+        let fits_event = subst (λ z. Answers z reply) (ap (λ (z : State). z.event) g) fits in
+        let words = words_after x reply bounded (reply_small p h.func x doing reply loud fits_event) in
+        replies (replied x reply) based index q _ ((source p).after t reply) ((thread names).after c reply) l words e (foreseen_after x doing ws k t reply words g)
+        (ap (λ z. state_after c z reply) a.does ∙ a.then_at reply fits_event);
+  }
+
+  pub follow_move : (lead rank : ℕ) (x : Values) (bounded : AreWords x) (based : Based home limit x) (s t : State) (c : code.State) → Path (source p) lead s t → lead ≤ b.longest
+      → (next : Next) → Fits p h.func b h.notes lead rank next → Follows p h.func numbers x home rest below_frames next (step_act names c) t → Moves rank s c
+  follow_move lead rank x bounded based s t c v short refused fits g = absurd fits
+  follow_move lead rank x bounded based s t c v short (quietly index q o) fits g =
+      let l = landed x bounded based index q o t fits.lands g.1 in
+      strode lead fits.lands.lag rank fits.lands.note.rank s t l.to c (Runs (frame_at p h.func numbers x home index q) below_frames) v l.path g.0 fits.short fits.lands.low l.related fits.goes_on
+  follow_move lead rank x bounded based s t c v short (either_way w first other) fits g = either_zero (eval p h.func x w)
+      (λ e. follow_move lead rank x bounded based s t c v short first fits.0 (g.0 e)) (λ e. follow_move lead rank x bounded based s t c v short other fits.1 (g.1 e))
+  follow_move lead rank x bounded based s t c v short (unless_trap op kind y z next) fits g = either_result (applied op kind (eval p h.func x y) (eval p h.func x z))
+      (λ n e. follow_move lead rank x bounded based s t c v short next fits (g.0 n e)) (λ trap e. let w = g.1 trap e in leads short v (stop_meets p names b Related stops _ t c w.1 w.0))
+  follow_move lead rank x bounded based s t c v short (loudly doing ws k index q) fits g = leads short v (event_meets x based t c doing ws k index q bounded fits.0 fits.1 fits.2 g.0 g.1)
+  follow_move lead rank x bounded based s t c v short (ends end) fits g = leads short v (stop_meets p names b Related stops end t c g.1 g.0)

@@ -1,0 +1,7 @@
+pub mod Landing
+pub mod AtNote
+pub mod Calls
+pub mod Threads
+pub mod Program
+pub mod Main
+pub mod Pair

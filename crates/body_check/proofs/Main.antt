@@ -1,0 +1,69 @@
+-- The notes of the worked program fit.
+use Rattle.std.proofs.Common.{ℕ, zero, suc, ◌≡◌, ◌+◌, ◌≤◌, inl, Bool, true, false, refl, ap, sym, ◌∙◌, subst, List, [], ◌∷◌, Option, Some, None, arith}
+use Rattle.std.specs.Prelude.{slice_get}
+use Rattle.tx_code.specs.declared.instr.Instr.TheVariants.{Push, Ret}
+use Rattle.symbolic_source.specs.Terms.{number, variable, unknown}
+use Rattle.symbolic_source.specs.Small.{IsSmall}
+use Rattle.symbolic_source.specs.Replacing.{Replacing}
+use Rattle.body_check.specs.Notes.{Note, Bounds}
+use Rattle.body_check.specs.Linked.{Held}
+use Rattle.body_check.specs.Calls.{Book, by_return, NoteFits, Entry, Checked, Links, Begins}
+use Rattle.body_check.specs.Main.{main_program, main_names, main_body, first_note, second_note, main_book}
+
+pub bounds : Bounds
+bounds = record { half = 8; longest = 16; both = omega arith; most = 1 }
+
+same : Replacing
+same = record { word = λ n. variable n; exception = λ n. unknown n }
+
+first_fits : (n : ℕ) (safe : Bool) → NoteFits main_program bounds main_book (main_book.held n safe) 0 first_note
+unfolding bounds same
+first_fits n safe = record {
+  instr = Push 0;
+  is = refl;
+  short = omega arith;
+  foreseen = refl;
+  fits = record {
+    lands = record { note = second_note; is = refl; lag = 0; terms = same; same_place = refl; same_outcome = refl; foreseen = refl; low = omega arith };
+    short = omega arith;
+    goes_on = inl (omega arith);
+  };
+}
+
+second_fits : (n : ℕ) (safe : Bool) → NoteFits main_program bounds main_book (main_book.held n safe) 1 second_note
+unfolding bounds
+second_fits n safe = record { instr = Ret 1; is = refl; short = omega arith; foreseen = refl; fits = (refl, (number 0, [], refl, by_return)) }
+
+note_same : (a b : Note) → ◌≡◌ {A = Option Note} (Some a) (Some b) → a ≡ b
+note_same a b e = cc
+
+all_fit : (n : ℕ) (safe : Bool) (index : ℕ) (note : Note) → slice_get (first_note ∷ second_note ∷ []) index ≡ Some note → NoteFits main_program bounds main_book (main_book.held n safe) index note
+all_fit n safe zero note e = subst (λ z. NoteFits main_program bounds main_book (main_book.held n safe) 0 z) (note_same first_note note e) (first_fits n safe)
+all_fit n safe (suc zero) note e = subst (λ z. NoteFits main_program bounds main_book (main_book.held n safe) 1 z) (note_same second_note note e) (second_fits n safe)
+all_fit n safe (suc (suc k)) note e = absurd cc
+
+main_checked : (n : ℕ) (safe : Bool) → Checked main_program bounds main_book (main_book.held n safe)
+unfolding bounds
+main_checked n safe = record {
+  entry = record { note = first_note; is = refl; place_is = refl; outcome_is = refl; foreseen = refl; low = omega arith };
+  notes = λ index note e. all_fit n safe index note e;
+}
+
+pub main_links : Links main_program main_names bounds main_book
+main_links = record {
+  bodies = λ n safe body e. cc;
+  funcs = λ n safe body e. refl;
+  numbers = λ n safe. refl;
+  frames = λ n safe. refl;
+  checked = λ n safe body e. main_checked n safe;
+  names = λ n safe. record { globals = λ s m e. absurd cc; functions = λ s m e. absurd cc; classes = λ s m e. absurd cc };
+  called = λ n safe name callee e. absurd cc;
+  plain_there = λ n safe index name count callee i e. absurd cc;
+  safe_there = λ n safe index name count callee i e. absurd cc;
+}
+
+pub main_small : IsSmall main_program
+main_small = record { globals = λ u n. omega arith; functions = λ u n. omega arith; tables = λ c. omega arith }
+
+pub main_begins : Begins main_program main_names main_book
+main_begins = record { body = main_body; there = refl; gives = refl; takes = refl; starts = refl; ends = refl; room = refl }

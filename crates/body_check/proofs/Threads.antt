@@ -1,0 +1,254 @@
+-- Checked bodies keep their events, calls and returns included.
+use Rattle.std.proofs.Common.{ℕ, zero, suc, ℤ, ◌≡◌, ◌+◌, ◌^◌, ◌<◌, ◌≤◌, inl, inr, nat_lt, Bool, true, false, cond, if◌then◌else◌, refl, ap, ap₂, sym, ◌∙◌, subst, List, [], ◌∷◌, ◌++◌, Option, Some, None, arith}
+use Rattle.std.specs.Prelude.{slice_get, nat_le}
+use Rattle.tx_ints.specs.declared.kinds.IntKind.TheVariants.{Int}
+use Rattle.tx_ints.specs.Words.{value_of_word}
+use Rattle.tx_events.specs.declared.End.{End}
+use Rattle.tx_events.specs.declared.End.TheVariants.{Trapped, Exit as Exits}
+use Rattle.tx_events.specs.declared.Event.TheVariants.{Silent, Stop}
+use Rattle.tx_events.specs.declared.Reply.TheVariants.{Nothing, Loaded}
+use Rattle.tx_events.specs.declared.Trap.TheVariants.{StackOverflow}
+use Rattle.tx_events.specs.Simulation.{Path, here, step}
+use Rattle.lockstep.specs.Moves.{Ranked, Move, strides, leads}
+use Rattle.tx_code.specs.declared.instr.Instr.{Instr}
+use Rattle.tx_code.specs.Objects.{BodyView}
+use Rattle.tx_code.specs.Meaning.{Names, Home, Frame, Runs, Act, Ends, Lost, if_some, step_act, thread}
+use Rattle.tx_code.specs.Meaning as code
+use Rattle.cpp_tree.specs.cpp_types.Typ.{Typ}
+use Rattle.src_mean.specs.Linked.{Func, Program}
+use Rattle.src_mean.specs.Frames.{State}
+use Rattle.src_mean.specs.Frames as frames
+use Rattle.src_mean.specs.Source.{source as thread_of, enter, halt, empty_stack}
+use Rattle.src_mean.specs.Source as source
+use Rattle.symbolic_source.specs.Terms.{Term, number, variable, Values, eval}
+use Rattle.symbolic_source.specs.Frames.{Waiting as Kept, Frame as Form, value, known, Passes, Then, Gives, words_of, below, here_of}
+use Rattle.symbolic_source.specs.Outcomes.{silent, Outcome, goes, calls, Shows, Stops}
+use Rattle.symbolic_source.specs.Steps.{advanced}
+use Rattle.symbolic_source.specs.Small.{IsSmall, AreWords, Advanced, is_stuck}
+use Rattle.symbolic_source.specs.Replacing.{in_terms, in_waitings, in_frames}
+use Rattle.symbolic_source.proofs.TermLemmas.{term_below}
+use Rattle.symbolic_source.proofs.Advance.{advance}
+use Rattle.symbolic_source.proofs.Replaced.{here_replaced, frames_replaced}
+use Rattle.symbolic_code.specs.Places.{Place, frame_at, replied, later, with_operands, place_later}
+use Rattle.symbolic_code.proofs.Later.{words_later, frame_later}
+use Rattle.body_check.specs.Notes.{Note, Bounds, no_answers, variables}
+use Rattle.body_check.specs.Linked.{Held, Based, Stands, Stopped}
+use Rattle.body_check.specs.Calls.{Book, taken_off, bare, Hands, by_end, by_return, Back, BackWith, Calling, Entry, Checked, Links}
+use Rattle.body_check.specs.Threads.{home_of, limit, Waits, waiting_frame, waiting_frames, Callers, nobody, waits_for, RunsIn, Together, running, stopped}
+use Rattle.body_check.proofs.Landing.{joined, landed, Landed, stop_meets}
+use Rattle.body_check.proofs.Calls.{count_of, moved_is, taken_count, fits_or_not, values_in, new_variables, entered, new_words}
+
+module _ (p : Program) (names : Names) (numbers : Typ → ℕ) (b : Bounds) (book : Book) (links : Links p names b book) (small : IsSmall p) where
+  abbrev pub Pairs : ℕ → State → code.State → Type 0
+  Pairs rank s c = Together p names numbers b book rank s c
+
+  abbrev pub Moves : ℕ → State → code.State → Type 0
+  Moves rank s c = Move (thread_of p) (thread names) b.most b.longest Pairs rank s c
+
+  abbrev pub held : ℕ → Bool → Held
+  held n safe = book.held n safe
+
+  abbrev pub end_of : ℕ
+  end_of = limit p names numbers b book
+
+  -- a silent step of the code, beside one or more of the source
+  both_go : (steps rank after : ℕ) (s u : State) (c d : code.State) → Path (thread_of p) steps s u → 1 ≤ steps → steps ≤ b.longest → step_act names c ≡ code.goes d → after ≤ b.most → Pairs after u d → Moves rank s c
+  both_go zero rank after s u c d v some few e low related = absurd (omega (arith, some))
+  both_go (suc n) rank after s u c d v some few e low related = strides (record {
+    steps = n;
+    few = omega (arith, few);
+    to = u;
+    path = subst (λ z. Path (thread_of p) z s u) (next n) v;
+    silent = ap code.event_of e;
+    goes = record { rank = after; low = low; related = subst (λ z. Pairs after u z) (ap (λ z. code.state_after c z Nothing) (sym e)) related };
+  })
+    where
+      next : (n : ℕ) → suc n ≡ n + 1
+      next n = omega arith
+
+  -- ---- a call
+
+  -- the callee's frame, where it is entered
+  module _ (n : ℕ) (safe : Bool) (base : ℕ) (x : Values) (bounded : AreWords x) (based : Based (home_of n safe base) end_of x) (index : ℕ) (q : Place) (fs : List Frame) (rest : List frames.Frame)
+      (m : ℕ) (into : Bool) (body : BodyView) (there : names.body m into ≡ Some body) (own : BodyView) (own_there : names.body n safe ≡ Some own)
+      (words under : List Term) (ws : List Kept) (k : List Form) (taken : taken_off (book.takes m) q.operands [] ≡ Some (words, under))
+      (back : BackWith p b book (book.gives m) (held n safe) index q under ws k) (callers : Callers p names numbers b book (book.gives n) fs rest) where
+    abbrev f : Func
+    f = (held n safe).func
+
+    abbrev g : Func
+    g = (held m into).func
+
+    abbrev waiting : Waits p names numbers b book (book.gives m) n safe base
+    waiting = record { body = own; there = own_there; values = x; are_words = bounded; based = based; index = index; place = q; under = under; temporaries = ws; others = k; back = back }
+
+    abbrev new : Values
+    new = values_in x (words_of p f x words) (x.base + f.size)
+
+    abbrev called : List frames.Frame
+    called = frames.Called (here_of p f x ws) g.stops ∷ below p f x k rest
+
+    entry : Entry p b book (held m into)
+    entry = (links.checked m into body there).entry
+
+    -- where the source has got to one step on
+    counted : count_of words ≡ book.takes m
+    counted = taken_count (book.takes m) q.operands [] words under taken ∙ none (book.takes m)
+      where
+        none : (n : ℕ) → n + 0 ≡ n
+        none n = omega arith
+
+    first : State
+    first = frames.at Silent (source.inside (here_of p f x ws) g) (frames.Passes (words_of p f x words) g.words ∷ frames.Then frames.value g.body ∷ called)
+
+    start : Outcome
+    start = goes silent [] (Passes (variables 0 (book.takes m)) g.words ∷ Then value g.body ∷ [])
+
+    foreseen_at_entry : entry.note.outcome ≡ advanced p g no_answers 1 start
+    unfolding start
+    foreseen_at_entry = entry.outcome_is ∙ ap (λ z. advanced p g no_answers 1 (goes silent [] (Passes (variables 0 (book.takes z)) g.words ∷ Then value g.body ∷ []))) (links.numbers m into)
+
+    begun : Advanced p g new no_answers called 1 start first
+    unfolding first start
+    begun = advance p g new no_answers called small (new_words p small f g x bounded ws k rest words) (λ n handler answer e. absurd (cc)) 1 (goes silent [] (Passes (variables 0 (book.takes m)) g.words ∷ Then value g.body ∷ []))
+        (frames.at Silent (source.inside (here_of p f x ws) g) (frames.Passes (words_of p f x words) g.words ∷ frames.Then frames.value g.body ∷ called))
+        (entered p small f g x bounded ws k rest words (book.takes m) counted) (ap is_stuck (sym foreseen_at_entry) ∙ entry.foreseen)
+
+    new_frame : Frame
+    new_frame = code.first_frame (home_of m into (base + names.frame n)) (words_of p f x words)
+
+    stands_there : Stands p numbers (held m into) (home_of m into (base + names.frame n)) end_of called entry.note.rank begun.to new_frame
+    unfolding start new_frame
+    stands_there = record {
+      values = new;
+      are_words = new_words p small f g x bounded ws k rest words;
+      based = (ap₂ (λ u v. u + v) based.0 (links.frames n safe), based.1);
+      index = 0;
+      note = entry.note;
+      is = entry.is;
+      ranked = refl;
+      frame = ap (λ (z : List ℕ). code.first_frame (home_of m into (base + names.frame n)) z) (sym (new_variables p small f g x bounded ws k rest words (book.takes m) counted))
+          ∙ (ap (λ z. frame_at p g numbers new (home_of m into (base + names.frame n)) 0 (bare (book.takes z))) (sym (links.numbers m into)) ∙ ap (λ (z : Place). frame_at p g numbers new (home_of m into (base + names.frame n)) 0 z) (sym entry.place_is));
+      shows = subst (λ z. Shows p g new called z begun.to) (sym foreseen_at_entry) begun.shows;
+    }
+
+    goes_in : Pairs entry.note.rank begun.to (Runs new_frame (waiting_frame p names numbers b book (book.gives m) n safe base waiting ∷ fs))
+    goes_in = running m into (base + names.frame n) (record { body = body; there = there; rest = called; callers = waits_for n safe base waiting g.stops callers; stands = stands_there })
+
+    abbrev under_frame : Frame
+    under_frame = frame_at p f numbers x (home_of n safe base) index (with_operands q under)
+
+    -- the frame that a call leaves
+    call_acts : code.call_act names m into (book.takes m) (frame_at p f numbers x (home_of n safe base) index q) fs ≡ code.enter_act names m into (words_of p f x words) under_frame fs
+    call_acts = moved_is p f x (book.takes m) q.operands [] words under (λ args vs. code.entered_act names m into args (code.at (frame_at p f numbers x (home_of n safe base) index q) index vs) fs) taken
+        ∙ ap (λ o. if_some o Lost (λ c. code.enter_act names m into (words_of p f x words) under_frame fs)) there
+
+    fits_same : code.fits names (home_of m into (base + names.frame n)) ≡ nat_le (x.base + f.size + g.size) x.limit
+    fits_same = ap₂ (λ u v. nat_le u v) (ap₂ (λ u v. u + v) (ap₂ (λ u v. u + v) based.0 (links.frames n safe)) (links.frames m into)) (sym based.1)
+
+    abbrev entering : State
+    entering = enter (here_of p f x ws) (words_of p f x words) (p.func m) (below p f x k rest)
+
+    pub call_move : (lead rank : ℕ) (s t : State) (c : code.State) → Path (thread_of p) lead s t → lead + 1 ≤ b.half
+        → step_act names c ≡ code.call_act names m into (book.takes m) (frame_at p f numbers x (home_of n safe base) index q) fs → t ≡ entering → Moves rank s c
+    unfolding first new_frame
+    call_move lead rank s t c v short e g_is = fits_or_not (x.base + f.size + g.size) x.limit
+        (λ i j. both_go (lead + begun.steps) rank entry.note.rank s begun.to c (Runs new_frame (under_frame ∷ fs)) (joined (thread_of p) (subst (λ z. Path (thread_of p) lead s z) (g_is ∙ goes_first j) v) begun.path)
+        (one lead begun.steps begun.long) (room lead begun.steps begun.long short b.both) (e ∙ (call_acts ∙ enters i)) entry.low goes_in)
+        (λ i j. leads (less lead short b.both) v (stop_meets p names b Pairs (λ s c z. stopped z) (Trapped StackOverflow) t c
+        (record { here = here_of p f x ws; others = below p f x k rest; is = g_is ∙ stops_first j }) (e ∙ (call_acts ∙ overflows i))))
+      where
+        one : (lead n : ℕ) → n ≡ 1 → 1 ≤ lead + n
+        one lead n e = omega (arith, e)
+
+        room : (lead n : ℕ) → n ≡ 1 → lead + 1 ≤ b.half → b.half + b.half ≤ b.longest → lead + n ≤ b.longest
+        room lead n e s h = omega (arith, e, s, h)
+
+        less : (lead : ℕ) → lead + 1 ≤ b.half → b.half + b.half ≤ b.longest → lead ≤ b.longest
+        less lead s h = omega (arith, s, h)
+
+        goes_first : nat_lt x.limit (x.base + f.size + g.size) ≡ false → entering ≡ first
+        goes_first j = ap (λ z. enter (here_of p f x ws) (words_of p f x words) z (below p f x k rest)) (links.funcs m into body there)
+            ∙ ap (λ z. cond z (halt (here_of p f x ws) (Trapped StackOverflow) (below p f x k rest)) (frames.at Silent (source.inside (here_of p f x ws) g) (frames.Passes (words_of p f x words) g.words ∷ frames.Then frames.value g.body ∷ called))) j
+
+        stops_first : nat_lt x.limit (x.base + f.size + g.size) ≡ true → entering ≡ halt (here_of p f x ws) (Trapped StackOverflow) (below p f x k rest)
+        stops_first j = ap (λ z. enter (here_of p f x ws) (words_of p f x words) z (below p f x k rest)) (links.funcs m into body there)
+            ∙ ap (λ z. cond z (halt (here_of p f x ws) (Trapped StackOverflow) (below p f x k rest)) (frames.at Silent (source.inside (here_of p f x ws) g) (frames.Passes (words_of p f x words) g.words ∷ frames.Then frames.value g.body ∷ called))) j
+
+        enters : nat_le (x.base + f.size + g.size) x.limit ≡ true → code.enter_act names m into (words_of p f x words) under_frame fs ≡ code.goes (Runs new_frame (under_frame ∷ fs))
+        enters i = ap (λ z. if z then code.goes (Runs (code.first_frame (home_of m into (base + names.frame n)) (words_of p f x words)) (under_frame ∷ fs)) else code.traps StackOverflow) (fits_same ∙ i)
+
+        overflows : nat_le (x.base + f.size + g.size) x.limit ≡ false → code.enter_act names m into (words_of p f x words) under_frame fs ≡ Ends (Stop (Trapped StackOverflow))
+        overflows i = ap (λ z. if z then code.goes (Runs (code.first_frame (home_of m into (base + names.frame n)) (words_of p f x words)) (under_frame ∷ fs)) else code.traps StackOverflow) (fits_same ∙ i)
+
+  -- ---- a return
+
+  -- the word of a function that is done
+  handed : (f : Func) (x : Values) (w : Term) (o : Outcome) (caller : frames.Here) (stops : Bool) (k : List frames.Frame) (t : State) → Hands w o → Shows p f x (frames.Called caller stops ∷ k) o t → t ≡ frames.at Silent caller (frames.Gives (eval p f x w) ∷ k)
+  handed f x w o caller stops k t by_end h = h
+  handed f x w o caller stops k t by_return h = h
+
+  room_back : (lead lag : ℕ) → lead + 1 ≤ b.half → lag ≤ b.half → lead + lag ≤ b.longest
+  room_back lead lag s h = let both = b.both in omega (arith, s, h, both)
+
+  some_back : (lead lag : ℕ) → 1 ≤ lag → 1 ≤ lead + lag
+  some_back lead lag h = omega (arith, h)
+
+  pub stands_in : (n : ℕ) (safe : Bool) (base : ℕ) (body : BodyView) (there : names.body n safe ≡ Some body) (fs : List Frame) (rest : List frames.Frame) (callers : Callers p names numbers b book (book.gives n) fs rest)
+      (rank : ℕ) (s : State) (top : Frame) → Stands p numbers (held n safe) (home_of n safe base) end_of rest rank s top → Pairs rank s (Runs top fs)
+  stands_in n safe base body there fs rest callers rank s top st = running n safe base (record { body = body; there = there; rest = rest; callers = callers; stands = st })
+
+  back_with_word : (home : Home) (lead rank v : ℕ) (s t : State) (c : code.State) (n : ℕ) (safe : Bool) (base : ℕ) (w : Waits p names numbers b book true n safe base) (stops : Bool) (fs : List Frame) (rest : List frames.Frame) → v < 2 ^ 64
+      → Callers p names numbers b book (book.gives n) fs rest → Path (thread_of p) lead s t → lead + 1 ≤ b.half
+      → step_act names c ≡ code.back_act home (v ∷ []) (waiting_frame p names numbers b book true n safe base w ∷ fs)
+      → t ≡ frames.at Silent (here_of p (held n safe).func w.values w.temporaries) (frames.Gives v ∷ below p (held n safe).func w.values w.others rest) → Moves rank s c
+  back_with_word home lead rank v s t c n safe base w stops fs rest small_word callers path short e g =
+      let f = (held n safe).func in
+      let y = replied w.values (Loaded v) in
+      let q = place_later w.place (variable 0 ∷ in_terms later w.under) in
+      let shows : Shows p f y rest (goes silent (in_waitings later w.temporaries) (Gives (variable 0) ∷ in_frames later w.others)) t =
+      g ∙ ap₂ (λ a d. frames.at Silent a (frames.Gives v ∷ d)) (sym (here_replaced p f later y rest w.temporaries)) (sym (frames_replaced p f later y rest w.others)) in
+      let l = landed p names numbers (held n safe) b (home_of n safe base) end_of rest fs small Pairs (stands_in n safe base w.body w.there fs rest callers) (λ s c z. stopped z) y (words_then w.values v w.are_words small_word) w.based (w.index + 1) q
+      (goes silent (in_waitings later w.temporaries) (Gives (variable 0) ∷ in_frames later w.others)) t w.back.lands shows in
+      both_go (lead + w.back.lands.lag) rank w.back.lands.note.rank s l.to c (Runs (frame_at p f numbers y (home_of n safe base) (w.index + 1) q) fs) (joined (thread_of p) path l.path)
+      (some_back lead w.back.lands.lag w.back.some) (room_back lead w.back.lands.lag short w.back.short)
+      (e ∙ ap code.goes (frame_later p f numbers w.values (Loaded v) (home_of n safe base) fs (w.index + 1) w.place w.place.opens (v ∷ words_of p f w.values w.under) (variable 0 ∷ in_terms later w.under)
+      (ap (λ (z : List ℕ). v ∷ z) (sym (words_later p f numbers w.values (Loaded v) w.under))))) w.back.lands.low l.related
+    where
+      words_then : (x : Values) (v : ℕ) → AreWords x → v < 2 ^ 64 → AreWords (replied x (Loaded v))
+      words_then x v bounded h zero = h
+      words_then x v bounded h (suc n) = bounded n
+
+  back_without : (home : Home) (lead rank : ℕ) (s t : State) (c : code.State) (n : ℕ) (safe : Bool) (base : ℕ) (w : Waits p names numbers b book false n safe base) (stops : Bool) (fs : List Frame) (rest : List frames.Frame)
+      → Callers p names numbers b book (book.gives n) fs rest → Path (thread_of p) lead s t → lead + 1 ≤ b.half
+      → step_act names c ≡ code.back_act home [] (waiting_frame p names numbers b book false n safe base w ∷ fs)
+      → t ≡ frames.at Silent (here_of p (held n safe).func w.values w.temporaries) (frames.Gives 0 ∷ below p (held n safe).func w.values w.others rest) → Moves rank s c
+  back_without home lead rank s t c n safe base w stops fs rest callers path short e g =
+      let f = (held n safe).func in
+      let l = landed p names numbers (held n safe) b (home_of n safe base) end_of rest fs small Pairs (stands_in n safe base w.body w.there fs rest callers) (λ s c z. stopped z) w.values w.are_words w.based (w.index + 1) (with_operands w.place w.under)
+      (goes silent w.temporaries (Gives (number 0) ∷ w.others)) t w.back.lands g in
+      both_go (lead + w.back.lands.lag) rank w.back.lands.note.rank s l.to c (Runs (frame_at p f numbers w.values (home_of n safe base) (w.index + 1) (with_operands w.place w.under)) fs) (joined (thread_of p) path l.path)
+      (some_back lead w.back.lands.lag w.back.some) (room_back lead w.back.lands.lag short w.back.short) e w.back.lands.low l.related
+
+  -- main ends
+  main_ends : (home : Home) (lead rank v : ℕ) (s t : State) (c : code.State) → home.thread ≡ 0 → Path (thread_of p) lead s t → lead + 1 ≤ b.half → step_act names c ≡ code.back_act home (v ∷ []) []
+      → t ≡ frames.at Silent (empty_stack 0) (frames.Gives v ∷ frames.Starts true ∷ []) → Moves rank s c
+  main_ends home lead rank v s t c main path short e g =
+      leads (few lead short b.both) (joined (thread_of p) path (subst (λ z. Path (thread_of p) 1 z (halt (empty_stack 0) (Exits (value_of_word Int v)) [])) (sym g) (step {n = 0} refl here)))
+      (stop_meets p names b Pairs (λ s c z. stopped z) (Exits (value_of_word Int v)) (halt (empty_stack 0) (Exits (value_of_word Int v)) []) c
+      (record { here = empty_stack 0; others = []; is = refl }) (e ∙ ap (λ z. Ends (code.finish z (value_of_word Int v))) main))
+    where
+      few : (lead : ℕ) → lead + 1 ≤ b.half → b.half + b.half ≤ b.longest → lead + 1 ≤ b.longest
+      few lead s h = omega (arith, s, h)
+
+  pub return_word : (home : Home) (lead rank : ℕ) (f : Func) (x : Values) (bounded : AreWords x) (w : Term) (o : Outcome) (s t : State) (c : code.State) (fs : List Frame) (rest : List frames.Frame) → home.thread ≡ 0
+      → Callers p names numbers b book true fs rest → Path (thread_of p) lead s t → lead + 1 ≤ b.half → step_act names c ≡ code.back_act home (eval p f x w ∷ []) fs → Hands w o → Shows p f x rest o t → Moves rank s c
+  return_word home lead rank f x bounded w o s t c fs rest main (nobody stops) path short e hands g =
+      main_ends home lead rank (eval p f x w) s t c main path short e (handed f x w o _ stops _ t hands g)
+  return_word home lead rank f x bounded w o s t c fs rest main (waits_for n safe base z stops callers) path short e hands g =
+      back_with_word home lead rank (eval p f x w) s t c n safe base z stops _ _ (term_below p f x bounded w) callers path short e (handed f x w o _ stops _ t hands g)
+
+  pub return_none : (home : Home) (lead rank : ℕ) (f : Func) (x : Values) (o : Outcome) (s t : State) (c : code.State) (fs : List Frame) (rest : List frames.Frame)
+      → Callers p names numbers b book false fs rest → Path (thread_of p) lead s t → lead + 1 ≤ b.half → step_act names c ≡ code.back_act home [] fs → Hands (number 0) o → Shows p f x rest o t → Moves rank s c
+  return_none home lead rank f x o s t c fs rest (waits_for n safe base z stops callers) path short e hands g =
+      back_without home lead rank s t c n safe base z stops _ _ callers path short e (handed f x (number 0) o _ stops _ t hands g)

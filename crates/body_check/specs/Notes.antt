@@ -1,0 +1,156 @@
+-- A body with a note at each index: what the source has left to do there, and where the operands are; and when the notes fit.
+use Rattle.std.specs.Prelude.{ℕ, zero, suc, ◌+◌, ◌-◌, ◌≡◌, ◌≤◌, ◌⊎◌, Bool, true, false, List, [], ◌∷◌, length, drop, Option, Some, None, slice_get, nat_le}
+use Rattle.tx_events.specs.declared.BlockKind.TheVariants.{NoExcept, Commit, Cancel}
+use Rattle.tx_events.specs.Thread.{Open, Atomic, Sync, rest_of}
+use Rattle.tx_code.specs.declared.body.Row.{Row}
+use Rattle.tx_code.specs.Meaning.{find}
+use Rattle.cpp_tree.specs.cpp_types.Typ.{Typ}
+use Rattle.src_mean.specs.Exceptions.{catches}
+use Rattle.src_mean.specs.Linked.{Func, Program}
+use Rattle.cpp_tree.specs.Trees.{Tree, typ_in}
+use Rattle.symbolic_source.specs.Terms.{Term, variable, Exception, unknown, made}
+use Rattle.symbolic_source.specs.Frames.{Waiting, Frame, throws}
+use Rattle.symbolic_source.specs.Outcomes.{Doing, silent, reads, leaves_block, Outcome, goes, goes_out}
+use Rattle.symbolic_source.specs.Steps.{Answers, given, advanced}
+use Rattle.symbolic_source.specs.Small.{is_stuck}
+use Rattle.symbolic_source.specs.Replacing.{Replacing, in_exception, in_puts, in_terms, in_waitings, in_frames, in_outcome}
+use Rattle.symbolic_code.specs.Places.{Place, Hold, nothing, making, flying, later, with_operands, holding, opened_later}
+use Rattle.symbolic_code.specs.Following.{Next, refused, quietly, either_way, unless_trap, loudly, throwing, ends}
+
+-- at an index: the place, what comes of the source, how many silent steps the source takes before the instruction, and a rank that falls
+-- where the code goes on and the source does not
+pub record Note : Type 0 where
+  pub place : Place
+  pub outcome : Outcome
+  pub lead : ℕ
+  pub rank : ℕ
+
+abbrev pub in_caught : Replacing → List Exception → List Exception
+in_caught r [] = []
+in_caught r (e ∷ es) = in_exception r e ∷ in_caught r es
+
+abbrev pub in_hold : Replacing → Hold → Hold
+in_hold r nothing = nothing
+in_hold r (making t puts) = making t (in_puts r puts)
+in_hold r (flying e) = flying (in_exception r e)
+
+abbrev pub in_place : Replacing → Place → Place
+in_place r q = record { operands = in_terms r q.operands; opens = q.opens; caught = in_caught r q.caught; hold = in_hold r q.hold }
+
+-- an event is none of the silent ones, and a read is of a word at most
+abbrev pub is_loud : Doing → Bool
+is_loud silent = false
+is_loud (reads address size volatile) = nat_le size 8
+is_loud doing = true
+
+abbrev pub no_answers : Answers
+no_answers e handler = None
+
+-- the variables from a number on, so many
+abbrev pub variables : ℕ → ℕ → List Term
+variables n zero = []
+variables n (suc m) = variable n ∷ variables (suc n) m
+
+-- where a handler has been entered
+abbrev pub catching : Place → Exception → Place
+catching q e = record { operands = q.operands; opens = q.opens; caught = e ∷ q.caught; hold = nothing }
+
+-- the operands cut to a depth
+abbrev pub cut_to : ℕ → Place → Place
+cut_to d q = with_operands q (drop (length q.operands - d) q.operands)
+
+-- the types that an exception can be of
+abbrev pub IsOf : Exception → Typ → Type 0
+IsOf (unknown n) t = Unit {0}
+IsOf (made u puts) t = u ≡ t
+
+-- what is answered is right of an exception of this type
+abbrev pub Answering : Program → Exception → Typ → Answers → Type 0
+Answering p e t answers = (n : ℕ) (handler : Tree) (answer : Bool) → answers n handler ≡ Some answer → (e ≡ unknown n) × (catches p.classes (typ_in handler) t ≡ answer)
+
+-- how many silent steps the source takes in one move, before the instruction or on a way back to a caller, and how far ranks go
+pub record Bounds : Type 0 where
+  pub half : ℕ
+  pub longest : ℕ
+  pub both : half + half ≤ longest
+  pub most : ℕ
+
+module _ (p : Program) (f : Func) (b : Bounds) (notes : List Note) where
+  -- a way on leads to an index, with the terms of the way in the place of the note's variables, after some silent steps of the source,
+  -- with these answers on unknown exceptions
+  pub record Lands (answers : Answers) (index : ℕ) (q : Place) (o : Outcome) : Type 0 where
+    pub note : Note
+    pub is : slice_get notes index ≡ Some note
+    pub lag : ℕ
+    pub terms : Replacing
+    pub same_place : in_place terms note.place ≡ q
+    pub same_outcome : in_outcome terms note.outcome ≡ advanced p f answers lag o
+    pub foreseen : is_stuck (advanced p f answers lag o) ≡ false
+    pub low : note.rank ≤ b.most
+
+  -- the same where the source took so many steps before: one of both goes on, or the rank falls
+  pub record LandsOn (lead rank : ℕ) (index : ℕ) (q : Place) (o : Outcome) : Type 0 where
+    pub lands : Lands no_answers index q o
+    pub short : lead + lands.lag ≤ b.longest
+    pub goes_on : (1 ≤ lead + lands.lag) ⊎ (lands.note.rank + 1 ≤ rank)
+
+  -- ---- exceptions in flight
+
+  -- a row leads to an index
+  pub record Reaches (answers : Answers) (index : ℕ) (q : Place) (o : Outcome) : Type 0 where
+    pub lands : Lands answers index q o
+    pub some : 1 ≤ lands.lag
+    pub short : lands.lag ≤ b.longest
+
+  -- an exception leaves a block, and the code goes on at an index behind this event
+  pub record Edges (answers : Answers) (block : Open) (index : ℕ) (q : Place) (e : Exception) (o : Outcome) : Type 0 where
+    pub lag : ℕ
+    pub temporaries : List Waiting
+    pub others : List Frame
+    pub is : advanced p f answers lag o ≡ goes (leaves_block block (throws e)) temporaries others
+    pub short : lag ≤ b.longest
+    pub lands : Lands no_answers index (opened_later (holding q (flying e)) (rest_of q.opens)) (given p f no_answers (in_waitings later temporaries) (variable 0) (in_frames later others))
+    pub at_once : lands.lag ≡ 0
+
+  -- the exception leaves the function
+  pub record Outward (answers : Answers) (e : Exception) (o : Outcome) : Type 0 where
+    pub lag : ℕ
+    pub temporaries : List Waiting
+    pub is : advanced p f answers lag o ≡ goes_out (throws e) temporaries
+    pub some : 1 ≤ lag
+    pub short : lag + 1 ≤ b.longest
+
+  -- what each sort of row asks
+  abbrev pub RowFits : Answers → (what target : ℕ) → Place → Exception → Outcome → Type 0
+  RowFits answers zero target q e o = Reaches answers target (holding q (flying e)) o
+  RowFits answers (suc zero) target q e o = Reaches answers target (catching q e) o
+  RowFits answers (suc (suc zero)) target q e o = Reaches answers target (catching q e) o
+  RowFits answers (suc (suc (suc zero))) target q e o = Edges answers (Atomic NoExcept) target q e o
+  RowFits answers (suc (suc (suc (suc zero)))) target q e o = Edges answers (Atomic Commit) target q e o
+  RowFits answers (suc (suc (suc (suc (suc zero))))) target q e o = Edges answers (Atomic Cancel) target q e o
+  RowFits answers (suc (suc (suc (suc (suc (suc zero)))))) target q e o = Edges answers Sync target q e o
+  RowFits answers (suc (suc (suc (suc (suc (suc (suc n))))))) target q e o = ⊥
+
+  abbrev pub FoundFits : Answers → Option Row → Place → Exception → Outcome → Type 0
+  FoundFits answers None q e o = Outward answers e o
+  FoundFits answers (Some r) q e o = RowFits answers r.what r.target (cut_to r.depth q) e o
+
+  -- for a type: what is answered on an unknown exception of it, and the row that takes it
+  pub record TypeFits (numbers : Typ → ℕ) (rows : List Row) (index : ℕ) (q : Place) (e : Exception) (o : Outcome) (t : Typ) : Type 0 where
+    pub answers : Answers
+    pub right : Answering p e t answers
+    pub found : FoundFits answers (find rows index (numbers t)) q e o
+
+  -- an exception in flight at an index, of each type that it can be of
+  abbrev pub FlightFits : (numbers : Typ → ℕ) → List Row → ℕ → Place → Exception → Outcome → Type 0
+  FlightFits numbers rows index q e o = (t : Typ) → IsOf e t → TypeFits numbers rows index q e o t
+
+  module _ (numbers : Typ → ℕ) (rows : List Row) where
+    abbrev pub Fits : (lead rank : ℕ) → Next → Type 0
+    Fits lead rank refused = ⊥
+    Fits lead rank (quietly index q o) = LandsOn lead rank index q o
+    Fits lead rank (either_way w first other) = Fits lead rank first × Fits lead rank other
+    Fits lead rank (unless_trap op kind x y next) = Fits lead rank next
+    Fits lead rank (loudly doing ws k index q) = (is_loud doing ≡ true) × (l : Lands no_answers index q (given p f no_answers (in_waitings later ws) (variable 0) (in_frames later k))) × (l.lag ≡ 0)
+    Fits lead rank (throwing e index q o) = ((1 ≤ lead) ⊎ (1 ≤ rank)) × FlightFits numbers rows index q e o
+    Fits lead rank (ends end) = Unit {0}

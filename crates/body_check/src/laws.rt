@@ -1,0 +1,52 @@
+//! What notes that fit show, and worked bodies. A function here does nothing: its clauses are the laws.
+
+ghost use Rattle.std.specs.Prelude.{◌≡◌, ℕ, ◌+◌, List, [], ◌∷◌, Option, Some, None};
+ghost use Rattle.tx_code.specs.declared.instr.Instr.TheVariants.{Push, Swap, FrameAddr, Load, Store, Bin, Ret};
+ghost use Rattle.tx_ints.specs.declared.kinds.IntKind.TheVariants.{Int};
+ghost use Rattle.tx_ints.specs.declared.kinds.BinOp.TheVariants.{Add};
+ghost use Rattle.src_mean.specs.Linked.{Program};
+ghost use Rattle.symbolic_source.specs.Terms.{number, variable, converted_to, result as value_of};
+ghost use Rattle.symbolic_source.specs.Frames.{returns};
+ghost use Rattle.symbolic_source.specs.Outcomes.{goes_out};
+ghost use Rattle.tx_code.specs.Meaning.{Names, thread, starts};
+ghost use Rattle.tx_events.specs.Same.{SameEvents, StepsWithin};
+ghost use Rattle.src_mean.specs.Source.{source, main_state};
+ghost use Rattle.symbolic_source.specs.Small.{IsSmall};
+ghost use Rattle.body_check.specs.Notes.{Bounds};
+ghost use Rattle.body_check.specs.Calls.{Book, Links, Begins};
+ghost use Rattle.body_check.specs.Main.{main_program, main_names};
+ghost use Rattle.body_check.specs.Pair.{pair_program, pair_names};
+ghost use Rattle.body_check.specs.Worked.{sum_func, sum_code, sum_run, outcome_at, operands_at};
+
+/// Where the notes of each body fit, the code has the events of its source from `main` on, calls and returns included,
+/// within a bound on its steps. Exceptions, calls by an address and threads that are started have no notes yet.
+pub fn checked_programs_keep_their_events()
+    ensures same { (p : Program) (names : Names) (b : Bounds) (book : Book) → Links p names b book → IsSmall p → Begins p names book →
+        SameEvents (source p) (thread names) (main_state p) (starts names 0 p.main []) }
+    ensures within { (p : Program) (names : Names) (b : Bounds) (book : Book) → Links p names b book → IsSmall p → Begins p names book →
+        StepsWithin (source p) (thread names) (b.most + 1) b.most (main_state p) (starts names 0 p.main []) }
+{}
+
+/// `int main() { return 0; }` is such a program: its notes fit.
+pub fn worked_main()
+    ensures { SameEvents (source main_program) (thread main_names) (main_state main_program) (starts main_names 0 0 []) }
+{}
+
+/// So is `int one() { return 1; } int main() { return one(); }`, with a call and its return.
+pub fn worked_call()
+    ensures { SameEvents (source pair_program) (thread pair_names) (main_state pair_program) (starts pair_names 0 0 []) }
+{}
+
+/// `int f(int a) { return a + 1; }`: the source goes along with the code up to its last instruction, where the word on
+/// top is what the function returns. Code with another operator, number, address or kind is refused, whatever the
+/// program is.
+pub fn worked_sum()
+    ensures goes_along { (p : Program) → operands_at (sum_run p sum_code) ≡ value_of Add Int (converted_to Int (variable 0)) (number 1) ∷ [] }
+    ensures returned { (p : Program) → outcome_at p sum_func 1 (sum_run p sum_code) ≡ Some (goes_out (returns (value_of Add Int (converted_to Int (variable 0)) (number 1))) []) }
+    ensures other_operator { (p : Program) → sum_run p (FrameAddr 0 ∷ Swap ∷ Store 6 ∷ FrameAddr 0 ∷ Load 6 ∷ Push 1 ∷ Bin 1 6 ∷ Ret 1 ∷ []) ≡ None }
+    ensures other_number { (p : Program) → sum_run p (FrameAddr 0 ∷ Swap ∷ Store 6 ∷ FrameAddr 0 ∷ Load 6 ∷ Push 2 ∷ Bin 0 6 ∷ Ret 1 ∷ []) ≡ None }
+    ensures other_address { (p : Program) → sum_run p (FrameAddr 0 ∷ Swap ∷ Store 6 ∷ FrameAddr 8 ∷ Load 6 ∷ Push 1 ∷ Bin 0 6 ∷ Ret 1 ∷ []) ≡ None }
+    ensures other_kind { (p : Program) → sum_run p (FrameAddr 0 ∷ Swap ∷ Store 6 ∷ FrameAddr 0 ∷ Load 7 ∷ Push 1 ∷ Bin 0 6 ∷ Ret 1 ∷ []) ≡ None }
+    ensures other_order { (p : Program) → sum_run p (FrameAddr 0 ∷ Swap ∷ Store 6 ∷ Push 1 ∷ FrameAddr 0 ∷ Load 6 ∷ Bin 0 6 ∷ Ret 1 ∷ []) ≡ None }
+    ensures not_stored { (p : Program) → sum_run p (FrameAddr 0 ∷ Store 6 ∷ FrameAddr 0 ∷ Load 6 ∷ Push 1 ∷ Bin 0 6 ∷ Ret 1 ∷ []) ≡ None }
+{}

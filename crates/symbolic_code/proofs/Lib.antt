@@ -1,0 +1,5 @@
+pub mod SameTerms
+pub mod Arithmetic
+pub mod Bytes
+pub mod Later
+pub mod Followed
