@@ -1,13 +1,14 @@
 -- A frame of a checked body, with what the source has left to do in it.
 use Rattle.std.specs.Prelude.{ℕ, ◌≡◌, ◌≤◌, List, ◌∷◌, Option, Some, slice_get}
 use Rattle.tx_events.specs.declared.End.{End}
-use Rattle.tx_events.specs.declared.Event.TheVariants.{Stop}
+use Rattle.tx_events.specs.declared.Event.TheVariants.{Stop, Done}
+use Rattle.tx_code.specs.declared.body.Row.{Row}
 use Rattle.tx_code.specs.Objects.{BodyView}
 use Rattle.tx_code.specs.Meaning.{Names, Home, Frame, Ends, step_act}
 use Rattle.tx_code.specs.Meaning as code
 use Rattle.cpp_tree.specs.cpp_types.Typ.{Typ}
 use Rattle.src_mean.specs.Linked.{Func, Program}
-use Rattle.src_mean.specs.Frames.{State, Halted, at}
+use Rattle.src_mean.specs.Frames.{State, Halted, Ended, at}
 use Rattle.src_mean.specs.Frames as frames
 use Rattle.symbolic_source.specs.Terms.{Values}
 use Rattle.symbolic_source.specs.Outcomes.{Shows}
@@ -16,11 +17,12 @@ use Rattle.symbolic_code.specs.Places.{frame_at}
 use Rattle.symbolic_code.specs.Following.{Table, AreNames}
 use Rattle.body_check.specs.Notes.{Note}
 
--- a body that is held against a function of the source: the function's number and frame, which of its bodies it is, the notes and the table
+-- a body that is held against a function of the source: the function's number and frame, its rows with the numbers of types, the notes and the table
 pub record Held : Type 0 where
   pub number : ℕ
   pub func : Func
   pub body : BodyView
+  pub rows : List Row
   pub notes : List Note
   pub table : Table
 
@@ -47,3 +49,10 @@ pub record Stopped (x : Names) (s : State) (c : code.State) : Type 0 where
   pub others : List frames.Frame
   pub first : s ≡ at (Stop end) here (Halted end ∷ others)
   pub second : step_act x c ≡ Ends (Stop end)
+
+-- both have ended, as a thread other than main's does
+pub record Finished (x : Names) (s : State) (c : code.State) : Type 0 where
+  pub here : frames.Here
+  pub others : List frames.Frame
+  pub first : s ≡ at Done here (Ended ∷ others)
+  pub second : step_act x c ≡ Ends Done
