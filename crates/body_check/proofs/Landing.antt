@@ -7,13 +7,13 @@ use Rattle.tx_ints.proofs.WordLaws.{word_below}
 use Rattle.tx_ints.specs.declared.kinds.ArithTrap.{ArithTrap}
 use Rattle.tx_events.specs.declared.End.{End}
 use Rattle.tx_events.specs.declared.Event.{Event}
-use Rattle.tx_events.specs.declared.Event.TheVariants.{Silent, Stop}
+use Rattle.tx_events.specs.declared.Event.TheVariants.{Silent, Stop, Done}
 use Rattle.tx_events.specs.declared.Reply.{Reply}
 use Rattle.tx_events.specs.declared.Reply.TheVariants.{Nothing, Loaded, Byte, Id}
 use Rattle.tx_events.specs.Thread.{Thread, Open, Atomic, Sync, Answers, is_silent}
 use Rattle.tx_events.specs.Simulation.{Path, here, step}
 use Rattle.lockstep.specs.Moves.{Ranked, Meeting, Striding, Waiting, Move, meets, strides, waits, leads}
-use Rattle.tx_code.specs.Meaning.{Names, Home, Frame, Runs, Act, Does, Ends, Free, Building, Flying, step_act, event_of, state_after, thread}
+use Rattle.tx_code.specs.Meaning.{Names, Home, Frame, Runs, Unwinds, Act, Does, Ends, Free, Building, Flying, step_act, event_of, state_after, thread}
 use Rattle.tx_code.specs.Meaning as code
 use Rattle.cpp_tree.specs.cpp_types.Typ.{Typ}
 use Rattle.src_mean.specs.Linked.{Func, Program}
@@ -21,20 +21,20 @@ use Rattle.src_mean.specs.Exceptions as exceptions
 use Rattle.src_mean.specs.Frames.{State}
 use Rattle.src_mean.specs.Frames as frames
 use Rattle.src_mean.specs.Source.{source, give, applied, reply_word}
-use Rattle.symbolic_source.specs.Terms.{Term, variable, Exception, made, Values, eval}
+use Rattle.symbolic_source.specs.Terms.{Term, variable, Exception, made, Values, eval, exception_of}
 use Rattle.symbolic_source.specs.Frames.{Waiting as Waits, Frame as Form, words_of, throws, returns, breaks, continues}
 use Rattle.symbolic_source.specs.Outcomes.{Doing, silent, reads, writes, puts_out, takes_in, joins, begins_atomic, begins_sync, ends_block, leaves_block, Outcome, goes, Shows}
 use Rattle.symbolic_source.specs.Outcomes as outcomes
-use Rattle.symbolic_source.specs.Steps.{given, advanced}
-use Rattle.symbolic_source.specs.Small.{IsSmall, AreWords, Advanced}
+use Rattle.symbolic_source.specs.Steps.{Answers as Caught, given, advanced}
+use Rattle.symbolic_source.specs.Small.{IsSmall, AreWords, AreRight, Advanced}
 use Rattle.symbolic_source.specs.Replacing.{Replacing, seen_by, in_terms, in_outcome, in_doing, in_waitings, in_frames}
 use Rattle.symbolic_source.proofs.TermLemmas.{term_below}
 use Rattle.symbolic_source.proofs.Advance.{advance, replied as value_after}
 use Rattle.symbolic_source.proofs.Replaced.{terms_replaced, exception_replaced, outcome_replaced, outcome_placed}
 use Rattle.symbolic_code.specs.Places.{Place, Hold, nothing, making, flying, coded, all_coded, hold_of, frame_at, replied, later}
-use Rattle.symbolic_code.specs.Following.{Next, refused, quietly, either_way, unless_trap, loudly, ends, Follows, Loud}
-use Rattle.body_check.specs.Notes.{Note, Bounds, in_caught, in_hold, in_place, is_loud, no_answers, Lands, LandsOn, Fits}
-use Rattle.body_check.specs.Linked.{Held, Based, Stands, Stopped}
+use Rattle.symbolic_code.specs.Following.{Next, refused, quietly, either_way, unless_trap, loudly, throwing, ends, Follows, Loud}
+use Rattle.body_check.specs.Notes.{Note, Bounds, in_caught, in_hold, in_place, is_loud, no_answers, Lands, LandsOn, FlightFits, Fits}
+use Rattle.body_check.specs.Linked.{Held, Based, Stands, Stopped, Finished}
 
 -- paths one behind the other
 pub joined : {S : Type 0} (a : Thread S) {m n : ℕ} {s t u : S} → Path a m s t → Path a n t u → Path a (m + n) s u
@@ -77,6 +77,10 @@ module _ (p : Program) (f : Func) (numbers : Typ → ℕ) (r : Replacing) (x : V
   frame_replaced home index q =
       ap₂ (λ (u : List code.Exception) (v : code.Held). record { home = home; nest = record { opens = q.opens; caught = u; held = v }; index = index; words = words_of p f x (in_terms r q.operands) }) (caught_replaced q.caught) (held_replaced q.hold)
       ∙ ap (λ (z : List ℕ). record { home = home; nest = record { opens = q.opens; caught = all_coded p f numbers (seen_by p f r x) q.caught; held = hold_of p f numbers (seen_by p f r x) q.hold }; index = index; words = z }) (terms_replaced p f r x q.operands)
+
+-- nothing is answered
+pub none_right : (p : Program) (x : Values) → AreRight p x no_answers
+none_right p x n handler answer e = absurd cc
 
 loud_event : (p : Program) (f : Func) (x : Values) (doing : Doing) → is_loud doing ≡ true → is_silent (outcomes.event_of p f x doing) ≡ false
 loud_event p f x silent h = absurd (true≢false (sym h))
@@ -145,10 +149,30 @@ module _ (p : Program) (names : Names) (b : Bounds) (Related : ℕ → State →
     on = λ reply fits. record { rank = 0; low = omega arith; related = stops ((source p).after t reply) ((thread names).after c reply) (stopped_after end t c reply g e) };
   }
 
+-- a thread other than main's has ended
+pub ended_meets : (p : Program) (names : Names) (b : Bounds) (Related : ℕ → State → code.State → Type 0) (both : (s : State) (c : code.State) → Finished names s c → Related 0 s c) (s : State) (c : code.State) → Finished names s c
+    → Meeting (source p) (thread names) b.most Related s c
+ended_meets p names b Related both s c z = record {
+  loud = ap (λ (y : State). is_silent y.event) z.first;
+  same = ap event_of z.second ∙ sym (ap (λ (y : State). y.event) z.first);
+  on = λ reply fits. record {
+    rank = 0;
+    low = omega arith;
+    related = both ((source p).after s reply) ((thread names).after c reply) (record {
+      here = z.here;
+      others = z.others;
+      first = ap (λ (y : State). (source p).after y reply) z.first;
+      second = subst (λ y. step_act names y ≡ Ends Done) (ap (λ y. state_after c y reply) (sym z.second)) z.second;
+    });
+  };
+}
+
 module _ (p : Program) (names : Names) (numbers : Typ → ℕ) (h : Held) (b : Bounds) (home : Home) (limit : ℕ) (rest : List frames.Frame) (below_frames : List Frame) (small : IsSmall p)
     (Related : ℕ → State → code.State → Type 0)
     (stands : (rank : ℕ) (s : State) (top : Frame) → Stands p numbers h home limit rest rank s top → Related rank s (Runs top below_frames))
-    (stops : (s : State) (c : code.State) → Stopped names s c → Related 0 s c) where
+    (stops : (s : State) (c : code.State) → Stopped names s c → Related 0 s c)
+    (flies : (s : State) (x : Values) → AreWords x → Based home limit x → (index : ℕ) (q : Place) (e : Exception) (o : Outcome) → FlightFits p h.func b h.notes numbers h.rows index q e o → Shows p h.func x rest o s
+        → Related 0 s (Unwinds (coded numbers (exception_of p h.func x e)) (frame_at p h.func numbers x home index q) below_frames)) where
   abbrev Moves : ℕ → State → code.State → Type 0
   Moves rank s c = Move (source p) (thread names) b.most b.longest Related rank s c
 
@@ -158,9 +182,9 @@ module _ (p : Program) (names : Names) (numbers : Typ → ℕ) (h : Held) (b : B
     pub path : Path (source p) lag s to
     pub related : Related rank to (Runs top below_frames)
 
-  pub landed : (x : Values) (bounded : AreWords x) (based : Based home limit x) (index : ℕ) (q : Place) (o : Outcome) (s : State) (l : Lands p h.func b h.notes index q o) → Shows p h.func x rest o s → Landed l.lag l.note.rank s (frame_at p h.func numbers x home index q)
-  landed x bounded based index q o s l g =
-      let a = advance p h.func x no_answers rest small bounded (λ n handler answer e. absurd (cc)) l.lag o s g l.foreseen in
+  pub landed : (x : Values) (bounded : AreWords x) (based : Based home limit x) (answers : Caught) (right : AreRight p x answers) (index : ℕ) (q : Place) (o : Outcome) (s : State) (l : Lands p h.func b h.notes answers index q o) → Shows p h.func x rest o s → Landed l.lag l.note.rank s (frame_at p h.func numbers x home index q)
+  landed x bounded based answers right index q o s l g =
+      let a = advance p h.func x answers rest small bounded right l.lag o s g l.foreseen in
       record {
         to = a.to;
         path = subst (λ z. Path (source p) z s a.to) a.long a.path;
@@ -184,7 +208,7 @@ module _ (p : Program) (names : Names) (numbers : Typ → ℕ) (h : Held) (b : B
   silent_after c d e = ap (λ z. state_after c z Nothing) (sym e)
 
   -- a silent step of the code, behind and before silent steps of the source
-  strode : (lead lag rank after : ℕ) (s t u : State) (c d : code.State) → Path (source p) lead s t → Path (source p) lag t u → step_act names c ≡ code.goes d → lead + lag ≤ b.longest → after ≤ b.most
+  pub strode : (lead lag rank after : ℕ) (s t u : State) (c d : code.State) → Path (source p) lead s t → Path (source p) lag t u → step_act names c ≡ code.goes d → lead + lag ≤ b.longest → after ≤ b.most
       → Related after u d → (1 ≤ lead + lag) ⊎ (after + 1 ≤ rank) → Moves rank s c
   strode lead lag rank after s t u c d v w e short low related g = by_steps (lead + lag) refl
     where
@@ -222,18 +246,18 @@ module _ (p : Program) (names : Names) (numbers : Typ → ℕ) (h : Held) (b : B
       value_after p h.func (replied x reply) no_answers rest small bounded (λ n handler answer e. absurd (cc)) (in_doing later doing) (in_waitings later ws) (in_frames later k) t reply (variable 0)
       (outcome_placed p h.func later (replied x reply) rest (goes doing ws k) t g) refl
 
-  replies : (x : Values) (based : Based home limit x) (index : ℕ) (q : Place) (o : Outcome) (t : State) (d : code.State) (l : Lands p h.func b h.notes index q o) → AreWords x → l.lag ≡ 0 → Shows p h.func x rest o t
+  replies : (x : Values) (based : Based home limit x) (index : ℕ) (q : Place) (o : Outcome) (t : State) (d : code.State) (l : Lands p h.func b h.notes no_answers index q o) → AreWords x → l.lag ≡ 0 → Shows p h.func x rest o t
       → d ≡ Runs (frame_at p h.func numbers x home index q) below_frames → Ranked b.most Related t d
   replies x based index q o t d l bounded e g i =
-      let r = landed x bounded based index q o t l g in
+      let r = landed x bounded based no_answers (none_right p x) index q o t l g in
       record {
         rank = l.note.rank;
         low = l.low;
         related = subst (λ z. Related l.note.rank t z) (sym i) (subst (λ z. Related l.note.rank z (Runs (frame_at p h.func numbers x home index q) below_frames)) (sym (still (source p) r.path e)) r.related);
       }
 
-  event_meets : (x : Values) (based : Based home limit x) (t : State) (c : code.State) (doing : Doing) (ws : List Waits) (k : List Form) (index : ℕ) (q : Place) → AreWords x → is_loud doing ≡ true
-      → (l : Lands p h.func b h.notes index q (given p h.func no_answers (in_waitings later ws) (variable 0) (in_frames later k))) → l.lag ≡ 0
+  pub event_meets : (x : Values) (based : Based home limit x) (t : State) (c : code.State) (doing : Doing) (ws : List Waits) (k : List Form) (index : ℕ) (q : Place) → AreWords x → is_loud doing ≡ true
+      → (l : Lands p h.func b h.notes no_answers index q (given p h.func no_answers (in_waitings later ws) (variable 0) (in_frames later k))) → l.lag ≡ 0
       → Loud p h.func numbers x home rest below_frames doing index q (step_act names c) → Shows p h.func x rest (goes doing ws k) t → Meeting (source p) (thread names) b.most Related t c
   event_meets x based t c doing ws k index q bounded loud l e a g = record {
     loud = ap (λ (z : State). is_silent z.event) g ∙ loud_event p h.func x doing loud;
@@ -246,14 +270,23 @@ module _ (p : Program) (names : Names) (numbers : Typ → ℕ) (h : Held) (b : B
   }
 
   pub follow_move : (lead rank : ℕ) (x : Values) (bounded : AreWords x) (based : Based home limit x) (s t : State) (c : code.State) → Path (source p) lead s t → lead ≤ b.longest
-      → (next : Next) → Fits p h.func b h.notes lead rank next → Follows p h.func numbers x home rest below_frames next (step_act names c) t → Moves rank s c
+      → (next : Next) → Fits p h.func b h.notes numbers h.rows lead rank next → Follows p h.func numbers x home rest below_frames next (step_act names c) t → Moves rank s c
   follow_move lead rank x bounded based s t c v short refused fits g = absurd fits
   follow_move lead rank x bounded based s t c v short (quietly index q o) fits g =
-      let l = landed x bounded based index q o t fits.lands g.1 in
+      let l = landed x bounded based no_answers (none_right p x) index q o t fits.lands g.1 in
       strode lead fits.lands.lag rank fits.lands.note.rank s t l.to c (Runs (frame_at p h.func numbers x home index q) below_frames) v l.path g.0 fits.short fits.lands.low l.related fits.goes_on
   follow_move lead rank x bounded based s t c v short (either_way w first other) fits g = either_zero (eval p h.func x w)
       (λ e. follow_move lead rank x bounded based s t c v short first fits.0 (g.0 e)) (λ e. follow_move lead rank x bounded based s t c v short other fits.1 (g.1 e))
   follow_move lead rank x bounded based s t c v short (unless_trap op kind y z next) fits g = either_result (applied op kind (eval p h.func x y) (eval p h.func x z))
       (λ n e. follow_move lead rank x bounded based s t c v short next fits (g.0 n e)) (λ trap e. let w = g.1 trap e in leads short v (stop_meets p names b Related stops _ t c w.1 w.0))
   follow_move lead rank x bounded based s t c v short (loudly doing ws k index q) fits g = leads short v (event_meets x based t c doing ws k index q bounded fits.0 fits.1 fits.2 g.0 g.1)
+  follow_move lead rank x bounded based s t c v short (throwing e index q o) fits g =
+      strode lead 0 rank 0 s t t c (Unwinds (coded numbers (exception_of p h.func x e)) (frame_at p h.func numbers x home index q) below_frames) v here g.0 (few lead short) (omega arith) (flies t x bounded based index q e o fits.1 g.1) (moves_on fits.0)
+    where
+      few : (lead : ℕ) → lead ≤ b.longest → lead + 0 ≤ b.longest
+      few lead h = omega (arith, h)
+
+      moves_on : (1 ≤ lead) ⊎ (1 ≤ rank) → (1 ≤ lead + 0) ⊎ (0 + 1 ≤ rank)
+      moves_on (inl h) = inl (omega (arith, h))
+      moves_on (inr h) = inr (omega (arith, h))
   follow_move lead rank x bounded based s t c v short (ends end) fits g = leads short v (stop_meets p names b Related stops end t c g.1 g.0)

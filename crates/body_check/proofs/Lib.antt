@@ -1,4 +1,5 @@
 pub mod Landing
+pub mod Flight
 pub mod AtNote
 pub mod Calls
 pub mod Threads

@@ -1,6 +1,10 @@
 -- The notes of the worked program fit.
-use Rattle.std.proofs.Common.{ℕ, zero, suc, ◌≡◌, ◌+◌, ◌≤◌, inl, Bool, true, false, refl, ap, sym, ◌∙◌, subst, List, [], ◌∷◌, Option, Some, None, arith}
-use Rattle.std.specs.Prelude.{slice_get}
+use Rattle.std.proofs.Common.{ℕ, zero, suc, ◌≡◌, ◌+◌, ◌≤◌, ◌==◌, cond, inl, Bool, true, false, refl, ap, sym, ◌∙◌, subst, List, [], ◌∷◌, Option, Some, None, arith}
+use Rattle.std.specs.Prelude.{slice_get, map}
+use Rattle.tx_code.specs.Objects.{BodyView}
+use Rattle.tx_code.specs.Renaming.{itself, renamed_row}
+use Rattle.cpp_tree.specs.cpp_types.Typ.{Typ}
+use Rattle.src_mean.specs.Exceptions.{cancels}
 use Rattle.tx_code.specs.declared.instr.Instr.TheVariants.{Push, Ret}
 use Rattle.symbolic_source.specs.Terms.{number, variable, unknown}
 use Rattle.symbolic_source.specs.Small.{IsSmall}
@@ -8,7 +12,7 @@ use Rattle.symbolic_source.specs.Replacing.{Replacing}
 use Rattle.body_check.specs.Notes.{Note, Bounds}
 use Rattle.body_check.specs.Linked.{Held}
 use Rattle.body_check.specs.Calls.{Book, by_return, NoteFits, Entry, Checked, Links, Begins}
-use Rattle.body_check.specs.Main.{main_program, main_names, main_body, first_note, second_note, main_book}
+use Rattle.body_check.specs.Main.{main_program, main_names, main_body, first_note, second_note, number_of_type, main_book}
 
 pub bounds : Bounds
 bounds = record { half = 8; longest = 16; both = omega arith; most = 1 }
@@ -49,14 +53,30 @@ main_checked n safe = record {
   notes = λ index note e. all_fit n safe index note e;
 }
 
+rows_there : (body : BodyView) → ◌≡◌ {A = Option BodyView} (Some main_body) (Some body) → map (renamed_row itself) body.rows ≡ []
+rows_there body e = ap (λ (z : BodyView). map (renamed_row itself) z.rows) (sym same_body)
+  where
+    same_body : main_body ≡ body
+    same_body = cc
+
+pub cancels_same : (t : Typ) → (number_of_type t == 1) ≡ cancels t
+cancels_same t = by_test (cancels t)
+  where
+    by_test : (b : Bool) → (cond b 1 0 == 1) ≡ b
+    by_test true = refl
+    by_test false = refl
+
 pub main_links : Links main_program main_names bounds main_book
 main_links = record {
   bodies = λ n safe body e. cc;
   funcs = λ n safe body e. refl;
   numbers = λ n safe. refl;
   frames = λ n safe. refl;
+  rows = λ n safe body e. rows_there body e;
+  stops = λ n safe. refl;
+  cancels = λ t. cancels_same t;
   checked = λ n safe body e. main_checked n safe;
-  names = λ n safe. record { globals = λ s m e. absurd cc; functions = λ s m e. absurd cc; classes = λ s m e. absurd cc };
+  names = λ n safe. record { globals = λ s m e. absurd cc; functions = λ s m e. absurd cc; classes = λ s m e. absurd cc; types = λ s t e. absurd cc };
   called = λ n safe name callee e. absurd cc;
   plain_there = λ n safe index name count callee i e. absurd cc;
   safe_there = λ n safe index name count callee i e. absurd cc;
@@ -65,5 +85,5 @@ main_links = record {
 pub main_small : IsSmall main_program
 main_small = record { globals = λ u n. omega arith; functions = λ u n. omega arith; tables = λ c. omega arith }
 
-pub main_begins : Begins main_program main_names main_book
+pub main_begins : Begins main_program main_names main_book 0 0 []
 main_begins = record { body = main_body; there = refl; gives = refl; takes = refl; starts = refl; ends = refl; room = refl }

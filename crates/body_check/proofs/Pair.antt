@@ -1,13 +1,15 @@
 -- The notes of the worked program with a call fit.
 use Rattle.std.proofs.Common.{ℕ, zero, suc, ◌≡◌, ◌+◌, ◌*◌, ◌^◌, ◌<◌, ◌≤◌, inl, Bool, true, false, refl, ap, sym, ◌∙◌, subst, List, [], ◌∷◌, Option, Some, None, arith}
-use Rattle.std.specs.Prelude.{slice_get}
+use Rattle.std.specs.Prelude.{slice_get, map}
+use Rattle.tx_code.specs.Renaming.{itself, renamed_row}
 use Rattle.tx_code.specs.declared.instr.Instr.TheVariants.{Push, Call, Ret}
 use Rattle.tx_code.specs.Objects.{BodyView}
 use Rattle.cpp_tree.specs.cpp_layout.Layout.{function_address}
 use Rattle.symbolic_source.specs.Terms.{number, variable, unknown}
 use Rattle.symbolic_source.specs.Small.{IsSmall}
 use Rattle.symbolic_source.specs.Replacing.{Replacing}
-use Rattle.body_check.specs.Notes.{Note, Bounds}
+use Rattle.body_check.specs.Notes.{Note, Bounds, no_answers}
+use Rattle.body_check.proofs.Main.{cancels_same}
 use Rattle.body_check.specs.Linked.{Held}
 use Rattle.body_check.specs.Calls.{Book, by_return, NoteFits, Entry, Checked, Links, Begins}
 use Rattle.body_check.specs.Pair.{number_of, named, func_of, body_of, calling_body, pair_program, pair_names, behind_call, call_note, back_note, push_note, ret_note, pair_book}
@@ -45,6 +47,11 @@ call_fits safe = record {
       lands = record { note = back_note; is = refl; lag = 1; terms = same; same_place = refl; same_outcome = refl; foreseen = refl; low = omega arith };
       some = omega arith;
       short = omega arith;
+    };
+    thrown = λ t is. record {
+      answers = no_answers;
+      right = λ n handler answer e. absurd cc;
+      found = record { lag = 3; temporaries = []; is = refl; some = omega arith; short = omega arith };
     };
   };
 }
@@ -111,8 +118,11 @@ pair_links = record {
   funcs = λ n safe body e. refl;
   numbers = λ n safe. refl;
   frames = λ n safe. size_of n;
+  rows = λ n safe body e. ap (λ (z : BodyView). map (renamed_row itself) z.rows) (sym (body_there n body e)) ∙ no_rows n;
+  stops = λ n safe. no_stops n;
+  cancels = λ t. cancels_same t;
   checked = λ n safe body e. pair_checked n safe;
-  names = λ n safe. record { globals = λ s m e. absurd cc; functions = λ s m e. ap function_address (called_right s m e); classes = λ s m e. absurd cc };
+  names = λ n safe. record { globals = λ s m e. absurd cc; functions = λ s m e. ap function_address (called_right s m e); classes = λ s m e. absurd cc; types = λ s t e. absurd cc };
   called = λ n safe name callee e. called_right name callee e;
   plain_there = λ n safe index name count callee i e. (body_of (number_of callee), refl);
   safe_there = λ n safe index name count callee i e. (body_of (number_of callee), refl);
@@ -122,8 +132,16 @@ pair_links = record {
     size_of zero = refl
     size_of (suc n) = refl
 
+    no_rows : (n : ℕ) → map (renamed_row itself) (body_of n).rows ≡ []
+    no_rows zero = refl
+    no_rows (suc n) = refl
+
+    no_stops : (n : ℕ) → false ≡ (func_of n).stops
+    no_stops zero = refl
+    no_stops (suc n) = refl
+
 pub pair_small : IsSmall pair_program
 pair_small = record { globals = λ u n. omega arith; functions = λ u n. small_function n; tables = λ c. omega arith }
 
-pub pair_begins : Begins pair_program pair_names pair_book
+pub pair_begins : Begins pair_program pair_names pair_book 0 0 []
 pair_begins = record { body = calling_body; there = refl; gives = refl; takes = refl; starts = refl; ends = refl; room = refl }

@@ -1,27 +1,28 @@
 -- Checked bodies keep their events, calls and returns included.
-use Rattle.std.proofs.Common.{ℕ, zero, suc, ℤ, ◌≡◌, ◌+◌, ◌^◌, ◌<◌, ◌≤◌, inl, inr, nat_lt, Bool, true, false, cond, if◌then◌else◌, refl, ap, ap₂, sym, ◌∙◌, subst, List, [], ◌∷◌, ◌++◌, Option, Some, None, arith}
+use Rattle.std.proofs.Common.{ℕ, zero, suc, ℤ, ◌≡◌, ◌+◌, ◌^◌, ◌<◌, ◌≤◌, inl, inr, nat_lt, ◌==◌, Bool, true, false, cond, if◌then◌else◌, refl, ap, ap₂, sym, ◌∙◌, subst, List, [], ◌∷◌, ◌++◌, Option, Some, None, arith}
 use Rattle.std.specs.Prelude.{slice_get, nat_le}
 use Rattle.tx_ints.specs.declared.kinds.IntKind.TheVariants.{Int}
 use Rattle.tx_ints.specs.Words.{value_of_word}
 use Rattle.tx_events.specs.declared.End.{End}
-use Rattle.tx_events.specs.declared.End.TheVariants.{Trapped, Exit as Exits}
-use Rattle.tx_events.specs.declared.Event.TheVariants.{Silent, Stop}
+use Rattle.tx_events.specs.declared.End.TheVariants.{Terminate, Trapped, Exit as Exits}
+use Rattle.tx_events.specs.declared.Event.TheVariants.{Silent, Stop, Done}
 use Rattle.tx_events.specs.declared.Reply.TheVariants.{Nothing, Loaded}
 use Rattle.tx_events.specs.declared.Trap.TheVariants.{StackOverflow}
 use Rattle.tx_events.specs.Simulation.{Path, here, step}
 use Rattle.lockstep.specs.Moves.{Ranked, Move, strides, leads}
 use Rattle.tx_code.specs.declared.instr.Instr.{Instr}
 use Rattle.tx_code.specs.Objects.{BodyView}
-use Rattle.tx_code.specs.Meaning.{Names, Home, Frame, Runs, Act, Ends, Lost, if_some, step_act, thread}
+use Rattle.tx_code.specs.Meaning.{Names, Home, Frame, Runs, Unwinds, Act, Ends, Lost, if_some, step_act, thread}
 use Rattle.tx_code.specs.Meaning as code
 use Rattle.cpp_tree.specs.cpp_types.Typ.{Typ}
 use Rattle.src_mean.specs.Linked.{Func, Program}
 use Rattle.src_mean.specs.Frames.{State}
 use Rattle.src_mean.specs.Frames as frames
-use Rattle.src_mean.specs.Source.{source as thread_of, enter, halt, empty_stack}
+use Rattle.src_mean.specs.Exceptions as exceptions
+use Rattle.src_mean.specs.Source.{source as thread_of, enter, halt, leave, empty_stack}
 use Rattle.src_mean.specs.Source as source
-use Rattle.symbolic_source.specs.Terms.{Term, number, variable, Values, eval}
-use Rattle.symbolic_source.specs.Frames.{Waiting as Kept, Frame as Form, value, known, Passes, Then, Gives, words_of, below, here_of}
+use Rattle.symbolic_source.specs.Terms.{Term, Exception, number, variable, unknown, Values, eval, exception_of}
+use Rattle.symbolic_source.specs.Frames.{Waiting as Kept, Frame as Form, value, throws, known, Passes, Then, Gives, Leaves, words_of, below, here_of}
 use Rattle.symbolic_source.specs.Outcomes.{silent, Outcome, goes, calls, Shows, Stops}
 use Rattle.symbolic_source.specs.Steps.{advanced}
 use Rattle.symbolic_source.specs.Small.{IsSmall, AreWords, Advanced, is_stuck}
@@ -29,18 +30,21 @@ use Rattle.symbolic_source.specs.Replacing.{in_terms, in_waitings, in_frames}
 use Rattle.symbolic_source.proofs.TermLemmas.{term_below}
 use Rattle.symbolic_source.proofs.Advance.{advance}
 use Rattle.symbolic_source.proofs.Replaced.{here_replaced, frames_replaced}
-use Rattle.symbolic_code.specs.Places.{Place, frame_at, replied, later, with_operands, place_later}
+use Rattle.symbolic_code.specs.Places.{Place, coded, frame_at, replied, later, with_operands, place_later}
 use Rattle.symbolic_code.proofs.Later.{words_later, frame_later}
-use Rattle.body_check.specs.Notes.{Note, Bounds, no_answers, variables}
-use Rattle.body_check.specs.Linked.{Held, Based, Stands, Stopped}
-use Rattle.body_check.specs.Calls.{Book, taken_off, bare, Hands, by_end, by_return, Back, BackWith, Calling, Entry, Checked, Links}
-use Rattle.body_check.specs.Threads.{home_of, limit, Waits, waiting_frame, waiting_frames, Callers, nobody, waits_for, RunsIn, Together, running, stopped}
-use Rattle.body_check.proofs.Landing.{joined, landed, Landed, stop_meets}
+use Rattle.body_check.specs.Notes.{Note, Bounds, FlightFits, in_place, no_answers, variables}
+use Rattle.body_check.specs.Linked.{Held, Based, Stands, Stopped, Finished}
+use Rattle.body_check.specs.Calls.{Book, taken_off, bare, Hands, by_end, by_return, rising, Back, BackWith, ThrownWith, Calling, Entry, Checked, Links}
+use Rattle.body_check.specs.Threads.{home_of, limit, Waits, waiting_frame, waiting_frames, Callers, nobody, waits_for, RunsIn, FliesIn, Together, running, flies, stopped, finished}
+use Rattle.body_check.proofs.Landing.{joined, none_right, landed, Landed, frame_replaced, stop_meets, ended_meets}
 use Rattle.body_check.proofs.Calls.{count_of, moved_is, taken_count, fits_or_not, values_in, new_variables, entered, new_words}
 
-module _ (p : Program) (names : Names) (numbers : Typ → ℕ) (b : Bounds) (book : Book) (links : Links p names b book) (small : IsSmall p) where
+module _ (p : Program) (names : Names) (b : Bounds) (book : Book) (id : ℕ) (links : Links p names b book) (small : IsSmall p) where
+  abbrev numbers : Typ → ℕ
+  numbers = book.numbers
+
   abbrev pub Pairs : ℕ → State → code.State → Type 0
-  Pairs rank s c = Together p names numbers b book rank s c
+  Pairs rank s c = Together p names b book id rank s c
 
   abbrev pub Moves : ℕ → State → code.State → Type 0
   Moves rank s c = Move (thread_of p) (thread names) b.most b.longest Pairs rank s c
@@ -49,7 +53,7 @@ module _ (p : Program) (names : Names) (numbers : Typ → ℕ) (b : Bounds) (boo
   held n safe = book.held n safe
 
   abbrev pub end_of : ℕ
-  end_of = limit p names numbers b book
+  end_of = limit p names b book id
 
   -- a silent step of the code, beside one or more of the source
   both_go : (steps rank after : ℕ) (s u : State) (c d : code.State) → Path (thread_of p) steps s u → 1 ≤ steps → steps ≤ b.longest → step_act names c ≡ code.goes d → after ≤ b.most → Pairs after u d → Moves rank s c
@@ -69,18 +73,18 @@ module _ (p : Program) (names : Names) (numbers : Typ → ℕ) (b : Bounds) (boo
   -- ---- a call
 
   -- the callee's frame, where it is entered
-  module _ (n : ℕ) (safe : Bool) (base : ℕ) (x : Values) (bounded : AreWords x) (based : Based (home_of n safe base) end_of x) (index : ℕ) (q : Place) (fs : List Frame) (rest : List frames.Frame)
+  module _ (n : ℕ) (safe : Bool) (base : ℕ) (x : Values) (bounded : AreWords x) (based : Based (home_of id n safe base) end_of x) (index : ℕ) (q : Place) (fs : List Frame) (rest : List frames.Frame)
       (m : ℕ) (into : Bool) (body : BodyView) (there : names.body m into ≡ Some body) (own : BodyView) (own_there : names.body n safe ≡ Some own)
       (words under : List Term) (ws : List Kept) (k : List Form) (taken : taken_off (book.takes m) q.operands [] ≡ Some (words, under))
-      (back : BackWith p b book (book.gives m) (held n safe) index q under ws k) (callers : Callers p names numbers b book (book.gives n) fs rest) where
+      (back : BackWith p b book (book.gives m) (held n safe) index q under ws k) (thrown : ThrownWith p b book (held n safe) index q under ws k) (callers : Callers p names b book id (book.gives n) (held n safe).func.stops fs rest) where
     abbrev f : Func
     f = (held n safe).func
 
     abbrev g : Func
     g = (held m into).func
 
-    abbrev waiting : Waits p names numbers b book (book.gives m) n safe base
-    waiting = record { body = own; there = own_there; values = x; are_words = bounded; based = based; index = index; place = q; under = under; temporaries = ws; others = k; back = back }
+    abbrev waiting : Waits p names b book id (book.gives m) n safe base
+    waiting = record { body = own; there = own_there; values = x; are_words = bounded; based = based; index = index; place = q; under = under; temporaries = ws; others = k; back = back; thrown = thrown }
 
     abbrev new : Values
     new = values_in x (words_of p f x words) (x.base + f.size)
@@ -115,9 +119,9 @@ module _ (p : Program) (names : Names) (numbers : Typ → ℕ) (b : Bounds) (boo
         (entered p small f g x bounded ws k rest words (book.takes m) counted) (ap is_stuck (sym foreseen_at_entry) ∙ entry.foreseen)
 
     new_frame : Frame
-    new_frame = code.first_frame (home_of m into (base + names.frame n)) (words_of p f x words)
+    new_frame = code.first_frame (home_of id m into (base + names.frame n)) (words_of p f x words)
 
-    stands_there : Stands p numbers (held m into) (home_of m into (base + names.frame n)) end_of called entry.note.rank begun.to new_frame
+    stands_there : Stands p numbers (held m into) (home_of id m into (base + names.frame n)) end_of called entry.note.rank begun.to new_frame
     unfolding start new_frame
     stands_there = record {
       values = new;
@@ -127,30 +131,30 @@ module _ (p : Program) (names : Names) (numbers : Typ → ℕ) (b : Bounds) (boo
       note = entry.note;
       is = entry.is;
       ranked = refl;
-      frame = ap (λ (z : List ℕ). code.first_frame (home_of m into (base + names.frame n)) z) (sym (new_variables p small f g x bounded ws k rest words (book.takes m) counted))
-          ∙ (ap (λ z. frame_at p g numbers new (home_of m into (base + names.frame n)) 0 (bare (book.takes z))) (sym (links.numbers m into)) ∙ ap (λ (z : Place). frame_at p g numbers new (home_of m into (base + names.frame n)) 0 z) (sym entry.place_is));
+      frame = ap (λ (z : List ℕ). code.first_frame (home_of id m into (base + names.frame n)) z) (sym (new_variables p small f g x bounded ws k rest words (book.takes m) counted))
+          ∙ (ap (λ z. frame_at p g numbers new (home_of id m into (base + names.frame n)) 0 (bare (book.takes z))) (sym (links.numbers m into)) ∙ ap (λ (z : Place). frame_at p g numbers new (home_of id m into (base + names.frame n)) 0 z) (sym entry.place_is));
       shows = subst (λ z. Shows p g new called z begun.to) (sym foreseen_at_entry) begun.shows;
     }
 
-    goes_in : Pairs entry.note.rank begun.to (Runs new_frame (waiting_frame p names numbers b book (book.gives m) n safe base waiting ∷ fs))
-    goes_in = running m into (base + names.frame n) (record { body = body; there = there; rest = called; callers = waits_for n safe base waiting g.stops callers; stands = stands_there })
+    goes_in : Pairs entry.note.rank begun.to (Runs new_frame (waiting_frame p names b book id (book.gives m) n safe base waiting ∷ fs))
+    goes_in = running m into (base + names.frame n) (record { body = body; there = there; rest = called; callers = waits_for n safe base waiting callers; stands = stands_there })
 
     abbrev under_frame : Frame
-    under_frame = frame_at p f numbers x (home_of n safe base) index (with_operands q under)
+    under_frame = frame_at p f numbers x (home_of id n safe base) index (with_operands q under)
 
     -- the frame that a call leaves
-    call_acts : code.call_act names m into (book.takes m) (frame_at p f numbers x (home_of n safe base) index q) fs ≡ code.enter_act names m into (words_of p f x words) under_frame fs
-    call_acts = moved_is p f x (book.takes m) q.operands [] words under (λ args vs. code.entered_act names m into args (code.at (frame_at p f numbers x (home_of n safe base) index q) index vs) fs) taken
+    call_acts : code.call_act names m into (book.takes m) (frame_at p f numbers x (home_of id n safe base) index q) fs ≡ code.enter_act names m into (words_of p f x words) under_frame fs
+    call_acts = moved_is p f x (book.takes m) q.operands [] words under (λ args vs. code.entered_act names m into args (code.at (frame_at p f numbers x (home_of id n safe base) index q) index vs) fs) taken
         ∙ ap (λ o. if_some o Lost (λ c. code.enter_act names m into (words_of p f x words) under_frame fs)) there
 
-    fits_same : code.fits names (home_of m into (base + names.frame n)) ≡ nat_le (x.base + f.size + g.size) x.limit
+    fits_same : code.fits names (home_of id m into (base + names.frame n)) ≡ nat_le (x.base + f.size + g.size) x.limit
     fits_same = ap₂ (λ u v. nat_le u v) (ap₂ (λ u v. u + v) (ap₂ (λ u v. u + v) based.0 (links.frames n safe)) (links.frames m into)) (sym based.1)
 
     abbrev entering : State
     entering = enter (here_of p f x ws) (words_of p f x words) (p.func m) (below p f x k rest)
 
     pub call_move : (lead rank : ℕ) (s t : State) (c : code.State) → Path (thread_of p) lead s t → lead + 1 ≤ b.half
-        → step_act names c ≡ code.call_act names m into (book.takes m) (frame_at p f numbers x (home_of n safe base) index q) fs → t ≡ entering → Moves rank s c
+        → step_act names c ≡ code.call_act names m into (book.takes m) (frame_at p f numbers x (home_of id n safe base) index q) fs → t ≡ entering → Moves rank s c
     unfolding first new_frame
     call_move lead rank s t c v short e g_is = fits_or_not (x.base + f.size + g.size) x.limit
         (λ i j. both_go (lead + begun.steps) rank entry.note.rank s begun.to c (Runs new_frame (under_frame ∷ fs)) (joined (thread_of p) (subst (λ z. Path (thread_of p) lead s z) (g_is ∙ goes_first j) v) begun.path)
@@ -176,10 +180,10 @@ module _ (p : Program) (names : Names) (numbers : Typ → ℕ) (b : Bounds) (boo
             ∙ ap (λ z. cond z (halt (here_of p f x ws) (Trapped StackOverflow) (below p f x k rest)) (frames.at Silent (source.inside (here_of p f x ws) g) (frames.Passes (words_of p f x words) g.words ∷ frames.Then frames.value g.body ∷ called))) j
 
         enters : nat_le (x.base + f.size + g.size) x.limit ≡ true → code.enter_act names m into (words_of p f x words) under_frame fs ≡ code.goes (Runs new_frame (under_frame ∷ fs))
-        enters i = ap (λ z. if z then code.goes (Runs (code.first_frame (home_of m into (base + names.frame n)) (words_of p f x words)) (under_frame ∷ fs)) else code.traps StackOverflow) (fits_same ∙ i)
+        enters i = ap (λ z. if z then code.goes (Runs (code.first_frame (home_of id m into (base + names.frame n)) (words_of p f x words)) (under_frame ∷ fs)) else code.traps StackOverflow) (fits_same ∙ i)
 
         overflows : nat_le (x.base + f.size + g.size) x.limit ≡ false → code.enter_act names m into (words_of p f x words) under_frame fs ≡ Ends (Stop (Trapped StackOverflow))
-        overflows i = ap (λ z. if z then code.goes (Runs (code.first_frame (home_of m into (base + names.frame n)) (words_of p f x words)) (under_frame ∷ fs)) else code.traps StackOverflow) (fits_same ∙ i)
+        overflows i = ap (λ z. if z then code.goes (Runs (code.first_frame (home_of id m into (base + names.frame n)) (words_of p f x words)) (under_frame ∷ fs)) else code.traps StackOverflow) (fits_same ∙ i)
 
   -- ---- a return
 
@@ -194,61 +198,130 @@ module _ (p : Program) (names : Names) (numbers : Typ → ℕ) (b : Bounds) (boo
   some_back : (lead lag : ℕ) → 1 ≤ lag → 1 ≤ lead + lag
   some_back lead lag h = omega (arith, h)
 
-  pub stands_in : (n : ℕ) (safe : Bool) (base : ℕ) (body : BodyView) (there : names.body n safe ≡ Some body) (fs : List Frame) (rest : List frames.Frame) (callers : Callers p names numbers b book (book.gives n) fs rest)
-      (rank : ℕ) (s : State) (top : Frame) → Stands p numbers (held n safe) (home_of n safe base) end_of rest rank s top → Pairs rank s (Runs top fs)
+  pub stands_in : (n : ℕ) (safe : Bool) (base : ℕ) (body : BodyView) (there : names.body n safe ≡ Some body) (fs : List Frame) (rest : List frames.Frame) (callers : Callers p names b book id (book.gives n) (held n safe).func.stops fs rest)
+      (rank : ℕ) (s : State) (top : Frame) → Stands p numbers (held n safe) (home_of id n safe base) end_of rest rank s top → Pairs rank s (Runs top fs)
   stands_in n safe base body there fs rest callers rank s top st = running n safe base (record { body = body; there = there; rest = rest; callers = callers; stands = st })
 
-  back_with_word : (home : Home) (lead rank v : ℕ) (s t : State) (c : code.State) (n : ℕ) (safe : Bool) (base : ℕ) (w : Waits p names numbers b book true n safe base) (stops : Bool) (fs : List Frame) (rest : List frames.Frame) → v < 2 ^ 64
-      → Callers p names numbers b book (book.gives n) fs rest → Path (thread_of p) lead s t → lead + 1 ≤ b.half
-      → step_act names c ≡ code.back_act home (v ∷ []) (waiting_frame p names numbers b book true n safe base w ∷ fs)
+  pub flies_in : (n : ℕ) (safe : Bool) (base : ℕ) (body : BodyView) (there : names.body n safe ≡ Some body) (fs : List Frame) (rest : List frames.Frame) (callers : Callers p names b book id (book.gives n) (held n safe).func.stops fs rest)
+      (s : State) (x : Values) → AreWords x → Based (home_of id n safe base) end_of x → (index : ℕ) (q : Place) (e : Exception) (o : Outcome) → FlightFits p (held n safe).func b (held n safe).notes numbers (held n safe).rows index q e o
+      → Shows p (held n safe).func x rest o s → Pairs 0 s (Unwinds (coded numbers (exception_of p (held n safe).func x e)) (frame_at p (held n safe).func numbers x (home_of id n safe base) index q) fs)
+  flies_in n safe base body there fs rest callers s x bounded based index q e o fits shows = flies n safe base (record {
+    body = body; there = there; rest = rest; callers = callers; values = x; are_words = bounded; based = based; index = index; place = q; form = e; outcome = o; frame = refl; is = refl; fits = fits; shows = shows;
+  })
+
+  back_with_word : (home : Home) (lead rank v : ℕ) (s t : State) (c : code.State) (n : ℕ) (safe : Bool) (base : ℕ) (w : Waits p names b book id true n safe base) (fs : List Frame) (rest : List frames.Frame) → v < 2 ^ 64
+      → Callers p names b book id (book.gives n) (held n safe).func.stops fs rest → Path (thread_of p) lead s t → lead + 1 ≤ b.half
+      → step_act names c ≡ code.back_act home (v ∷ []) (waiting_frame p names b book id true n safe base w ∷ fs)
       → t ≡ frames.at Silent (here_of p (held n safe).func w.values w.temporaries) (frames.Gives v ∷ below p (held n safe).func w.values w.others rest) → Moves rank s c
-  back_with_word home lead rank v s t c n safe base w stops fs rest small_word callers path short e g =
+  back_with_word home lead rank v s t c n safe base w fs rest small_word callers path short e g =
       let f = (held n safe).func in
       let y = replied w.values (Loaded v) in
       let q = place_later w.place (variable 0 ∷ in_terms later w.under) in
       let shows : Shows p f y rest (goes silent (in_waitings later w.temporaries) (Gives (variable 0) ∷ in_frames later w.others)) t =
       g ∙ ap₂ (λ a d. frames.at Silent a (frames.Gives v ∷ d)) (sym (here_replaced p f later y rest w.temporaries)) (sym (frames_replaced p f later y rest w.others)) in
-      let l = landed p names numbers (held n safe) b (home_of n safe base) end_of rest fs small Pairs (stands_in n safe base w.body w.there fs rest callers) (λ s c z. stopped z) y (words_then w.values v w.are_words small_word) w.based (w.index + 1) q
+      let l = landed p names numbers (held n safe) b (home_of id n safe base) end_of rest fs small Pairs (stands_in n safe base w.body w.there fs rest callers) (λ s c z. stopped z) (flies_in n safe base w.body w.there fs rest callers) y (words_then w.values v w.are_words small_word) w.based no_answers (none_right p y) (w.index + 1) q
       (goes silent (in_waitings later w.temporaries) (Gives (variable 0) ∷ in_frames later w.others)) t w.back.lands shows in
-      both_go (lead + w.back.lands.lag) rank w.back.lands.note.rank s l.to c (Runs (frame_at p f numbers y (home_of n safe base) (w.index + 1) q) fs) (joined (thread_of p) path l.path)
+      both_go (lead + w.back.lands.lag) rank w.back.lands.note.rank s l.to c (Runs (frame_at p f numbers y (home_of id n safe base) (w.index + 1) q) fs) (joined (thread_of p) path l.path)
       (some_back lead w.back.lands.lag w.back.some) (room_back lead w.back.lands.lag short w.back.short)
-      (e ∙ ap code.goes (frame_later p f numbers w.values (Loaded v) (home_of n safe base) fs (w.index + 1) w.place w.place.opens (v ∷ words_of p f w.values w.under) (variable 0 ∷ in_terms later w.under)
+      (e ∙ ap code.goes (frame_later p f numbers w.values (Loaded v) (home_of id n safe base) fs (w.index + 1) w.place w.place.opens (v ∷ words_of p f w.values w.under) (variable 0 ∷ in_terms later w.under)
       (ap (λ (z : List ℕ). v ∷ z) (sym (words_later p f numbers w.values (Loaded v) w.under))))) w.back.lands.low l.related
     where
       words_then : (x : Values) (v : ℕ) → AreWords x → v < 2 ^ 64 → AreWords (replied x (Loaded v))
       words_then x v bounded h zero = h
       words_then x v bounded h (suc n) = bounded n
 
-  back_without : (home : Home) (lead rank : ℕ) (s t : State) (c : code.State) (n : ℕ) (safe : Bool) (base : ℕ) (w : Waits p names numbers b book false n safe base) (stops : Bool) (fs : List Frame) (rest : List frames.Frame)
-      → Callers p names numbers b book (book.gives n) fs rest → Path (thread_of p) lead s t → lead + 1 ≤ b.half
-      → step_act names c ≡ code.back_act home [] (waiting_frame p names numbers b book false n safe base w ∷ fs)
+  back_without : (home : Home) (lead rank : ℕ) (s t : State) (c : code.State) (n : ℕ) (safe : Bool) (base : ℕ) (w : Waits p names b book id false n safe base) (fs : List Frame) (rest : List frames.Frame)
+      → Callers p names b book id (book.gives n) (held n safe).func.stops fs rest → Path (thread_of p) lead s t → lead + 1 ≤ b.half
+      → step_act names c ≡ code.back_act home [] (waiting_frame p names b book id false n safe base w ∷ fs)
       → t ≡ frames.at Silent (here_of p (held n safe).func w.values w.temporaries) (frames.Gives 0 ∷ below p (held n safe).func w.values w.others rest) → Moves rank s c
-  back_without home lead rank s t c n safe base w stops fs rest callers path short e g =
+  back_without home lead rank s t c n safe base w fs rest callers path short e g =
       let f = (held n safe).func in
-      let l = landed p names numbers (held n safe) b (home_of n safe base) end_of rest fs small Pairs (stands_in n safe base w.body w.there fs rest callers) (λ s c z. stopped z) w.values w.are_words w.based (w.index + 1) (with_operands w.place w.under)
+      let l = landed p names numbers (held n safe) b (home_of id n safe base) end_of rest fs small Pairs (stands_in n safe base w.body w.there fs rest callers) (λ s c z. stopped z) (flies_in n safe base w.body w.there fs rest callers) w.values w.are_words w.based no_answers (none_right p w.values) (w.index + 1) (with_operands w.place w.under)
       (goes silent w.temporaries (Gives (number 0) ∷ w.others)) t w.back.lands g in
-      both_go (lead + w.back.lands.lag) rank w.back.lands.note.rank s l.to c (Runs (frame_at p f numbers w.values (home_of n safe base) (w.index + 1) (with_operands w.place w.under)) fs) (joined (thread_of p) path l.path)
+      both_go (lead + w.back.lands.lag) rank w.back.lands.note.rank s l.to c (Runs (frame_at p f numbers w.values (home_of id n safe base) (w.index + 1) (with_operands w.place w.under)) fs) (joined (thread_of p) path l.path)
       (some_back lead w.back.lands.lag w.back.some) (room_back lead w.back.lands.lag short w.back.short) e w.back.lands.low l.related
 
-  -- main ends
-  main_ends : (home : Home) (lead rank v : ℕ) (s t : State) (c : code.State) → home.thread ≡ 0 → Path (thread_of p) lead s t → lead + 1 ≤ b.half → step_act names c ≡ code.back_act home (v ∷ []) []
-      → t ≡ frames.at Silent (empty_stack 0) (frames.Gives v ∷ frames.Starts true ∷ []) → Moves rank s c
-  main_ends home lead rank v s t c main path short e g =
-      leads (few lead short b.both) (joined (thread_of p) path (subst (λ z. Path (thread_of p) 1 z (halt (empty_stack 0) (Exits (value_of_word Int v)) [])) (sym g) (step {n = 0} refl here)))
-      (stop_meets p names b Pairs (λ s c z. stopped z) (Exits (value_of_word Int v)) (halt (empty_stack 0) (Exits (value_of_word Int v)) []) c
-      (record { here = empty_stack 0; others = []; is = refl }) (e ∙ ap (λ z. Ends (code.finish z (value_of_word Int v))) main))
+  -- the first function of a thread is done
+
+  main_ends : (home : Home) (lead rank v : ℕ) (s t : State) (c : code.State) → home.thread ≡ id → (id == 0) ≡ true → Path (thread_of p) lead s t → lead + 1 ≤ b.half → step_act names c ≡ code.back_act home (v ∷ []) []
+      → t ≡ frames.at Silent (empty_stack id) (frames.Gives v ∷ frames.Starts true ∷ []) → Moves rank s c
+  main_ends home lead rank v s t c own main path short e g =
+      leads (few lead short b.both) (joined (thread_of p) path (subst (λ z. Path (thread_of p) 1 z (halt (empty_stack id) (Exits (value_of_word Int v)) [])) (sym g) (step {n = 0} refl here)))
+      (stop_meets p names b Pairs (λ s c z. stopped z) (Exits (value_of_word Int v)) (halt (empty_stack id) (Exits (value_of_word Int v)) []) c
+      (record { here = empty_stack id; others = []; is = refl }) (e ∙ (ap (λ z. Ends (code.finish z (value_of_word Int v))) own ∙ ap (λ (z : Bool). Ends (if z then Stop (Exits (value_of_word Int v)) else Done)) main)))
     where
       few : (lead : ℕ) → lead + 1 ≤ b.half → b.half + b.half ≤ b.longest → lead + 1 ≤ b.longest
       few lead s h = omega (arith, s, h)
 
-  pub return_word : (home : Home) (lead rank : ℕ) (f : Func) (x : Values) (bounded : AreWords x) (w : Term) (o : Outcome) (s t : State) (c : code.State) (fs : List Frame) (rest : List frames.Frame) → home.thread ≡ 0
-      → Callers p names numbers b book true fs rest → Path (thread_of p) lead s t → lead + 1 ≤ b.half → step_act names c ≡ code.back_act home (eval p f x w ∷ []) fs → Hands w o → Shows p f x rest o t → Moves rank s c
-  return_word home lead rank f x bounded w o s t c fs rest main (nobody stops) path short e hands g =
-      main_ends home lead rank (eval p f x w) s t c main path short e (handed f x w o _ stops _ t hands g)
-  return_word home lead rank f x bounded w o s t c fs rest main (waits_for n safe base z stops callers) path short e hands g =
-      back_with_word home lead rank (eval p f x w) s t c n safe base z stops _ _ (term_below p f x bounded w) callers path short e (handed f x w o _ stops _ t hands g)
+  child_ends : (home : Home) (lead rank : ℕ) (s t : State) (c : code.State) → home.thread ≡ id → (id == 0) ≡ false → Path (thread_of p) lead s t → lead + 1 ≤ b.half → step_act names c ≡ code.back_act home [] []
+      → t ≡ frames.at Silent (empty_stack id) (frames.Gives 0 ∷ frames.Starts false ∷ []) → Moves rank s c
+  child_ends home lead rank s t c own child path short e g =
+      leads (few lead short b.both) (joined (thread_of p) path (subst (λ z. Path (thread_of p) 1 z (frames.at Done (empty_stack id) (frames.Ended ∷ []))) (sym g) (step {n = 0} refl here)))
+      (ended_meets p names b Pairs (λ s c z. finished z) (frames.at Done (empty_stack id) (frames.Ended ∷ [])) c
+      (record { here = empty_stack id; others = []; first = refl; second = e ∙ (ap (λ z. Ends (code.finish z (code.status_of []))) own ∙ ap (λ (z : Bool). Ends (if z then Stop (Exits (code.status_of [])) else Done)) child) }))
+    where
+      few : (lead : ℕ) → lead + 1 ≤ b.half → b.half + b.half ≤ b.longest → lead + 1 ≤ b.longest
+      few lead s h = omega (arith, s, h)
 
-  pub return_none : (home : Home) (lead rank : ℕ) (f : Func) (x : Values) (o : Outcome) (s t : State) (c : code.State) (fs : List Frame) (rest : List frames.Frame)
-      → Callers p names numbers b book false fs rest → Path (thread_of p) lead s t → lead + 1 ≤ b.half → step_act names c ≡ code.back_act home [] fs → Hands (number 0) o → Shows p f x rest o t → Moves rank s c
-  return_none home lead rank f x o s t c fs rest (waits_for n safe base z stops callers) path short e hands g =
-      back_without home lead rank s t c n safe base z stops _ _ callers path short e (handed f x (number 0) o _ stops _ t hands g)
+  pub return_word : (home : Home) (lead rank : ℕ) (f : Func) (x : Values) (bounded : AreWords x) (w : Term) (o : Outcome) (stops : Bool) (s t : State) (c : code.State) (fs : List Frame) (rest : List frames.Frame) → home.thread ≡ id
+      → Callers p names b book id true stops fs rest → Path (thread_of p) lead s t → lead + 1 ≤ b.half → step_act names c ≡ code.back_act home (eval p f x w ∷ []) fs → Hands w o → Shows p f x rest o t → Moves rank s c
+  return_word home lead rank f x bounded w o stops s t c fs rest own (nobody main stopping is_main) path short e hands g =
+      main_ends home lead rank (eval p f x w) s t c own is_main path short e (handed f x w o _ stops _ t hands g)
+  return_word home lead rank f x bounded w o stops s t c fs rest own (waits_for n safe base z callers) path short e hands g =
+      back_with_word home lead rank (eval p f x w) s t c n safe base z _ _ (term_below p f x bounded w) callers path short e (handed f x w o _ stops _ t hands g)
+
+  pub return_none : (home : Home) (lead rank : ℕ) (f : Func) (x : Values) (o : Outcome) (stops : Bool) (s t : State) (c : code.State) (fs : List Frame) (rest : List frames.Frame) → home.thread ≡ id
+      → Callers p names b book id false stops fs rest → Path (thread_of p) lead s t → lead + 1 ≤ b.half → step_act names c ≡ code.back_act home [] fs → Hands (number 0) o → Shows p f x rest o t → Moves rank s c
+  return_none home lead rank f x o stops s t c fs rest own (nobody main stopping is_main) path short e hands g =
+      child_ends home lead rank s t c own is_main path short e (handed f x (number 0) o _ stops _ t hands g)
+  return_none home lead rank f x o stops s t c fs rest own (waits_for n safe base z callers) path short e hands g =
+      back_without home lead rank s t c n safe base z _ _ callers path short e (handed f x (number 0) o _ stops _ t hands g)
+
+  -- ---- an exception leaves a function
+
+  -- the values of a caller, with the exception that comes
+  abbrev exception_first : exceptions.Exception → (ℕ → exceptions.Exception) → ℕ → exceptions.Exception
+  exception_first e others zero = e
+  exception_first e others (suc n) = others n
+
+  abbrev thrown_into : Values → exceptions.Exception → Values
+  thrown_into x e = record { word = x.word; exception = exception_first e x.exception; base = x.base; limit = x.limit }
+
+  less : (lag : ℕ) → lag + 1 ≤ b.longest → lag ≤ b.longest
+  less lag h = omega (arith, h)
+
+  -- the function lets no exception out
+  terminates : (lag : ℕ) (s t : State) (c : code.State) (hand : frames.Here) (k : List frames.Frame) → Path (thread_of p) lag s t → lag + 1 ≤ b.longest → t ≡ halt hand Terminate k → step_act names c ≡ Ends (Stop Terminate) → Moves 0 s c
+  terminates lag s t c hand k path short g e = leads (less lag short) path (stop_meets p names b Pairs (λ s c z. stopped z) Terminate t c (record { here = hand; others = k; is = g }) e)
+
+  -- nobody is below the first function of a thread
+  thread_terminates : (lag : ℕ) (e : exceptions.Exception) (s t : State) (c : code.State) (main : Bool) → Path (thread_of p) lag s t → lag + 1 ≤ b.longest
+      → t ≡ frames.at Silent (empty_stack id) (frames.Leaves (frames.throws e) ∷ frames.Starts main ∷ []) → step_act names c ≡ Ends (Stop Terminate) → Moves 0 s c
+  thread_terminates lag e s t c main path short g i =
+      leads short (joined (thread_of p) path (subst (λ z. Path (thread_of p) 1 z (halt (empty_stack id) Terminate (frames.Starts main ∷ []))) (sym g) (step {n = 0} refl here)))
+      (stop_meets p names b Pairs (λ s c z. stopped z) Terminate (halt (empty_stack id) Terminate (frames.Starts main ∷ [])) c
+      (record { here = empty_stack id; others = frames.Starts main ∷ []; is = refl }) i)
+
+  -- the exception comes to the caller
+  caller_flies : (lag : ℕ) (e : exceptions.Exception) (s t : State) (c : code.State) (gives : Bool) (n : ℕ) (safe : Bool) (base : ℕ) (w : Waits p names b book id gives n safe base) (fs : List Frame) (rest : List frames.Frame)
+      → Callers p names b book id (book.gives n) (held n safe).func.stops fs rest → Path (thread_of p) lag s t → 1 ≤ lag → lag + 1 ≤ b.longest
+      → t ≡ frames.at Silent (here_of p (held n safe).func w.values w.temporaries) (frames.Leaves (frames.throws e) ∷ below p (held n safe).func w.values w.others rest)
+      → step_act names c ≡ code.goes (Unwinds (coded numbers e) (waiting_frame p names b book id gives n safe base w) fs) → Moves 0 s c
+  caller_flies lag e s t c gives n safe base w fs rest callers path some short g i =
+      let f = (held n safe).func in
+      let y = thrown_into w.values e in
+      let shows : Shows p f y rest (goes silent (in_waitings rising w.temporaries) (Leaves (throws (unknown 0)) ∷ in_frames rising w.others)) t =
+      g ∙ ap₂ (λ a d. frames.at Silent a (frames.Leaves (frames.throws e) ∷ d)) (sym (here_replaced p f rising y rest w.temporaries)) (sym (frames_replaced p f rising y rest w.others)) in
+      both_go lag 0 0 s t c (Unwinds (coded numbers e) (waiting_frame p names b book id gives n safe base w) fs) path some (less lag short) i (omega arith)
+      (subst (λ z. Pairs 0 t (Unwinds (coded numbers e) z fs)) (frame_replaced p f numbers rising y (home_of id n safe base) w.index (with_operands w.place w.under))
+      (flies_in n safe base w.body w.there fs rest callers t y w.are_words w.based w.index (in_place rising (with_operands w.place w.under)) (unknown 0) (goes silent (in_waitings rising w.temporaries) (Leaves (throws (unknown 0)) ∷ in_frames rising w.others)) w.thrown shows))
+
+  pub out_move : (home : Home) (lag : ℕ) (f : Func) (x : Values) (e : exceptions.Exception) (hand : frames.Here) (gives stops : Bool) (s t : State) (c : code.State) (top : Frame) (fs : List Frame) (rest : List frames.Frame) → top.home ≡ home → names.no_except home.func ≡ stops
+      → Callers p names b book id gives stops fs rest → Path (thread_of p) lag s t → 1 ≤ lag → lag + 1 ≤ b.longest → t ≡ leave hand (frames.throws e) rest
+      → step_act names c ≡ code.leave_act names (coded numbers e) top fs → Moves 0 s c
+  out_move home lag f x e hand gives true s t c top fs rest own stop (nobody main stopping is_main) path some short g i = terminates lag s t c hand _ path short g i
+  out_move home lag f x e hand gives false s t c top fs rest own stop (nobody main stopping is_main) path some short g i = thread_terminates lag e s t c main path short g i
+  out_move home lag f x e hand gives true s t c top fs rest own stop (waits_for {fs = gs} {rest = more} n safe base w callers) path some short g i =
+      terminates lag s t c hand _ path short g (i ∙ ap (λ (z : Bool). if z then Ends (Stop Terminate) else code.goes (Unwinds (coded numbers e) (waiting_frame p names b book id gives n safe base w) gs)) (ap (λ (z : Home). names.no_except z.func) own ∙ stop))
+  out_move home lag f x e hand gives false s t c top fs rest own stop (waits_for {fs = gs} {rest = more} n safe base w callers) path some short g i =
+      caller_flies lag e s t c gives n safe base w gs more callers path some short g (i ∙ ap (λ (z : Bool). if z then Ends (Stop Terminate) else code.goes (Unwinds (coded numbers e) (waiting_frame p names b book id gives n safe base w) gs)) (ap (λ (z : Home). names.no_except z.func) own ∙ stop))

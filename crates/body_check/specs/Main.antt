@@ -1,14 +1,15 @@
 -- A whole program that is checked: `int main() { return 0; }`, with its code and its notes.
-use Rattle.std.specs.Prelude.{ℕ, zero, suc, ◌+◌, ◌*◌, Bool, true, false, List, [], ◌∷◌, Option, Some, None}
+use Rattle.std.specs.Prelude.{ℕ, zero, suc, ◌+◌, ◌*◌, ◌==◌, cond, Bool, true, false, List, [], ◌∷◌, Option, Some, None}
 use Rattle.tx_ints.specs.declared.kinds.IntKind.TheVariants.{Int}
 use Rattle.tx_code.specs.declared.instr.Instr.TheVariants.{Push, Ret}
 use Rattle.tx_code.specs.Objects.{BodyView}
 use Rattle.tx_code.specs.Renaming.{itself}
 use Rattle.tx_code.specs.Meaning.{Names}
-use Rattle.cpp_tree.specs.cpp_types.Typ.{int}
+use Rattle.cpp_tree.specs.cpp_types.Typ.{Typ, int}
 use Rattle.cpp_tree.specs.declared.kinds.TKind.TheVariants.{Literal, Block, Return}
 use Rattle.cpp_tree.specs.Notation.{plain, effect, prvalue}
 use Rattle.src_mean.specs.Linked.{Func, Program}
+use Rattle.src_mean.specs.Exceptions.{cancels}
 use Rattle.src_mean.specs.Source.{empty_stack}
 use Rattle.symbolic_source.specs.Terms.{number}
 use Rattle.symbolic_source.specs.Frames.{value, Passes, Then}
@@ -61,7 +62,7 @@ main_names = record {
   called = λ ty a. None;
   spawned = λ a. None;
   slot_of = λ c a s. None;
-  cancels = λ ty. false;
+  cancels = λ ty. ty == 1;
 }
 
 -- main as it is entered, one silent step on
@@ -75,11 +76,16 @@ abbrev pub second_note : Note
 second_note = record { place = with_operands (bare 0) (number 0 ∷ []); outcome = advanced main_program main_func no_answers 4 main_begun; lead = 1; rank = 0 }
 
 abbrev pub no_names : Table
-no_names = record { global_of = λ n. None; function_of = λ n. None; class_of = λ n. None }
+no_names = record { global_of = λ n. None; function_of = λ n. None; class_of = λ n. None; type_of = λ n. None }
+
+-- a type that supports cancellation has number 1, any other 0
+abbrev pub number_of_type : Typ → ℕ
+number_of_type t = cond (cancels t) 1 0
 
 abbrev pub main_book : Book
 main_book = record {
-  held = λ n safe. record { number = n; func = main_func; body = main_body; notes = first_note ∷ second_note ∷ []; table = no_names };
+  held = λ n safe. record { number = n; func = main_func; body = main_body; rows = []; notes = first_note ∷ second_note ∷ []; table = no_names };
   gives = λ n. true;
   takes = λ n. 0;
+  numbers = number_of_type;
 }

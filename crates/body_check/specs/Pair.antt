@@ -1,5 +1,5 @@
 -- A whole program with a call that is checked: `int one() { return 1; } int main() { return one(); }`, with its code and its notes.
-use Rattle.std.specs.Prelude.{ℕ, zero, suc, Bool, true, false, List, [], ◌∷◌, Option, Some, None}
+use Rattle.std.specs.Prelude.{ℕ, zero, suc, ◌==◌, Bool, true, false, List, [], ◌∷◌, Option, Some, None}
 use Rattle.tx_ints.specs.declared.kinds.IntKind.TheVariants.{Int}
 use Rattle.tx_code.specs.declared.instr.Instr.TheVariants.{Push, Call, Ret}
 use Rattle.tx_code.specs.Objects.{BodyView}
@@ -23,6 +23,7 @@ use Rattle.symbolic_code.specs.Following.{Table}
 use Rattle.body_check.specs.Notes.{Note, Bounds, no_answers}
 use Rattle.body_check.specs.Linked.{Held}
 use Rattle.body_check.specs.Calls.{Book, bare}
+use Rattle.body_check.specs.Main.{number_of_type}
 
 abbrev pub returning : Tree → Tree
 returning t = effect (Block false) ((effect Return (t ∷ [])) ∷ [])
@@ -85,7 +86,7 @@ pair_names = record {
   called = λ ty a. None;
   spawned = λ a. None;
   slot_of = λ c a s. None;
-  cancels = λ ty. false;
+  cancels = λ ty. ty == 1;
 }
 
 abbrev pub begun : Func → Outcome
@@ -112,11 +113,12 @@ notes_of zero = call_note ∷ back_note ∷ []
 notes_of (suc n) = push_note ∷ ret_note ∷ []
 
 abbrev pub own_names : Table
-own_names = record { global_of = λ n. None; function_of = named; class_of = λ n. None }
+own_names = record { global_of = λ n. None; function_of = named; class_of = λ n. None; type_of = λ n. None }
 
 abbrev pub pair_book : Book
 pair_book = record {
-  held = λ n safe. record { number = n; func = func_of n; body = body_of n; notes = notes_of n; table = own_names };
+  held = λ n safe. record { number = n; func = func_of n; body = body_of n; rows = []; notes = notes_of n; table = own_names };
   gives = λ n. true;
   takes = λ n. 0;
+  numbers = number_of_type;
 }

@@ -1,6 +1,6 @@
 //! What notes that fit show, and worked bodies. A function here does nothing: its clauses are the laws.
 
-ghost use Rattle.std.specs.Prelude.{◌≡◌, ℕ, ◌+◌, List, [], ◌∷◌, Option, Some, None};
+ghost use Rattle.std.specs.Prelude.{◌≡◌, ◌==◌, ℕ, ◌+◌, ℤ, false, List, [], ◌∷◌, Option, Some, None};
 ghost use Rattle.tx_code.specs.declared.instr.Instr.TheVariants.{Push, Swap, FrameAddr, Load, Store, Bin, Ret};
 ghost use Rattle.tx_ints.specs.declared.kinds.IntKind.TheVariants.{Int};
 ghost use Rattle.tx_ints.specs.declared.kinds.BinOp.TheVariants.{Add};
@@ -10,7 +10,8 @@ ghost use Rattle.symbolic_source.specs.Frames.{returns};
 ghost use Rattle.symbolic_source.specs.Outcomes.{goes_out};
 ghost use Rattle.tx_code.specs.Meaning.{Names, thread, starts};
 ghost use Rattle.tx_events.specs.Same.{SameEvents, StepsWithin};
-ghost use Rattle.src_mean.specs.Source.{source, main_state};
+ghost use Rattle.tx_ints.specs.Words.{word_of};
+ghost use Rattle.src_mean.specs.Source.{source, main_state, begins};
 ghost use Rattle.symbolic_source.specs.Small.{IsSmall};
 ghost use Rattle.body_check.specs.Notes.{Bounds};
 ghost use Rattle.body_check.specs.Calls.{Book, Links, Begins};
@@ -18,13 +19,23 @@ ghost use Rattle.body_check.specs.Main.{main_program, main_names};
 ghost use Rattle.body_check.specs.Pair.{pair_program, pair_names};
 ghost use Rattle.body_check.specs.Worked.{sum_func, sum_code, sum_run, outcome_at, operands_at};
 
-/// Where the notes of each body fit, the code has the events of its source from `main` on, calls and returns included,
-/// within a bound on its steps. Exceptions, calls by an address and threads that are started have no notes yet.
+/// Where the notes of each body fit, the code has the events of its source from `main` on, calls, returns and exceptions
+/// included, within a bound on its steps. Calls by an address and threads that are started have no notes yet.
 pub fn checked_programs_keep_their_events()
-    ensures same { (p : Program) (names : Names) (b : Bounds) (book : Book) → Links p names b book → IsSmall p → Begins p names book →
+    ensures same { (p : Program) (names : Names) (b : Bounds) (book : Book) → Links p names b book → IsSmall p → Begins p names book 0 p.main [] →
         SameEvents (source p) (thread names) (main_state p) (starts names 0 p.main []) }
-    ensures within { (p : Program) (names : Names) (b : Bounds) (book : Book) → Links p names b book → IsSmall p → Begins p names book →
+    ensures within { (p : Program) (names : Names) (b : Bounds) (book : Book) → Links p names b book → IsSmall p → Begins p names book 0 p.main [] →
         StepsWithin (source p) (thread names) (b.most + 1) b.most (main_state p) (starts names 0 p.main []) }
+{}
+
+/// So does each other thread, from the function on that it starts in, with its argument.
+pub fn checked_threads_keep_their_events()
+    ensures same { (p : Program) (names : Names) (b : Bounds) (book : Book) → Links p names b book → IsSmall p →
+        (id n : ℕ) (arg : ℤ) → (id == 0) ≡ false → Begins p names book id n (word_of arg ∷ []) →
+        SameEvents (source p) (thread names) (begins p id n arg) (starts names id n (word_of arg ∷ [])) }
+    ensures within { (p : Program) (names : Names) (b : Bounds) (book : Book) → Links p names b book → IsSmall p →
+        (id n : ℕ) (arg : ℤ) → (id == 0) ≡ false → Begins p names book id n (word_of arg ∷ []) →
+        StepsWithin (source p) (thread names) (b.most + 1) b.most (begins p id n arg) (starts names id n (word_of arg ∷ [])) }
 {}
 
 /// `int main() { return 0; }` is such a program: its notes fit.

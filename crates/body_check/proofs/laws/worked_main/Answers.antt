@@ -4,4 +4,4 @@ use Rattle.body_check.proofs.Program.{main_same}
 use Rattle.body_check.proofs.laws.worked_main.Goals as goal
 
 pub returns : goal.returns
-returns c = main_same main_program main_names (λ t. 0) bounds main_book main_links main_small main_begins
+returns c = main_same main_program main_names bounds main_book main_links main_small main_begins
