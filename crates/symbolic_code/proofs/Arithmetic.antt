@@ -1,14 +1,15 @@
 -- Words of the code as those of the source.
-use Rattle.std.proofs.Common.{ℕ, ℤ, pos, ◌≡◌, ◌≢◌, ◌⊎◌, inl, inr, ◌+◌, ◌*◌, ◌%◌, ◌^◌, ◌<◌, ◌==◌, Bool, true, false, cond, if◌then◌else◌, not, refl, ap, ap₂, sym, ◌∙◌, subst, Result, Ok, Err, arith}
+use Rattle.std.proofs.Common.{ℕ, zero, suc, ℤ, pos, ◌≡◌, ◌≢◌, ◌⊎◌, inl, inr, ◌+◌, ◌*◌, ◌%◌, ◌^◌, ◌<◌, ◌==◌, Bool, true, false, cond, if◌then◌else◌, not, refl, ap, ap₂, sym, ◌∙◌, subst, Result, Ok, Err, arith}
 use Rattle.std.proofs.lemmas.Int.{ints}
-use Rattle.std.specs.Prelude.{◌+ℤ◌, ◌*ℤ◌, unsigned_abs}
+use Rattle.std.specs.Prelude.{◌-◌, ◌+ℤ◌, ◌-ℤ◌, ◌*ℤ◌, unsigned_abs}
 use Rattle.std.specs.Int.{int_rem_euclid}
 use Rattle.std.proofs.lemmas.Bool.{true≢false, eqb-true}
 use Rattle.std.proofs.Math.Pow.{mod-mod-pow}
+use Rattle.std.proofs.Math.Nat.{mod-eq_of_lt}
 use Rattle.tx_ints.specs.declared.kinds.IntKind.{IntKind}
 use Rattle.tx_ints.specs.declared.kinds.IntKind.TheVariants.{Bool as BoolKind, Char, SChar, UChar, Short, UShort, Int, UInt, Long, ULong, LLong, ULLong}
 use Rattle.tx_ints.specs.declared.kinds.BinOp.{BinOp}
-use Rattle.tx_ints.specs.declared.kinds.BinOp.TheVariants.{Add, Mul, Eq, Shl, Shr}
+use Rattle.tx_ints.specs.declared.kinds.BinOp.TheVariants.{Add, Sub, Mul, Eq, Shl, Shr}
 use Rattle.tx_ints.specs.declared.kinds.ArithTrap.{ArithTrap}
 use Rattle.tx_ints.specs.declared.kinds.ArithTrap.TheVariants.{Overflow, DivideByZero, ShiftRange}
 use Rattle.tx_ints.specs.Integers.{width, modulus, convert_of, reduced, apply_of}
@@ -118,6 +119,17 @@ sum_same a b h g = (reduced ULong (pos (a + b)), ap₂ (λ u v. apply_of Add ULo
 pub product_same : (a b : ℕ) → a < 2 ^ 64 → b < 2 ^ 64 → (z : ℤ) × (apply_of Mul ULong (value_of_word ULong a) (value_of_word ULong b) ≡ Ok z) × (word_of z ≡ (a * b) % 2 ^ 64)
 unfolding apply_of
 product_same a b h g = (reduced ULong (pos (a * b)), ap₂ (λ u v. apply_of Mul ULong u v) (value_plain a h) (value_plain b g), address_word (a * b))
+
+pub less_same : (a : ℕ) → a < 2 ^ 64 → (a ≡ 0 → ⊥) → (z : ℤ) × (apply_of Sub ULong (value_of_word ULong a) (value_of_word ULong 1) ≡ Ok z) × (word_of z ≡ a - 1)
+unfolding apply_of
+less_same a h g = (reduced ULong (pos (a - 1)), ap₂ (λ u v. apply_of Sub ULong u v) (value_plain a h) (value_plain 1 (omega arith)) ∙ ap (λ z. Ok (reduced ULong z)) (lower a g), address_word (a - 1) ∙ mod-eq_of_lt (less a h))
+  where
+    lower : (a : ℕ) → (a ≡ 0 → ⊥) → pos a -ℤ pos 1 ≡ pos (a - 1)
+    lower zero g = absurd (g refl)
+    lower (suc n) g = omega (arith, ints)
+
+    less : (a : ℕ) → a < 2 ^ 64 → a - 1 < 2 ^ 64
+    less a h = omega (arith, h)
 
 pub equal_same : (a b : ℕ) → (z : ℤ) × (apply_of Eq ULong (value_of_word ULong a) (value_of_word ULong b) ≡ Ok z)
 unfolding apply_of

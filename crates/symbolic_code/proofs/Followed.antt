@@ -4,21 +4,22 @@ use Rattle.std.specs.Prelude.{slice_get, nat_eq}
 use Rattle.src_mean.specs.Exceptions.{bytes_of, with_bytes, read_bytes}
 use Rattle.std.proofs.lemmas.Bool.{true≢false, and_parts, eqb-true}
 use Rattle.tx_ints.specs.declared.kinds.IntKind.{IntKind}
+use Rattle.tx_events.specs.declared.Trap.TheVariants.{BadCall, BadVirtual}
 use Rattle.tx_ints.specs.declared.kinds.IntKind.TheVariants.{Bool as BoolKind, Char, SChar, UChar, Short, UShort, Int, UInt, Long, ULong, LLong, ULLong}
 use Rattle.tx_ints.specs.declared.kinds.BinOp.{BinOp}
-use Rattle.tx_ints.specs.declared.kinds.BinOp.TheVariants.{Add, Mul, Eq}
+use Rattle.tx_ints.specs.declared.kinds.BinOp.TheVariants.{Add, Sub, Mul, Eq}
 use Rattle.tx_ints.specs.declared.kinds.ArithTrap.{ArithTrap}
 use Rattle.tx_ints.specs.Integers.{apply_of, convert_of}
 use Rattle.tx_ints.specs.Words.{word_of, value_of_word}
 use Rattle.tx_events.specs.declared.BlockKind.{BlockKind}
 use Rattle.tx_events.specs.declared.BlockKind.TheVariants.{NoExcept, Commit, Cancel}
 use Rattle.tx_events.specs.declared.End.TheVariants.{Abort as Aborts, Terminate, Trapped}
-use Rattle.tx_events.specs.declared.Event.TheVariants.{Load as LoadOf, Store as StoreOf, Out as OutOf, Inp as InpOf, Join as JoinOf, BeginAtomic, EndAtomic, BeginSync as BeginSyncOf, EndSync as EndSyncOf, Stop}
+use Rattle.tx_events.specs.declared.Event.TheVariants.{Load as LoadOf, Store as StoreOf, Out as OutOf, Inp as InpOf, Spawn as SpawnOf, Join as JoinOf, BeginAtomic, EndAtomic, BeginSync as BeginSyncOf, EndSync as EndSyncOf, Stop}
 use Rattle.tx_events.specs.declared.Reply.{Reply}
 use Rattle.tx_events.specs.declared.Reply.TheVariants.{Nothing, Loaded, Byte, Id}
 use Rattle.tx_events.specs.Thread.{Open, Atomic, Sync, Answers, same_kind, rest_of}
 use Rattle.tx_code.specs.declared.instr.Instr.{Instr}
-use Rattle.tx_code.specs.declared.instr.Instr.TheVariants.{Push, Dup, Pop, Swap, FrameAddr, GlobalAddr, FuncAddr, ClassAddr, Load, Store, TLoad, TStore, VLoad, VStore, Bin, Conv, Jump, JumpZero, Begin, End, BeginSync, EndSync, Out, Inp, Join, Abort, NewException, PutException, Throw, Rethrow, GetException, EndHandler, Resume, Over}
+use Rattle.tx_code.specs.declared.instr.Instr.TheVariants.{Push, Dup, Pop, Swap, FrameAddr, GlobalAddr, FuncAddr, ClassAddr, Load, Store, TLoad, TStore, VLoad, VStore, Bin, Conv, Jump, JumpZero, Begin, End, BeginSync, EndSync, Out, Inp, Spawn, Join, Abort, Slot, NewException, PutException, Throw, Rethrow, GetException, EndHandler, Resume, Over}
 use Rattle.tx_code.specs.Meaning.{Frame, Home, Runs, Building, no_bytes, put_bytes, get_bytes, Act, Does, Ends, Lost, act, one, two, if_some, result_act, size_of, bits_of, right_kind, traps}
 use Rattle.tx_code.specs.Meaning as code
 use Rattle.tx_code.specs.Renaming.{Numbering, renamed}
@@ -27,22 +28,24 @@ use Rattle.cpp_tree.specs.cpp_layout.Layout.{kind_size, function_address}
 use Rattle.src_mean.specs.Linked.{Func, Program}
 use Rattle.src_mean.specs.Frames.{State}
 use Rattle.src_mean.specs.Frames as frames
-use Rattle.src_mean.specs.Source.{applied, right_value, stored_bytes}
+use Rattle.src_mean.specs.Source.{applied, right_value, stored_bytes, thread_signature}
 use Rattle.src_mean.specs.Source as source
-use Rattle.symbolic_source.specs.Terms.{Term, number, variable, local, global, function, table, sum, product, low_byte, converted_to, result, field, Exception, made, Puts, untouched, put, Values, word_or_zero, eval, exception_of, bytes_put, plus_number}
-use Rattle.symbolic_source.specs.Frames.{Waiting, Exit, throws, returns, breaks, continues, words_of}
+use Rattle.symbolic_source.specs.Terms.{Term, number, variable, local, global, function, table, slot_function, sum, product, low_byte, converted_to, result, field, Exception, made, Puts, untouched, put, Values, word_or_zero, number_found, eval, exception_of, bytes_put, plus_number, one_less}
+use Rattle.symbolic_source.specs.Frames.{Waiting, Exit, throws, returns, breaks, continues, words_of, below, here_of}
 use Rattle.symbolic_source.specs.Frames as symbolic
-use Rattle.symbolic_source.specs.Outcomes.{Doing, reads, writes, puts_out, takes_in, joins, begins_atomic, begins_sync, ends_block, leaves_block, Outcome, goes, chooses, results, halts, Shows, event_of}
+use Rattle.symbolic_source.specs.Outcomes.{Doing, reads, writes, puts_out, takes_in, joins, spawns_thread, begins_atomic, begins_sync, ends_block, leaves_block, Outcome, goes, chooses, results, finds, spawns, rethrows, halts, Stops, Shows, event_of}
 use Rattle.symbolic_source.specs.Small.{IsSmall, AreWords}
 use Rattle.symbolic_source.specs.Replacing.{in_terms}
-use Rattle.symbolic_source.proofs.TermLemmas.{term_below, plus_number_is, word_kept}
+use Rattle.symbolic_source.proofs.TermLemmas.{term_below, plus_number_is, one_less_is, word_kept}
 use Rattle.std.proofs.Math.Nat.{mod-eq_of_lt, add-mod-mod}
 use Rattle.symbolic_code.specs.Same.{same_term, same_number, same_operator}
+use Rattle.symbolic_code.specs.Facts.{Fact, AllHold, is_not_zero}
+use Rattle.symbolic_code.proofs.Facts.{known_not_zero}
 use Rattle.symbolic_code.specs.Places.{Place, Hold, nothing, making, flying, all_coded, hold_of, holding, frame_at, replied, later, with_operands, place_later, opened_later}
-use Rattle.symbolic_code.specs.Following.{Table, Next, refused, quietly, either_way, unless_trap, loudly, throwing, ends, one_of, two_of, if_found, pushes, same_flag, is_bool, kept, stored_term, loads, stores, outputs, inputs, joining, begins, begins_locked, ends_atomic, ends_locked, aborts, addresses, operates, jumps_zero, puts_in, throws_made, resumes, rethrows_caught, gets_caught, handler_ends, followed, Loud, Follows, AreNames}
+use Rattle.symbolic_code.specs.Following.{Table, Next, refused, quietly, either_way, unless_trap, loudly, throwing, finding, starting, rethrowing, ends, one_of, two_of, if_found, pushes, same_flag, is_bool, kept, stored_term, loads, stores, outputs, inputs, joining, begins, begins_locked, ends_atomic, ends_locked, aborts, addresses, operates, jumps_zero, puts_in, throws_made, resumes, rethrows_caught, gets_caught, handler_ends, bare_address, slots_follow, spawning, followed, Loud, Follows, AreNames}
 use Rattle.symbolic_code.proofs.SameTerms.{term_same, number_same, operator_same}
 use Rattle.symbolic_code.proofs.Bytes.{put_same, get_same, no_bytes_same, bytes_low}
-use Rattle.symbolic_code.proofs.Arithmetic.{size_same, bits_same, stored_converted, bool_same, short_number, right_same, trap_same, sum_same, product_same, equal_same, conversion_same}
+use Rattle.symbolic_code.proofs.Arithmetic.{size_same, bits_same, stored_converted, bool_same, short_number, right_same, trap_same, sum_same, product_same, less_same, value_plain, equal_same, conversion_same}
 use Rattle.symbolic_code.proofs.Later.{words_later, frame_later}
 
 flag_same : (a b : Bool) → same_flag a b ≡ true → a ≡ b
@@ -260,21 +263,30 @@ module _ (p : Program) (f : Func) (numbers : Typ → ℕ) (x : Values) (home : H
   unfolding source.plus
   number_sum a n = add-mod-mod (word a) n (2 ^ 64) ∙ sym (plus_number_is p f x a n)
 
-  addresses_follow : (i : ℕ) (q : Place) (o : Outcome) (s : State) (op : BinOp) (k : IntKind) (a b : Term) (ws : List Term) → Foreseen o s
-      → Is (if_found (addresses op k a b) (λ w. pushes i q o w ws)) (operating i q op k a b ws) s
-  addresses_follow i q o s Add ULong a (number n) ws h =
+  if_less : (t : Bool) (w : Term) (go : Term → Next) (a : Act) (s : State) → (t ≡ true → Is (go w) a s) → Is (if_found (cond t (Some w) None) go) a s
+  if_less true w go a s h = h refl
+  if_less false w go a s h = tt
+
+  addresses_follow : (ks : List Fact) (i : ℕ) (q : Place) (o : Outcome) (s : State) (op : BinOp) (k : IntKind) (a b : Term) (ws : List Term) → AllHold p f x ks → Foreseen o s
+      → Is (if_found (addresses ks op k a b) (λ w. pushes i q o w ws)) (operating i q op k a b ws) s
+  addresses_follow ks i q o s Add ULong a (number n) ws known h =
       let r = sum_same (word a) (word (number n)) (term_below p f x bounded a) (term_below p f x bounded (number n)) in
       address_same i q o s Add ULong a (number n) ws (plus_number a n) r.0 r.1 (r.2 ∙ number_sum a n) h
-  addresses_follow i q o s Add ULong a b ws h =
+  addresses_follow ks i q o s Add ULong a b ws known h =
       let r = sum_same (word a) (word b) (term_below p f x bounded a) (term_below p f x bounded b) in
       address_same i q o s Add ULong a b ws (sum a b) r.0 r.1 r.2 h
-  addresses_follow i q o s Mul ULong a b ws h =
+  addresses_follow ks i q o s Sub ULong a (number n) ws known h = if_less ((n == 1) && is_not_zero ks a) (one_less a) (λ w. pushes i q o w ws) _ s (λ e.
+      let c = and_parts (n == 1) (is_not_zero ks a) e in
+      let r = less_same (word a) (term_below p f x bounded a) (known_not_zero p f x ks a c.1 known) in
+      let one : word (number n) ≡ 1 = ap (λ z. z % 2 ^ 64) (eqb-true n 1 c.0) in
+      address_same i q o s Sub ULong a (number n) ws (one_less a) r.0 (ap (λ z. apply_of Sub ULong (value_of_word ULong (word a)) (value_of_word ULong z)) one ∙ r.1) (r.2 ∙ sym (one_less_is p f x a)) h)
+  addresses_follow ks i q o s Mul ULong a b ws known h =
       let r = product_same (word a) (word b) (term_below p f x bounded a) (term_below p f x bounded b) in
       address_same i q o s Mul ULong a b ws (product a b) r.0 r.1 r.2 h
-  addresses_follow i q o s Eq ULong a b ws h =
+  addresses_follow ks i q o s Eq ULong a b ws known h =
       let r = equal_same (word a) (word b) in
       address_same i q o s Eq ULong a b ws (result Eq ULong a b) r.0 r.1 (ap word_or_zero (sym (sym (as_applied Eq ULong a b) ∙ r.1))) h
-  addresses_follow i q o s op k a b ws h = tt
+  addresses_follow ks i q o s op k a b ws known h = tt
 
   trapping : (i : ℕ) (q : Place) (op : BinOp) (k : IntKind) (a b : Term) (ws : List Term) (trap : ArithTrap) → applied op k (word a) (word b) ≡ Err trap → operating i q op k a b ws ≡ Ends (Stop (Trapped (source.trap_of trap)))
   trapping i q op k a b ws trap e = ap (λ r. result_act r (λ v. code.goes (Runs (code.on_with (frame i q) (word_of v ∷ words ws)) below_frames))) (as_applied op k a b ∙ e) ∙ ap (λ z. Ends (Stop (Trapped z))) (trap_same trap)
@@ -294,14 +306,14 @@ module _ (p : Program) (f : Func) (numbers : Typ → ℕ) (x : Values) (home : H
   either_operates true n m a s h g = h refl
   either_operates false n m a s h g = g
 
-  operates_follow : (i : ℕ) (q : Place) (op : BinOp) (k : IntKind) (a b : Term) (ws : List Term) (o : Outcome) (s : State) → Foreseen o s → Is (operates i q op k a b ws o) (operating i q op k a b ws) s
-  operates_follow i q op k a b ws (results oq j c d o) s h = either_operates (same_operator op oq && same_number k j && (same_term a c && same_term b d)) _ _ _ s (λ e.
+  operates_follow : (ks : List Fact) (i : ℕ) (q : Place) (op : BinOp) (k : IntKind) (a b : Term) (ws : List Term) (o : Outcome) (s : State) → AllHold p f x ks → Foreseen o s → Is (operates ks i q op k a b ws o) (operating i q op k a b ws) s
+  operates_follow ks i q op k a b ws (results oq j c d o) s known h = either_operates (same_operator op oq && same_number k j && (same_term a c && same_term b d)) _ _ _ s (λ e.
       let g = and_parts (same_operator op oq && same_number k j) (same_term a c && same_term b d) e in
       let l = and_parts (same_operator op oq) (same_number k j) g.0 in
       let m = and_parts (same_term a c) (same_term b d) g.1 in
       result_follows i q op k a b ws o s (same_results op oq k j a b c d o s (operator_same op oq l.0) (number_same k j l.1) (term_same a c m.0) (term_same b d m.1) h))
-      (addresses_follow i q (results oq j c d o) s op k a b ws h)
-  operates_follow i q op k a b ws o s h = addresses_follow i q o s op k a b ws h
+      (addresses_follow ks i q (results oq j c d o) s op k a b ws known h)
+  operates_follow ks i q op k a b ws o s known h = addresses_follow ks i q o s op k a b ws known h
 
   abbrev jumping : ℕ → ℕ → Place → Term → List Term → Act
   jumping i n q a ws = code.goes (Runs (code.at (frame i q) (if nat_eq (word a) 0 then n else i + 1) (words ws)) below_frames)
@@ -354,9 +366,14 @@ module _ (p : Program) (f : Func) (numbers : Typ → ℕ) (x : Values) (home : H
   resumes_follow i q o s (flying e) g = (refl, g)
   resumes_follow i q o s h g = tt
 
+  rethrows_below : (i : ℕ) (q : Place) (o : Outcome) (s : State) → Foreseen o s
+      → Is (rethrows_caught i q o []) (if_some (code.current below_frames) (Ends (Stop Terminate)) (λ e. code.unwinding e (frame i q) below_frames)) s
+  rethrows_below i q (rethrows temporaries m) s g = (refl, g)
+  rethrows_below i q o s g = tt
+
   rethrows_follow : (i : ℕ) (q : Place) (o : Outcome) (s : State) (es : List Exception) → Foreseen o s
       → Is (rethrows_caught i q o es) (if_some (code.first_or (all_coded p f numbers x es) (code.current below_frames)) (Ends (Stop Terminate)) (λ e. code.unwinding e (frame i q) below_frames)) s
-  rethrows_follow i q o s [] g = tt
+  rethrows_follow i q o s [] g = rethrows_below i q o s g
   rethrows_follow i q o s (e ∷ es) g = (refl, g)
 
   got_is : (k : IntKind) (n : ℕ) (bs : List ℕ) → is_bool k ≡ false → word_of (convert_of k (pos (get_bytes bs n (size_of k)))) ≡ source.converted k (read_bytes bs n (size_of k) % 2 ^ 64)
@@ -372,6 +389,60 @@ module _ (p : Program) (f : Func) (numbers : Typ → ℕ) (x : Values) (home : H
   handler_follows i q o s [] g = tt
   handler_follows i q o s (e ∷ es) g = (refl, g)
 
+  -- Functions that are found, and threads
+
+  word_as_number : (n : ℕ) → n < 2 ^ 64 → word_of (pos n) ≡ n
+  unfolding word_of
+  word_as_number n h = mod-eq_of_lt h
+
+  bare_is : (a : Term) → word (bare_address a) ≡ word a
+  bare_is (converted_to ULong w) = sym (ap (λ z. word_of z) (value_plain (word w) (term_below p f x bounded w)) ∙ word_as_number (word w) (term_below p f x bounded w))
+  bare_is a = refl
+
+  abbrev slot_step : code.Names → (class : ℕ) → ℕ → Place → (address slot : ℕ) → List ℕ → Act
+  slot_step names class i q address slot vs = if_some (names.slot_of class address slot) (traps BadVirtual) (λ n. stands (i + 1) q (names.func_address n ∷ vs))
+
+  slot_follows : (names : code.Names) (own i class slot : ℕ) (q : Place) (a : Term) (ws : List Term) (o : Outcome) (s : State) → ((address n : ℕ) → names.slot_of own address n ≡ p.slot address class n) → ((n : ℕ) → names.func_address n ≡ function_address n)
+      → Foreseen o s → Is (slots_follow i class slot q a ws o) (slot_step names own i q (word a) slot (words ws)) s
+  slot_follows names own i class slot q a ws (finds c d v o) s same address h = test_follows ((class == c) && (slot == d) && same_term (bare_address a) v) _ _ s (λ e.
+      let g = and_parts ((class == c) && (slot == d)) (same_term (bare_address a) v) e in
+      let l = and_parts (class == c) (slot == d) g.0 in
+      let at_address : word a ≡ word v = sym (bare_is a) ∙ ap (λ z. word z) (term_same (bare_address a) v g.1) in
+      let key : names.slot_of own (word a) slot ≡ p.slot (word v) c d = same (word a) slot ∙ (ap₂ (λ (m n : ℕ). p.slot m n slot) at_address (eqb-true class c l.0) ∙ ap (λ z. p.slot (word v) c z) (eqb-true slot d l.1)) in
+      (
+        λ n m. (ap (λ z. if_some z (traps BadVirtual) (λ k. stands (i + 1) q (names.func_address k ∷ words ws))) (key ∙ m)
+            ∙ ap (λ z. stands (i + 1) q (z ∷ words ws)) (address n ∙ (sym (mod-eq_of_lt (small.slots (word v) c d n m)) ∙ ap (λ (z : Option ℕ). function_address (number_found z) % 2 ^ 64) (sym m))), h.0 n m),
+        λ m. (ap (λ z. if_some z (traps BadVirtual) (λ k. stands (i + 1) q (names.func_address k ∷ words ws))) (key ∙ m), h.1 m),
+      ))
+  slot_follows names own i class slot q a ws o s same address h = tt
+
+  started_at : (i : ℕ) (q : Place) (ws : List Term) (n : ℕ) (arg : ℤ) (reply : Reply) → Answers (SpawnOf n arg) reply
+      → Runs (code.on_with (frame i q) (word_of (code.answered reply) ∷ words ws)) below_frames ≡ Runs (frame_at p f numbers (replied x reply) home (i + 1) (place_later q (variable 0 ∷ in_terms later ws))) below_frames
+  started_at i q ws n arg (Id v) fits = frame_later p f numbers x (Id v) home below_frames (i + 1) q q.opens (word_of v ∷ words ws) (variable 0 ∷ in_terms later ws) (ap (λ (z : List ℕ). word_of v ∷ z) (sym (words_later p f numbers x (Id v) ws)))
+  started_at i q ws n arg Nothing fits = absurd fits
+  started_at i q ws n arg (Loaded w) fits = absurd fits
+  started_at i q ws n arg (Byte v) fits = absurd fits
+
+  abbrev spawn_step : code.Names → ℕ → Place → (address argument : ℕ) → List ℕ → Act
+  spawn_step names i q address argument vs = if_some (names.spawned address) (traps BadCall) (λ n. Does (SpawnOf n (value_of_word Long argument)) (λ r. Runs (code.on_with (frame i q) (word_of (code.answered r) ∷ vs)) below_frames))
+
+  spawning_follows : (names : code.Names) (i : ℕ) (q : Place) (a v : Term) (ws : List Term) (o : Outcome) (s : State) → ((n : ℕ) → names.spawned n ≡ p.pointed n thread_signature)
+      → Foreseen o s → Is (spawning i q a v ws o) (spawn_step names i q (word a) (word v) (words ws)) s
+  spawning_follows names i q a v ws (spawns b u temporaries m) s same h = test_follows (same_term a b && same_term v u) _ _ s (λ e.
+      let g = and_parts (same_term a b) (same_term v u) e in
+      let key : names.spawned (word a) ≡ p.pointed (word b) thread_signature = same (word a) ∙ ap (λ z. p.pointed (word z) thread_signature) (term_same a b g.0) in
+      (
+        λ n l. (record {
+          on = λ r. Runs (code.on_with (frame i q) (word_of (code.answered r) ∷ words ws)) below_frames;
+          does = ap (λ z. if_some z (traps BadCall) (λ k. Does (SpawnOf k (value_of_word Long (word v))) (λ r. Runs (code.on_with (frame i q) (word_of (code.answered r) ∷ words ws)) below_frames))) (key ∙ l)
+              ∙ ap (λ z. Does (SpawnOf n (value_of_word Long (word z))) (λ r. Runs (code.on_with (frame i q) (word_of (code.answered r) ∷ words ws)) below_frames)) (term_same v u g.1);
+          then_at = λ reply fits. started_at i q ws n (value_of_word Long (word u)) reply fits;
+        }, h ∙ ap (λ z. source.spawn (here_of p f x temporaries) z (word u) (below p f x m rest)) l),
+        λ l. (ap (λ z. if_some z (traps BadCall) (λ k. Does (SpawnOf k (value_of_word Long (word v))) (λ r. Runs (code.on_with (frame i q) (word_of (code.answered r) ∷ words ws)) below_frames))) (key ∙ l),
+            record { here = here_of p f x temporaries; others = below p f x m rest; is = h ∙ ap (λ z. source.spawn (here_of p f x temporaries) z (word u) (below p f x m rest)) l }),
+      ))
+  spawning_follows names i q a v ws o s same h = tt
+
   base_same : (n : ℕ) → code.offset_by home.base n ≡ word (local n)
   unfolding source.plus
   base_same n = ap (λ z. code.offset_by z n) based
@@ -382,40 +453,43 @@ module _ (p : Program) (f : Func) (numbers : Typ → ℕ) (x : Values) (home : H
     abbrev steps : Instr → ℕ → Place → Act
     steps a i q = act names (renamed numbering a) (frame i q) below_frames
 
-    pub followed_follows : (i : ℕ) (a : Instr) (q : Place) (o : Outcome) (s : State) → Foreseen o s → Is (followed t i a q o) (steps a i q) s
-    followed_follows i (Push n) q o s h = test_follows (nat_lt n (2 ^ 64)) _ _ s (λ e. pushed i q o s (number n) q.operands n (sym (word_kept p f x n e)) h)
-    followed_follows i Dup q o s h = one_follows q.operands _ _ s (λ w vs. pushed i q o s w (w ∷ vs) (word w) refl h)
-    followed_follows i Pop q o s h = one_follows q.operands _ _ s (λ w vs. (refl, h))
-    followed_follows i Swap q o s h = two_follow q.operands _ _ s (λ a b vs. pushed i q o s a (b ∷ vs) (word a) refl h)
-    followed_follows i Over q o s h = two_follow q.operands _ _ s (λ a b vs. pushed i q o s a (b ∷ a ∷ vs) (word a) refl h)
-    followed_follows i (FrameAddr n) q o s h = pushed i q o s (local n) q.operands (code.offset_by home.base n) (base_same n) h
-    followed_follows i (GlobalAddr n) q o s h = named_follows (t.global_of n) _ _ s (λ m e. pushed i q o s (global m) q.operands _ (right.globals n m e ∙ sym (mod-eq_of_lt (small.globals f.unit m))) h)
-    followed_follows i (FuncAddr n) q o s h = named_follows (t.function_of n) _ _ s (λ m e. pushed i q o s (function m) q.operands _ (right.functions n m e ∙ sym (mod-eq_of_lt (small.functions f.unit m))) h)
-    followed_follows i (ClassAddr n) q o s h = named_follows (t.class_of n) _ _ s (λ m e. pushed i q o s (table m) q.operands _ (right.classes n m e ∙ sym (mod-eq_of_lt (small.tables m))) h)
-    followed_follows i (Load n) q o s h = found_follows (slice_get code.kinds n) _ _ _ s (λ k. one_follows q.operands _ _ s (λ a vs. loads_follow i q k false a vs o s h))
-    followed_follows i (TLoad n) q o s h = found_follows (slice_get code.kinds n) _ _ _ s (λ k. one_follows q.operands _ _ s (λ a vs. loads_follow i q k false a vs o s h))
-    followed_follows i (VLoad n) q o s h = found_follows (slice_get code.kinds n) _ _ _ s (λ k. one_follows q.operands _ _ s (λ a vs. loads_follow i q k true a vs o s h))
-    followed_follows i (Store n) q o s h = found_follows (slice_get code.kinds n) _ _ _ s (λ k. two_follow q.operands _ _ s (λ a w vs. stores_follow i q k false a w vs o s h))
-    followed_follows i (TStore n) q o s h = found_follows (slice_get code.kinds n) _ _ _ s (λ k. two_follow q.operands _ _ s (λ a w vs. stores_follow i q k false a w vs o s h))
-    followed_follows i (VStore n) q o s h = found_follows (slice_get code.kinds n) _ _ _ s (λ k. two_follow q.operands _ _ s (λ a w vs. stores_follow i q k true a w vs o s h))
-    followed_follows i (Bin op n) q o s h = found_follows (slice_get code.operators op) _ _ _ s (λ b. found_follows (slice_get code.kinds n) _ _ _ s (λ k. two_follow q.operands _ _ s (λ a c vs. operates_follow i q b k a c vs o s h)))
-    followed_follows i (Conv m n) q o s h = test_follows (m == 9) _ _ s (λ e. subst (λ z. Is (if_found (slice_get code.kinds n) (λ k. one_of q.operands (λ a ws. pushes i q o (converted_to k a) ws))) (code.conv_act z n (frame i q) below_frames) s) (sym (eqb-true m 9 e)) (conversion_follows i n q o s h))
-    followed_follows i (Jump n) q o s h = (refl, h)
-    followed_follows i (JumpZero n) q o s h = one_follows q.operands _ _ s (λ a vs. jumps_follow i n q a vs o s h)
-    followed_follows i (Begin n) q o s h = found_follows (slice_get code.block_kinds n) _ _ _ s (λ kind. begins_follow i q kind o s h)
-    followed_follows i End q o s h = ends_atomic_follows i q o s h
-    followed_follows i BeginSync q o s h = begins_locked_follows i q o s h
-    followed_follows i EndSync q o s h = ends_locked_follows i q o s h
-    followed_follows i Out q o s h = one_follows q.operands _ _ s (λ a vs. outputs_follow i q a vs o s h)
-    followed_follows i Inp q o s h = inputs_follow i q o s h
-    followed_follows i Join q o s h = one_follows q.operands _ _ s (λ a vs. joining_follows i q a vs o s h)
-    followed_follows i Abort q o s h = aborts_follow o s h
-    followed_follows i (NewException ty) q o s h = typed_follows (t.type_of ty) _ _ s (λ typ e.
+    pub followed_follows : (ks : List Fact) (i : ℕ) (a : Instr) (q : Place) (o : Outcome) (s : State) → AllHold p f x ks → Foreseen o s → Is (followed t ks i a q o) (steps a i q) s
+    followed_follows ks i (Push n) q o s known h = test_follows (nat_lt n (2 ^ 64)) _ _ s (λ e. pushed i q o s (number n) q.operands n (sym (word_kept p f x n e)) h)
+    followed_follows ks i Dup q o s known h = one_follows q.operands _ _ s (λ w vs. pushed i q o s w (w ∷ vs) (word w) refl h)
+    followed_follows ks i Pop q o s known h = one_follows q.operands _ _ s (λ w vs. (refl, h))
+    followed_follows ks i Swap q o s known h = two_follow q.operands _ _ s (λ a b vs. pushed i q o s a (b ∷ vs) (word a) refl h)
+    followed_follows ks i Over q o s known h = two_follow q.operands _ _ s (λ a b vs. pushed i q o s a (b ∷ a ∷ vs) (word a) refl h)
+    followed_follows ks i (FrameAddr n) q o s known h = pushed i q o s (local n) q.operands (code.offset_by home.base n) (base_same n) h
+    followed_follows ks i (GlobalAddr n) q o s known h = named_follows (t.global_of n) _ _ s (λ m e. pushed i q o s (global m) q.operands _ (right.globals n m e ∙ sym (mod-eq_of_lt (small.globals f.unit m))) h)
+    followed_follows ks i (FuncAddr n) q o s known h = named_follows (t.function_of n) _ _ s (λ m e. pushed i q o s (function m) q.operands _ (right.functions n m e ∙ sym (mod-eq_of_lt (small.functions f.unit m))) h)
+    followed_follows ks i (ClassAddr n) q o s known h = named_follows (t.class_of n) _ _ s (λ m e. pushed i q o s (table m) q.operands _ (right.classes n m e ∙ sym (mod-eq_of_lt (small.tables m))) h)
+    followed_follows ks i (Load n) q o s known h = found_follows (slice_get code.kinds n) _ _ _ s (λ k. one_follows q.operands _ _ s (λ a vs. loads_follow i q k false a vs o s h))
+    followed_follows ks i (TLoad n) q o s known h = found_follows (slice_get code.kinds n) _ _ _ s (λ k. one_follows q.operands _ _ s (λ a vs. loads_follow i q k false a vs o s h))
+    followed_follows ks i (VLoad n) q o s known h = found_follows (slice_get code.kinds n) _ _ _ s (λ k. one_follows q.operands _ _ s (λ a vs. loads_follow i q k true a vs o s h))
+    followed_follows ks i (Store n) q o s known h = found_follows (slice_get code.kinds n) _ _ _ s (λ k. two_follow q.operands _ _ s (λ a w vs. stores_follow i q k false a w vs o s h))
+    followed_follows ks i (TStore n) q o s known h = found_follows (slice_get code.kinds n) _ _ _ s (λ k. two_follow q.operands _ _ s (λ a w vs. stores_follow i q k false a w vs o s h))
+    followed_follows ks i (VStore n) q o s known h = found_follows (slice_get code.kinds n) _ _ _ s (λ k. two_follow q.operands _ _ s (λ a w vs. stores_follow i q k true a w vs o s h))
+    followed_follows ks i (Bin op n) q o s known h = found_follows (slice_get code.operators op) _ _ _ s (λ b. found_follows (slice_get code.kinds n) _ _ _ s (λ k. two_follow q.operands _ _ s (λ a c vs. operates_follow ks i q b k a c vs o s known h)))
+    followed_follows ks i (Conv m n) q o s known h = test_follows (m == 9) _ _ s (λ e. subst (λ z. Is (if_found (slice_get code.kinds n) (λ k. one_of q.operands (λ a ws. pushes i q o (converted_to k a) ws))) (code.conv_act z n (frame i q) below_frames) s) (sym (eqb-true m 9 e)) (conversion_follows i n q o s h))
+    followed_follows ks i (Jump n) q o s known h = (refl, h)
+    followed_follows ks i (JumpZero n) q o s known h = one_follows q.operands _ _ s (λ a vs. jumps_follow i n q a vs o s h)
+    followed_follows ks i (Begin n) q o s known h = found_follows (slice_get code.block_kinds n) _ _ _ s (λ kind. begins_follow i q kind o s h)
+    followed_follows ks i End q o s known h = ends_atomic_follows i q o s h
+    followed_follows ks i BeginSync q o s known h = begins_locked_follows i q o s h
+    followed_follows ks i EndSync q o s known h = ends_locked_follows i q o s h
+    followed_follows ks i Out q o s known h = one_follows q.operands _ _ s (λ a vs. outputs_follow i q a vs o s h)
+    followed_follows ks i Inp q o s known h = inputs_follow i q o s h
+    followed_follows ks i Join q o s known h = one_follows q.operands _ _ s (λ a vs. joining_follows i q a vs o s h)
+    followed_follows ks i Abort q o s known h = aborts_follow o s h
+    followed_follows ks i (NewException ty) q o s known h = typed_follows (t.type_of ty) _ _ s (λ typ e.
         (ap₂ (λ (n : ℕ) (z : List ℕ). holds i q (Building (record { ty = n; bytes = z })) (words q.operands)) (right.types ty typ e) no_bytes_same, h))
-    followed_follows i (PutException n m) q o s h = found_follows (slice_get code.kinds m) _ _ _ s (λ k. puts_follow i n k q o s q.hold h)
-    followed_follows i Throw q o s h = throws_follow i q o s q.hold h
-    followed_follows i Rethrow q o s h = rethrows_follow i q o s q.caught h
-    followed_follows i (GetException n m) q o s h = found_follows (slice_get code.kinds m) _ _ _ s (λ k. gets_follow i n k q o s q.caught h)
-    followed_follows i EndHandler q o s h = handler_follows i q o s q.caught h
-    followed_follows i Resume q o s h = resumes_follow i q o s q.hold h
-    followed_follows i a q o s h = tt
+    followed_follows ks i (PutException n m) q o s known h = found_follows (slice_get code.kinds m) _ _ _ s (λ k. puts_follow i n k q o s q.hold h)
+    followed_follows ks i Throw q o s known h = throws_follow i q o s q.hold h
+    followed_follows ks i Rethrow q o s known h = rethrows_follow i q o s q.caught h
+    followed_follows ks i (GetException n m) q o s known h = found_follows (slice_get code.kinds m) _ _ _ s (λ k. gets_follow i n k q o s q.caught h)
+    followed_follows ks i EndHandler q o s known h = handler_follows i q o s q.caught h
+    followed_follows ks i Resume q o s known h = resumes_follow i q o s q.hold h
+    followed_follows ks i (Slot c slot) q o s known h = typed_follows (t.class_of c) _ _ s (λ class e. one_follows q.operands _ _ s (λ a vs.
+        slot_follows names (numbering.class c) i class slot q a vs o s (λ address n. right.slots c class e address n) right.addresses h))
+    followed_follows ks i Spawn q o s known h = two_follow q.operands _ _ s (λ a v vs. spawning_follows names i q a v vs o s right.spawned h)
+    followed_follows ks i a q o s known h = tt

@@ -1,4 +1,5 @@
 pub mod SameTerms
+pub mod Facts
 pub mod Arithmetic
 pub mod Bytes
 pub mod Later

@@ -7,7 +7,7 @@ use Rattle.tx_ints.specs.declared.kinds.IntKind.TheVariants.{Bool as BoolKind, C
 use Rattle.tx_ints.specs.declared.kinds.BinOp.{BinOp}
 use Rattle.tx_ints.specs.declared.kinds.BinOp.TheVariants.{Add, Sub, Mul, Div, Rem, Shl, Shr, And, Xor, Or, Lt, Gt, Le, Ge, Eq, Ne}
 use Rattle.tx_code.specs.Meaning.{kinds, operators}
-use Rattle.symbolic_source.specs.Terms.{Term, number, variable, local, global, function, table, sum, product, before, low_byte, converted_to, result, field, Exception, unknown, made}
+use Rattle.symbolic_source.specs.Terms.{Term, number, variable, local, global, function, table, slot_function, sum, product, before, low_byte, converted_to, result, field, Exception, unknown, made}
 use Rattle.symbolic_code.specs.Same.{kind_place, operator_place, same_number, same_operator, same_exception, same_term}
 
 pub kind_found : (k : IntKind) → slice_get kinds (kind_place k) ≡ Some k
@@ -62,6 +62,10 @@ term_same (local m) (local n) h = ap local (eqb-true m n h)
 term_same (global m) (global n) h = ap global (eqb-true m n h)
 term_same (function m) (function n) h = ap function (eqb-true m n h)
 term_same (table m) (table n) h = ap table (eqb-true m n h)
+term_same (slot_function c s a) (slot_function d t b) h =
+    let g = and_parts ((c == d) && (s == t)) (same_term a b) h in
+    let l = and_parts (c == d) (s == t) g.0 in
+    ap₂ (λ u v. slot_function u v a) (eqb-true c d l.0) (eqb-true s t l.1) ∙ ap (λ z. slot_function d t z) (term_same a b g.1)
 term_same (sum a b) (sum c d) h = let g = and_parts (same_term a c) (same_term b d) h in ap₂ sum (term_same a c g.0) (term_same b d g.1)
 term_same (product a b) (product c d) h = let g = and_parts (same_term a c) (same_term b d) h in ap₂ product (term_same a c g.0) (term_same b d g.1)
 term_same (before a) (before c) h = ap before (term_same a c h)

@@ -3,32 +3,34 @@ use Rattle.std.specs.Prelude.{ℕ, ◌+◌, ◌==◌, ◌^◌, ℤ, ◌≡◌, B
 use Rattle.tx_ints.specs.declared.kinds.IntKind.{IntKind}
 use Rattle.tx_ints.specs.declared.kinds.IntKind.TheVariants.{Bool as BoolKind, ULong}
 use Rattle.tx_ints.specs.declared.kinds.BinOp.{BinOp}
-use Rattle.tx_ints.specs.declared.kinds.BinOp.TheVariants.{Add, Mul, Eq}
+use Rattle.tx_ints.specs.declared.kinds.BinOp.TheVariants.{Add, Sub, Mul, Eq}
 use Rattle.tx_ints.specs.declared.kinds.ArithTrap.{ArithTrap}
 use Rattle.tx_events.specs.declared.BlockKind.{BlockKind}
 use Rattle.tx_events.specs.declared.End.{End as Ending}
-use Rattle.tx_events.specs.declared.End.TheVariants.{Abort as Aborts, Trapped}
+use Rattle.tx_events.specs.declared.End.TheVariants.{Abort as Aborts, Terminate, Trapped}
+use Rattle.tx_events.specs.declared.Trap.TheVariants.{BadCall, BadVirtual}
 use Rattle.tx_events.specs.declared.Event.{Event}
 use Rattle.tx_events.specs.declared.Event.TheVariants.{Stop}
 use Rattle.tx_events.specs.declared.Reply.{Reply}
 use Rattle.tx_events.specs.Thread.{Open, Atomic, Sync, Answers, same_kind, rest_of}
 use Rattle.tx_code.specs.declared.instr.Instr.{Instr}
-use Rattle.tx_code.specs.declared.instr.Instr.TheVariants.{Push, Dup, Pop, Swap, FrameAddr, GlobalAddr, FuncAddr, ClassAddr, Load, Store, TLoad, TStore, VLoad, VStore, Bin, Conv, Jump, JumpZero, Begin, End, BeginSync, EndSync, Out, Inp, Join, Abort, NewException, PutException, Throw, Rethrow, GetException, EndHandler, Resume, Over}
-use Rattle.tx_code.specs.Meaning.{kinds, operators, block_kinds, size_of, Frame, Home, Runs, Unwinds, Act, Does, Ends, goes as acts, traps}
+use Rattle.tx_code.specs.declared.instr.Instr.TheVariants.{Push, Dup, Pop, Swap, FrameAddr, GlobalAddr, FuncAddr, ClassAddr, Load, Store, TLoad, TStore, VLoad, VStore, Bin, Conv, Jump, JumpZero, Begin, End, BeginSync, EndSync, Out, Inp, Spawn, Join, Abort, Slot, NewException, PutException, Throw, Rethrow, GetException, EndHandler, Resume, Over}
+use Rattle.tx_code.specs.Meaning.{kinds, operators, block_kinds, size_of, Frame, Home, Runs, Unwinds, Act, Does, Ends, if_some, current, goes as acts, traps}
 use Rattle.tx_code.specs.Meaning as code
 use Rattle.tx_code.specs.Renaming.{Numbering}
 use Rattle.cpp_tree.specs.cpp_layout.Layout.{kind_size, function_address}
-use Rattle.cpp_tree.specs.cpp_types.Typ.{Typ}
+use Rattle.cpp_tree.specs.cpp_types.Typ.{Typ, Signature}
 use Rattle.src_mean.specs.Linked.{Func, Program}
 use Rattle.src_mean.specs.Frames.{State}
 use Rattle.src_mean.specs.Frames as frames
-use Rattle.src_mean.specs.Source.{applied, trap_of}
-use Rattle.symbolic_source.specs.Terms.{Term, number, variable, local, global, function, table, sum, product, low_byte, converted_to, result, field, Exception, made, untouched, put, Values, eval, exception_of, plus_number}
-use Rattle.symbolic_source.specs.Frames.{Waiting, Exit, throws, returns, breaks, continues, below, here_of}
+use Rattle.src_mean.specs.Source.{applied, trap_of, rethrow, thread_signature}
+use Rattle.symbolic_source.specs.Terms.{Term, number, variable, local, global, function, table, slot_function, sum, product, low_byte, converted_to, result, field, Exception, made, untouched, put, Values, eval, exception_of, plus_number, one_less}
+use Rattle.symbolic_source.specs.Frames.{Waiting, Exit, throws, returns, breaks, continues, Replied, below, here_of}
 use Rattle.symbolic_source.specs.Frames as symbolic
-use Rattle.symbolic_source.specs.Outcomes.{Doing, silent, reads, writes, puts_out, takes_in, joins, begins_atomic, begins_sync, ends_block, leaves_block, Outcome, stuck, goes, chooses, results, halts, Shows, Stops, event_of}
+use Rattle.symbolic_source.specs.Outcomes.{Doing, silent, reads, writes, puts_out, takes_in, joins, spawns_thread, begins_atomic, begins_sync, ends_block, leaves_block, Outcome, stuck, goes, chooses, results, finds, spawns, rethrows, halts, Shows, Stops, event_of}
 use Rattle.symbolic_source.specs.Replacing.{in_terms}
 use Rattle.symbolic_code.specs.Same.{kind_place, same_term, same_number, same_operator}
+use Rattle.symbolic_code.specs.Facts.{Fact, AllHold, is_not_zero}
 use Rattle.symbolic_code.specs.Places.{Place, Hold, nothing, making, flying, coded, frame_at, replied, later, with_operands, holding, place_later, opened_later}
 
 -- what names stand for in a function of the source: globals, functions and classes by their places; and types
@@ -37,6 +39,9 @@ pub record Table : Type 0 where
   pub function_of : ℕ → Option ℕ
   pub class_of : ℕ → Option ℕ
   pub type_of : ℕ → Option Typ
+  pub signature_of : ℕ → Option Signature
+  -- a type of functions is that of a slot of a class
+  pub is_slot : (name class slot : ℕ) → Bool
 
 -- what comes of an instruction
 pub data Next : Type 0 where
@@ -46,6 +51,9 @@ pub data Next : Type 0 where
   unless_trap : BinOp → IntKind → (left right : Term) → Next → Next
   loudly : Doing → (temporaries : List Waiting) → List symbolic.Frame → (index : ℕ) → Place → Next  -- an event, and the place after its reply
   throwing : Exception → (index : ℕ) → Place → Outcome → Next  -- a silent step, and the exception is in flight at this index
+  finding : (class slot : ℕ) → Term → Next → Next  -- whether the slot of the class at this address has a function
+  starting : (address argument : Term) → (temporaries : List Waiting) → List symbolic.Frame → (index : ℕ) → Place → Next  -- a thread, and the place after the reply
+  rethrowing : (temporaries : List Waiting) → List symbolic.Frame → (index : ℕ) → Place → Next  -- what a caller's handler has
   ends : Ending → Next
 
 -- ---- operands
@@ -135,19 +143,20 @@ aborts o = refused
 
 -- ---- operators and jumps
 
--- sums and products of addresses, and the test of a label: they do not trap
-abbrev pub addresses : BinOp → IntKind → Term → Term → Option Term
-addresses Add ULong a (number n) = Some (plus_number a n)
-addresses Add ULong a b = Some (sum a b)
-addresses Mul ULong a b = Some (product a b)
-addresses Eq ULong a b = Some (result Eq ULong a b)
-addresses op k a b = None
+-- sums and products of addresses, one less of what is not 0, and the test of a label: they do not trap
+abbrev pub addresses : List Fact → BinOp → IntKind → Term → Term → Option Term
+addresses ks Add ULong a (number n) = Some (plus_number a n)
+addresses ks Add ULong a b = Some (sum a b)
+addresses ks Sub ULong a (number n) = cond ((n == 1) && is_not_zero ks a) (Some (one_less a)) None
+addresses ks Mul ULong a b = Some (product a b)
+addresses ks Eq ULong a b = Some (result Eq ULong a b)
+addresses ks op k a b = None
 
-abbrev pub operates : ℕ → Place → BinOp → IntKind → Term → Term → List Term → Outcome → Next
-operates i q op k a b ws (results oq j c d o) = cond (same_operator op oq && same_number k j && (same_term a c && same_term b d))
+abbrev pub operates : List Fact → ℕ → Place → BinOp → IntKind → Term → Term → List Term → Outcome → Next
+operates ks i q op k a b ws (results oq j c d o) = cond (same_operator op oq && same_number k j && (same_term a c && same_term b d))
     (unless_trap op k a b (pushes i q o (result op k a b) ws))
-    (if_found (addresses op k a b) (λ w. pushes i q (results oq j c d o) w ws))
-operates i q op k a b ws o = if_found (addresses op k a b) (λ w. pushes i q o w ws)
+    (if_found (addresses ks op k a b) (λ w. pushes i q (results oq j c d o) w ws))
+operates ks i q op k a b ws o = if_found (addresses ks op k a b) (λ w. pushes i q o w ws)
 
 abbrev pub jumps_zero : ℕ → ℕ → Place → Term → List Term → Outcome → Next
 jumps_zero i n q a ws (chooses w first other) = cond (same_term a w) (either_way a (quietly n (with_operands q ws) first) (quietly (i + 1) (with_operands q ws) other)) refused
@@ -167,8 +176,9 @@ abbrev pub resumes : ℕ → Place → Outcome → Hold → Next
 resumes i q o (flying e) = throwing e i (holding q nothing) o
 resumes i q o h = refused
 
--- of a handler of this function
+-- of a handler of this function, or of a caller's
 abbrev pub rethrows_caught : ℕ → Place → Outcome → List Exception → Next
+rethrows_caught i q (rethrows temporaries rest) [] = rethrowing temporaries rest i (holding q nothing)
 rethrows_caught i q o [] = refused
 rethrows_caught i q o (e ∷ es) = throwing e i (holding q nothing) o
 
@@ -180,44 +190,61 @@ abbrev pub handler_ends : ℕ → Place → Outcome → List Exception → Next
 handler_ends i q o [] = refused
 handler_ends i q o (e ∷ es) = quietly (i + 1) (record { operands = q.operands; opens = q.opens; caught = es; hold = q.hold }) o
 
+-- ---- functions that are found, and threads
+
+-- what reads an address as a number reads the address
+abbrev pub bare_address : Term → Term
+bare_address (converted_to ULong w) = w
+bare_address w = w
+
+abbrev pub slots_follow : ℕ → (class slot : ℕ) → Place → Term → List Term → Outcome → Next
+slots_follow i class slot q a ws (finds c s v o) = cond ((class == c) && (slot == s) && same_term (bare_address a) v) (finding c s v (pushes i q o (slot_function c s v) ws)) refused
+slots_follow i class slot q a ws o = refused
+
+abbrev pub spawning : ℕ → Place → Term → Term → List Term → Outcome → Next
+spawning i q a v ws (spawns b u temporaries rest) = cond (same_term a b && same_term v u) (starting b u temporaries rest (i + 1) (place_later q (variable 0 ∷ in_terms later ws))) refused
+spawning i q a v ws o = refused
+
 -- ---- instructions
 
-abbrev pub followed : Table → (index : ℕ) → Instr → Place → Outcome → Next
-followed t i (Push n) q o = cond (nat_lt n (2 ^ 64)) (pushes i q o (number n) q.operands) refused
-followed t i Dup q o = one_of q.operands (λ w ws. pushes i q o w (w ∷ ws))
-followed t i Pop q o = one_of q.operands (λ w ws. quietly (i + 1) (with_operands q ws) o)
-followed t i Swap q o = two_of q.operands (λ a b ws. pushes i q o a (b ∷ ws))
-followed t i Over q o = two_of q.operands (λ a b ws. pushes i q o a (b ∷ a ∷ ws))
-followed t i (FrameAddr n) q o = pushes i q o (local n) q.operands
-followed t i (GlobalAddr s) q o = if_found (t.global_of s) (λ n. pushes i q o (global n) q.operands)
-followed t i (FuncAddr s) q o = if_found (t.function_of s) (λ n. pushes i q o (function n) q.operands)
-followed t i (ClassAddr s) q o = if_found (t.class_of s) (λ n. pushes i q o (table n) q.operands)
-followed t i (Load n) q o = if_found (slice_get kinds n) (λ k. one_of q.operands (λ a ws. loads i q k false a ws o))
-followed t i (TLoad n) q o = if_found (slice_get kinds n) (λ k. one_of q.operands (λ a ws. loads i q k false a ws o))
-followed t i (VLoad n) q o = if_found (slice_get kinds n) (λ k. one_of q.operands (λ a ws. loads i q k true a ws o))
-followed t i (Store n) q o = if_found (slice_get kinds n) (λ k. two_of q.operands (λ a w ws. stores i q k false a w ws o))
-followed t i (TStore n) q o = if_found (slice_get kinds n) (λ k. two_of q.operands (λ a w ws. stores i q k false a w ws o))
-followed t i (VStore n) q o = if_found (slice_get kinds n) (λ k. two_of q.operands (λ a w ws. stores i q k true a w ws o))
-followed t i (Bin op n) q o = if_found (slice_get operators op) (λ b. if_found (slice_get kinds n) (λ k. two_of q.operands (λ a c ws. operates i q b k a c ws o)))
-followed t i (Conv m n) q o = cond (m == 9) (if_found (slice_get kinds n) (λ k. one_of q.operands (λ a ws. pushes i q o (converted_to k a) ws))) refused
-followed t i (Jump n) q o = quietly n q o
-followed t i (JumpZero n) q o = one_of q.operands (λ a ws. jumps_zero i n q a ws o)
-followed t i (Begin n) q o = if_found (slice_get block_kinds n) (λ kind. begins i q kind o)
-followed t i End q o = ends_atomic i q o
-followed t i BeginSync q o = begins_locked i q o
-followed t i EndSync q o = ends_locked i q o
-followed t i Out q o = one_of q.operands (λ a ws. outputs i q a ws o)
-followed t i Inp q o = inputs i q o
-followed t i Join q o = one_of q.operands (λ a ws. joining i q a ws o)
-followed t i Abort q o = aborts o
-followed t i (NewException ty) q o = if_found (t.type_of ty) (λ typ. quietly (i + 1) (holding q (making typ untouched)) o)
-followed t i (PutException n m) q o = if_found (slice_get kinds m) (λ k. puts_in i n k q o q.hold)
-followed t i Throw q o = throws_made i q o q.hold
-followed t i Rethrow q o = rethrows_caught i q o q.caught
-followed t i (GetException n m) q o = if_found (slice_get kinds m) (λ k. gets_caught i n k q o q.caught)
-followed t i EndHandler q o = handler_ends i q o q.caught
-followed t i Resume q o = resumes i q o q.hold
-followed t i a q o = refused
+abbrev pub followed : Table → List Fact → (index : ℕ) → Instr → Place → Outcome → Next
+followed t ks i (Push n) q o = cond (nat_lt n (2 ^ 64)) (pushes i q o (number n) q.operands) refused
+followed t ks i Dup q o = one_of q.operands (λ w ws. pushes i q o w (w ∷ ws))
+followed t ks i Pop q o = one_of q.operands (λ w ws. quietly (i + 1) (with_operands q ws) o)
+followed t ks i Swap q o = two_of q.operands (λ a b ws. pushes i q o a (b ∷ ws))
+followed t ks i Over q o = two_of q.operands (λ a b ws. pushes i q o a (b ∷ a ∷ ws))
+followed t ks i (FrameAddr n) q o = pushes i q o (local n) q.operands
+followed t ks i (GlobalAddr s) q o = if_found (t.global_of s) (λ n. pushes i q o (global n) q.operands)
+followed t ks i (FuncAddr s) q o = if_found (t.function_of s) (λ n. pushes i q o (function n) q.operands)
+followed t ks i (ClassAddr s) q o = if_found (t.class_of s) (λ n. pushes i q o (table n) q.operands)
+followed t ks i (Load n) q o = if_found (slice_get kinds n) (λ k. one_of q.operands (λ a ws. loads i q k false a ws o))
+followed t ks i (TLoad n) q o = if_found (slice_get kinds n) (λ k. one_of q.operands (λ a ws. loads i q k false a ws o))
+followed t ks i (VLoad n) q o = if_found (slice_get kinds n) (λ k. one_of q.operands (λ a ws. loads i q k true a ws o))
+followed t ks i (Store n) q o = if_found (slice_get kinds n) (λ k. two_of q.operands (λ a w ws. stores i q k false a w ws o))
+followed t ks i (TStore n) q o = if_found (slice_get kinds n) (λ k. two_of q.operands (λ a w ws. stores i q k false a w ws o))
+followed t ks i (VStore n) q o = if_found (slice_get kinds n) (λ k. two_of q.operands (λ a w ws. stores i q k true a w ws o))
+followed t ks i (Bin op n) q o = if_found (slice_get operators op) (λ b. if_found (slice_get kinds n) (λ k. two_of q.operands (λ a c ws. operates ks i q b k a c ws o)))
+followed t ks i (Conv m n) q o = cond (m == 9) (if_found (slice_get kinds n) (λ k. one_of q.operands (λ a ws. pushes i q o (converted_to k a) ws))) refused
+followed t ks i (Jump n) q o = quietly n q o
+followed t ks i (JumpZero n) q o = one_of q.operands (λ a ws. jumps_zero i n q a ws o)
+followed t ks i (Begin n) q o = if_found (slice_get block_kinds n) (λ kind. begins i q kind o)
+followed t ks i End q o = ends_atomic i q o
+followed t ks i BeginSync q o = begins_locked i q o
+followed t ks i EndSync q o = ends_locked i q o
+followed t ks i Out q o = one_of q.operands (λ a ws. outputs i q a ws o)
+followed t ks i Inp q o = inputs i q o
+followed t ks i Join q o = one_of q.operands (λ a ws. joining i q a ws o)
+followed t ks i Abort q o = aborts o
+followed t ks i (NewException ty) q o = if_found (t.type_of ty) (λ typ. quietly (i + 1) (holding q (making typ untouched)) o)
+followed t ks i (PutException n m) q o = if_found (slice_get kinds m) (λ k. puts_in i n k q o q.hold)
+followed t ks i Throw q o = throws_made i q o q.hold
+followed t ks i Rethrow q o = rethrows_caught i q o q.caught
+followed t ks i (GetException n m) q o = if_found (slice_get kinds m) (λ k. gets_caught i n k q o q.caught)
+followed t ks i EndHandler q o = handler_ends i q o q.caught
+followed t ks i Resume q o = resumes i q o q.hold
+followed t ks i (Slot c slot) q o = if_found (t.class_of c) (λ class. one_of q.operands (λ a ws. slots_follow i class slot q a ws o))
+followed t ks i Spawn q o = two_of q.operands (λ a v ws. spawning i q a v ws o)
+followed t ks i a q o = refused
 
 -- ---- what it says of the machine
 
@@ -237,6 +264,13 @@ module _ (p : Program) (f : Func) (numbers : Typ → ℕ) (x : Values) (home : H
       × ((trap : ArithTrap) → applied op kind (eval p f x a) (eval p f x b) ≡ Err trap → (act ≡ Ends (Stop (Trapped (trap_of trap)))) × Stops (Trapped (trap_of trap)) s)
   Follows (loudly doing ws k index q) act s = Loud doing index q act × (s ≡ frames.at (event_of p f x doing) (here_of p f x ws) (below p f x k rest))
   Follows (throwing e index q o) act s = (act ≡ acts (Unwinds (coded numbers (exception_of p f x e)) (frame_at p f numbers x home index q) below_frames)) × Shows p f x rest o s
+  Follows (finding class slot w next) act s = ((n : ℕ) → p.slot (eval p f x w) class slot ≡ Some n → Follows next act s)
+      × (p.slot (eval p f x w) class slot ≡ None → (act ≡ Ends (Stop (Trapped BadVirtual))) × Stops (Trapped BadVirtual) s)
+  Follows (starting address argument ws k index q) act s = ((n : ℕ) → p.pointed (eval p f x address) thread_signature ≡ Some n
+          → Loud (spawns_thread n argument) index q act × (s ≡ frames.at (event_of p f x (spawns_thread n argument)) (here_of p f x ws) (below p f x (Replied ∷ k) rest)))
+      × (p.pointed (eval p f x address) thread_signature ≡ None → (act ≡ Ends (Stop (Trapped BadCall))) × Stops (Trapped BadCall) s)
+  Follows (rethrowing ws k index q) act s = (act ≡ if_some (current below_frames) (Ends (Stop Terminate)) (λ e. acts (Unwinds e (frame_at p f numbers x home index q) below_frames)))
+      × (s ≡ rethrow (here_of p f x ws) (frames.handled rest) (below p f x k rest))
   Follows (ends end) act s = (act ≡ Ends (Stop end)) × Stops end s
 
 -- the table is right for the names of this function, where types have these numbers
@@ -245,3 +279,8 @@ pub record AreNames (p : Program) (f : Func) (numbers : Typ → ℕ) (names : co
   pub functions : (s n : ℕ) → t.function_of s ≡ Some n → names.func_address (numbering.func s) ≡ function_address (p.number f.unit n)
   pub classes : (s n : ℕ) → t.class_of s ≡ Some n → names.class_address (numbering.class s) ≡ p.table n
   pub types : (s : ℕ) (typ : Typ) → t.type_of s ≡ Some typ → numbering.ty s ≡ numbers typ
+  pub addresses : (n : ℕ) → names.func_address n ≡ function_address n
+  pub slots : (s class : ℕ) → t.class_of s ≡ Some class → (a slot : ℕ) → names.slot_of (numbering.class s) a slot ≡ p.slot a class slot
+  pub spawned : (a : ℕ) → names.spawned a ≡ p.pointed a thread_signature
+  pub signatures : (s : ℕ) (sig : Signature) → t.signature_of s ≡ Some sig → (a : ℕ) → names.called (numbering.ty s) a ≡ p.pointed a sig
+  pub methods : (s class slot a n : ℕ) → t.is_slot s class slot ≡ true → p.slot a class slot ≡ Some n → names.called (numbering.ty s) (function_address n) ≡ Some n

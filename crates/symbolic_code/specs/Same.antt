@@ -4,7 +4,7 @@ use Rattle.tx_ints.specs.declared.kinds.IntKind.{IntKind}
 use Rattle.tx_ints.specs.declared.kinds.IntKind.TheVariants.{Bool as BoolKind, Char, SChar, UChar, Short, UShort, Int, UInt, Long, ULong, LLong, ULLong}
 use Rattle.tx_ints.specs.declared.kinds.BinOp.{BinOp}
 use Rattle.tx_ints.specs.declared.kinds.BinOp.TheVariants.{Add, Sub, Mul, Div, Rem, Shl, Shr, And, Xor, Or, Lt, Gt, Le, Ge, Eq, Ne}
-use Rattle.symbolic_source.specs.Terms.{Term, number, variable, local, global, function, table, sum, product, before, low_byte, converted_to, result, field, Exception, unknown, made}
+use Rattle.symbolic_source.specs.Terms.{Term, number, variable, local, global, function, table, slot_function, sum, product, before, low_byte, converted_to, result, field, Exception, unknown, made}
 
 -- the places of kinds and operators in their lists
 abbrev pub kind_place : IntKind → ℕ
@@ -57,6 +57,7 @@ same_term (local m) (local n) = m == n
 same_term (global m) (global n) = m == n
 same_term (function m) (function n) = m == n
 same_term (table m) (table n) = m == n
+same_term (slot_function c s a) (slot_function d t b) = (c == d) && (s == t) && same_term a b
 same_term (sum a b) (sum c d) = same_term a c && same_term b d
 same_term (product a b) (product c d) = same_term a c && same_term b d
 same_term (before a) (before c) = same_term a c

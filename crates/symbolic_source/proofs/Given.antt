@@ -22,8 +22,8 @@ use Rattle.src_mean.specs.Frames.{Owner, State, Change}
 use Rattle.src_mean.specs.Frames as frames
 use Rattle.src_mean.specs.Source.{plus, applied, case_word, from_label, is_case, is_default}
 use Rattle.src_mean.specs.Source as source
-use Rattle.symbolic_source.specs.Terms.{Term, Exception, unknown, made, Puts, put, exception_of, bytes_put, number, global, function, table, result, field, converted_to, Values, word_or_zero, eval, plus_number, one_less}
-use Rattle.symbolic_source.specs.Frames.{Spot, at_word, at_tree, Waiting, Way, value, into, Exit, throws, returns, breaks, continues, Callee, known, virtual, pointer, builtin, Frame, Run, Address, Then, Gives, Leaves, Loads, Loaded, Replied, StoreTo, Converts, Right, Apply, Choose, AssignTo, UpdateAt, UpdateOld, UpdateBy, CopyTo, CopyBy, From, Words, Object, Slot, Pointer, Passes, Full, Keeps, Scope, Waits, InitAt, Cleans, Due, Destroys, Parts, Each, Items, Test, Body, Step, Picks, Compares, Switches, Returning, Opens, Within, Closes, Throws, Fills, Filled, Tries, Trying, Takes, Taking, Handling, waitings_of, words_of, way_of, exit_of, callee_of, frame_of, below, here_of, spot_of, number_found, spot_frame, puts_some, handled}
+use Rattle.symbolic_source.specs.Terms.{Term, Exception, unknown, made, Puts, put, exception_of, bytes_put, number, global, function, table, result, field, converted_to, Values, word_or_zero, number_found, eval, plus_number, one_less}
+use Rattle.symbolic_source.specs.Frames.{Spot, at_word, at_tree, Waiting, Way, value, into, Exit, throws, returns, breaks, continues, Callee, known, virtual, pointer, builtin, Frame, Run, Address, Then, Gives, Leaves, Loads, Loaded, Replied, StoreTo, Converts, Right, Apply, Choose, AssignTo, UpdateAt, UpdateOld, UpdateBy, CopyTo, CopyBy, From, Words, Object, Slot, Pointer, Passes, Full, Keeps, Scope, Waits, InitAt, Cleans, Due, Destroys, Parts, Each, Items, Test, Body, Step, Picks, Compares, Switches, Returning, Opens, Within, Closes, Throws, Fills, Filled, Tries, Trying, Takes, Taking, Handling, waitings_of, words_of, way_of, exit_of, callee_of, frame_of, below, here_of, spot_of, spot_frame, puts_some, handled}
 use Rattle.symbolic_source.specs.Outcomes.{Outcome, stuck, goes, silent, writes, either, Shows, Stops}
 use Rattle.symbolic_source.specs.Steps.{Answers, if_word, left, result_words, target_of, source_of, called, element_at, destroys_next, each_next, same_word, run_items, compared, caught, taken, handling, tried, take_field, take_bytes, fill_field, rethrown, destroyed, return_value, first_part, ran, updated, given}
 use Rattle.symbolic_source.specs.Small.{IsSmall, AreWords, AreRight}
@@ -201,7 +201,7 @@ module _ (p : Program) (f : Func) (x : Values) (answers : Answers) (rest : List 
       × (o ≡ None → Stops (Trapped BadVirtual) (source.call_slot p (h_of ws) o (words_of p f x before) words (k_of k)))
   found_shown ws class slot v before words k None e = (λ n i. absurd cc, λ i. record { here = h_of ws; others = k_of k; is = refl })
   found_shown ws class slot v before words k (Some m) e = (
-    λ n i. subst (λ z. Is (called ws (virtual class slot v) before words k) (source.call p (h_of ws) (frames.virtual z) (words_of p f x before) words (k_of k))) (ap (number_found p f x) e) (called_shown p f x rest ws (virtual class slot v) before words k),
+    λ n i. subst (λ z. Is (called ws (virtual class slot v) before words k) (source.call p (h_of ws) (frames.virtual z) (words_of p f x before) words (k_of k))) (ap (λ (z : Option ℕ). number_found z) e) (called_shown p f x rest ws (virtual class slot v) before words k),
     λ i. absurd cc,
   )
 

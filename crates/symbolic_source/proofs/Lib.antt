@@ -4,3 +4,4 @@ pub mod Shown
 pub mod Given
 pub mod Advance
 pub mod Replaced
+pub mod Below

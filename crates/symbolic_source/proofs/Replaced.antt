@@ -1,11 +1,11 @@
 -- What stands for a form with terms in the place of its variables.
 use Rattle.std.proofs.Common.{ℕ, ℤ, ◌≡◌, ◌+◌, ◌%◌, ◌*◌, ◌-◌, ◌^◌, Bool, refl, ap, ap₂, sym, ◌∙◌, subst, List, [], ◌∷◌, Option, Some, None, Ok, Err}
 use Rattle.cpp_tree.specs.tx_ints.declared.kinds.ArithTrap.{ArithTrap}
-use Rattle.cpp_tree.specs.tx_ints.declared.kinds.IntKind.TheVariants.{Int}
+use Rattle.cpp_tree.specs.tx_ints.declared.kinds.IntKind.TheVariants.{Int, Long}
 use Rattle.cpp_tree.specs.tx_ints.Words.{value_of_word}
 use Rattle.cpp_tree.specs.tx_events.declared.End.TheVariants.{Trapped}
-use Rattle.cpp_tree.specs.tx_events.declared.Event.TheVariants.{Load as Reads, Store as Writes, Out, Join as Joins}
-use Rattle.cpp_tree.specs.cpp_layout.Layout.{kind_size}
+use Rattle.cpp_tree.specs.tx_events.declared.Event.TheVariants.{Load as Reads, Store as Writes, Out, Spawn as Spawns, Join as Joins}
+use Rattle.cpp_tree.specs.cpp_layout.Layout.{kind_size, function_address}
 use Rattle.cpp_tree.specs.Trees.{literal}
 use Rattle.src_mean.specs.Linked.{Func, Program}
 use Rattle.src_mean.specs.Exceptions.{read_bytes, bytes_of, with_bytes}
@@ -13,9 +13,9 @@ use Rattle.src_mean.specs.Exceptions as exceptions
 use Rattle.src_mean.specs.Frames.{State}
 use Rattle.src_mean.specs.Frames as frames
 use Rattle.src_mean.specs.Source.{plus, converted, applied, stored_bytes, trap_of, closing, give, leave, invoke, spawn, rethrow, thread_signature}
-use Rattle.symbolic_source.specs.Terms.{Term, number, variable, local, global, function, table, sum, product, before, low_byte, converted_to, result, field, Exception, unknown, made, Puts, untouched, put, Values, word_or_zero, eval, exception_of, bytes_put}
-use Rattle.symbolic_source.specs.Frames.{Spot, at_word, at_tree, Waiting, Way, value, into, Exit, throws, returns, breaks, continues, Callee, known, virtual, pointer, builtin, Frame, Run, Address, Then, Gives, Leaves, StoreTo, Apply, Choose, UpdateOld, UpdateBy, CopyBy, From, Words, Object, Slot, Pointer, Passes, Full, Keeps, Scope, Waits, Cleans, Destroys, Parts, Each, Compares, Fills, Filled, Trying, Takes, Taking, Handling, spot_of, waiting_of, waitings_of, words_of, way_of, exit_of, callee_of, frame_of, below, here_of, number_found}
-use Rattle.symbolic_source.specs.Outcomes.{Doing, silent, reads, writes, puts_out, takes_in, joins, begins_atomic, begins_sync, ends_block, leaves_block, Outcome, stuck, goes, hands, goes_out, chooses, results, finds, calls, spawns, rethrows, halts, Shows, Stops, event_of}
+use Rattle.symbolic_source.specs.Terms.{Term, number, variable, local, global, function, table, slot_function, sum, product, before, low_byte, converted_to, result, field, Exception, unknown, made, Puts, untouched, put, Values, word_or_zero, number_found, eval, exception_of, bytes_put}
+use Rattle.symbolic_source.specs.Frames.{Spot, at_word, at_tree, Waiting, Way, value, into, Exit, throws, returns, breaks, continues, Callee, known, virtual, pointer, builtin, Frame, Run, Address, Then, Gives, Leaves, StoreTo, Apply, Choose, UpdateOld, UpdateBy, CopyBy, From, Words, Object, Slot, Pointer, Passes, Full, Keeps, Scope, Waits, Cleans, Destroys, Parts, Each, Compares, Fills, Filled, Trying, Takes, Taking, Handling, spot_of, waiting_of, waitings_of, words_of, way_of, exit_of, callee_of, frame_of, below, here_of}
+use Rattle.symbolic_source.specs.Outcomes.{Doing, silent, reads, writes, puts_out, takes_in, joins, spawns_thread, begins_atomic, begins_sync, ends_block, leaves_block, Outcome, stuck, goes, hands, goes_out, chooses, results, finds, calls, spawns, rethrows, halts, Shows, Stops, event_of}
 use Rattle.symbolic_source.specs.Replacing.{Replacing, seen_by, in_term, in_exception, in_puts, in_terms, in_spot, in_waiting, in_waitings, in_way, in_exit, in_callee, in_frame, in_frames, in_doing, in_outcome}
 
 module _ (p : Program) (f : Func) (r : Replacing) (x : Values) where
@@ -25,6 +25,7 @@ module _ (p : Program) (f : Func) (r : Replacing) (x : Values) where
   mutual
     pub term_replaced : (t : Term) → eval p f x (in_term r t) ≡ eval p f y t
     term_replaced (variable n) = refl
+    term_replaced (slot_function class slot a) = ap (λ z. function_address (number_found (p.slot z class slot)) % 2 ^ 64) (term_replaced a)
     term_replaced (sum a b) = ap₂ plus (term_replaced a) (term_replaced b)
     term_replaced (product a b) = ap₂ (λ u v. (u * v) % 2 ^ 64) (term_replaced a) (term_replaced b)
     term_replaced (before a) = ap (λ z. z - 1) (term_replaced a)
@@ -70,7 +71,7 @@ module _ (p : Program) (f : Func) (r : Replacing) (x : Values) where
 
   callee_replaced : (callee : Callee) → callee_of p f x (in_callee r callee) ≡ callee_of p f y callee
   callee_replaced (known n) = refl
-  callee_replaced (virtual class slot address) = ap (λ z. frames.virtual (number_found p f x (p.slot z class slot))) (term_replaced address)
+  callee_replaced (virtual class slot address) = ap (λ z. frames.virtual (number_found (p.slot z class slot))) (term_replaced address)
   callee_replaced (pointer address sig) = ap (λ z. frames.pointer z sig) (term_replaced address)
   callee_replaced (builtin which) = refl
 
@@ -115,6 +116,7 @@ module _ (p : Program) (f : Func) (r : Replacing) (x : Values) where
   doing_replaced (writes address kind w volatile) = ap₂ (λ u v. Writes u (kind_size kind) (stored_bytes kind v) volatile) (term_replaced address) (term_replaced w)
   doing_replaced (puts_out byte) = ap Out (term_replaced byte)
   doing_replaced (joins id) = ap (λ z. Joins (value_of_word Int z)) (term_replaced id)
+  doing_replaced (spawns_thread func argument) = ap (λ z. Spawns func (value_of_word Long z)) (term_replaced argument)
   doing_replaced (leaves_block block exit) = ap (λ z. closing block z) (exit_replaced exit)
   doing_replaced doing = refl
 

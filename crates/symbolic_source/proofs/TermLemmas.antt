@@ -11,7 +11,7 @@ use Rattle.tx_ints.proofs.WordLaws.{word_below}
 use Rattle.cpp_tree.specs.cpp_layout.Layout.{function_address}
 use Rattle.src_mean.specs.Linked.{Func, Program}
 use Rattle.src_mean.specs.Source.{plus, stored_bytes}
-use Rattle.symbolic_source.specs.Terms.{Term, number, variable, local, global, function, table, sum, product, before, low_byte, converted_to, result, field, Values, word_or_zero, eval, plus_number, one_less}
+use Rattle.symbolic_source.specs.Terms.{Term, number, variable, local, global, function, table, slot_function, sum, product, before, low_byte, converted_to, result, field, Values, word_or_zero, number_found, eval, plus_number, one_less}
 use Rattle.symbolic_source.specs.Steps.{element_at}
 use Rattle.symbolic_source.specs.Small.{AreWords}
 
@@ -91,6 +91,7 @@ module _ (p : Program) (f : Func) (x : Values) (bounded : AreWords x) where
   term_below (global n) = mod-lt (p.global f.unit n) (pow_pos 64)
   term_below (function n) = mod-lt (function_address (p.number f.unit n)) (pow_pos 64)
   term_below (table c) = mod-lt (p.table c) (pow_pos 64)
+  term_below (slot_function class slot a) = mod-lt (function_address (number_found (p.slot (eval p f x a) class slot))) (pow_pos 64)
   term_below (sum a b) = plus_below (eval p f x a) (eval p f x b)
   term_below (product a b) = mod-lt (eval p f x a * eval p f x b) (pow_pos 64)
   term_below (before a) = less_one (eval p f x a) (term_below a)

@@ -10,7 +10,7 @@ use Rattle.cpp_tree.specs.Trees.{Tree, Trees, none, more, literal}
 use Rattle.src_mean.specs.Linked.{Func, Program, WordPlace}
 use Rattle.src_mean.specs.Frames.{Owner, same_owner, Change}
 use Rattle.src_mean.specs.Frames as frames
-use Rattle.symbolic_source.specs.Terms.{Term, Exception, Puts, Values, eval, exception_of, bytes_put}
+use Rattle.symbolic_source.specs.Terms.{Term, Exception, Puts, Values, number_found, eval, exception_of, bytes_put}
 
 -- the address of a waiting object: a word, or what a tree gives
 pub data Spot : Type 0 where
@@ -120,11 +120,6 @@ module _ (p : Program) (f : Func) (x : Values) where
   exit_of (returns w) = frames.returns (eval p f x w)
   exit_of breaks = frames.breaks
   exit_of continues = frames.continues
-
-  -- the number of the function in a slot
-  abbrev pub number_found : Option ℕ → ℕ
-  number_found None = 0
-  number_found (Some n) = n
 
   abbrev pub callee_of : Callee → frames.Callee
   callee_of (known n) = frames.known n

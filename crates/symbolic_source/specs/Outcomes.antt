@@ -10,7 +10,7 @@ use Rattle.cpp_tree.specs.tx_events.declared.Trap.TheVariants.{BadVirtual}
 use Rattle.cpp_tree.specs.tx_events.declared.End.{End}
 use Rattle.cpp_tree.specs.tx_events.declared.End.TheVariants.{Trapped}
 use Rattle.cpp_tree.specs.tx_events.declared.Event.{Event}
-use Rattle.cpp_tree.specs.tx_events.declared.Event.TheVariants.{Silent, Load as Reads, Store as Writes, Out, Inp, Join as Joins, BeginAtomic, EndAtomic, BeginSync, EndSync, Stop}
+use Rattle.cpp_tree.specs.tx_events.declared.Event.TheVariants.{Silent, Load as Reads, Store as Writes, Out, Inp, Spawn as Spawns, Join as Joins, BeginAtomic, EndAtomic, BeginSync, EndSync, Stop}
 use Rattle.cpp_tree.specs.tx_events.Thread.{Open}
 use Rattle.cpp_tree.specs.cpp_layout.Layout.{kind_size}
 use Rattle.src_mean.specs.Linked.{Func, Program}
@@ -28,6 +28,7 @@ pub data Doing : Type 0 where
   puts_out : (byte : Term) → Doing
   takes_in : Doing
   joins : (id : Term) → Doing
+  spawns_thread : (number : ℕ) → (argument : Term) → Doing
   begins_atomic : BlockKind → Doing
   begins_sync : Doing
   ends_block : Open → Doing
@@ -65,6 +66,7 @@ module _ (p : Program) (f : Func) (x : Values) where
   event_of (puts_out byte) = Out (eval p f x byte)
   event_of takes_in = Inp
   event_of (joins id) = Joins (value_of_word Int (eval p f x id))
+  event_of (spawns_thread func argument) = Spawns func (value_of_word Long (eval p f x argument))
   event_of (begins_atomic kind) = BeginAtomic kind
   event_of begins_sync = BeginSync
   event_of (ends_block block) = end_of block

@@ -1,9 +1,9 @@
 -- Terms in the place of variables.
 use Rattle.std.specs.Prelude.{ℕ, List, [], ◌∷◌}
 use Rattle.src_mean.specs.Linked.{Func, Program}
-use Rattle.symbolic_source.specs.Terms.{Term, number, variable, local, global, function, table, sum, product, before, low_byte, converted_to, result, field, Exception, unknown, made, Puts, untouched, put, Values, eval, exception_of}
+use Rattle.symbolic_source.specs.Terms.{Term, number, variable, local, global, function, table, slot_function, sum, product, before, low_byte, converted_to, result, field, Exception, unknown, made, Puts, untouched, put, Values, eval, exception_of}
 use Rattle.symbolic_source.specs.Frames.{Spot, at_word, at_tree, Waiting, Way, value, into, Exit, throws, returns, breaks, continues, Callee, known, virtual, pointer, builtin, Frame, Run, Address, Then, Gives, Leaves, Loads, Loaded, Replied, StoreTo, Converts, Right, Apply, Choose, AssignTo, UpdateAt, UpdateOld, UpdateBy, CopyTo, CopyBy, From, Words, Object, Slot, Pointer, Passes, Full, Keeps, Scope, Waits, InitAt, Cleans, Due, Destroys, Parts, Each, Items, Test, Body, Step, Picks, Compares, Switches, Returning, Opens, Within, Closes, Throws, Fills, Filled, Tries, Trying, Takes, Taking, Handling}
-use Rattle.symbolic_source.specs.Outcomes.{Doing, silent, reads, writes, puts_out, takes_in, joins, begins_atomic, begins_sync, ends_block, leaves_block, Outcome, stuck, goes, hands, goes_out, chooses, results, finds, calls, spawns, rethrows, halts}
+use Rattle.symbolic_source.specs.Outcomes.{Doing, silent, reads, writes, puts_out, takes_in, joins, spawns_thread, begins_atomic, begins_sync, ends_block, leaves_block, Outcome, stuck, goes, hands, goes_out, chooses, results, finds, calls, spawns, rethrows, halts}
 
 -- what comes in the place of each variable
 pub record Replacing : Type 0 where
@@ -17,6 +17,7 @@ seen_by p f r x = record { word = λ n. eval p f x (r.word n); exception = λ n.
 abbrev mutual
   pub in_term : Replacing → Term → Term
   in_term r (variable n) = r.word n
+  in_term r (slot_function class slot a) = slot_function class slot (in_term r a)
   in_term r (sum a b) = sum (in_term r a) (in_term r b)
   in_term r (product a b) = product (in_term r a) (in_term r b)
   in_term r (before a) = before (in_term r a)
@@ -110,6 +111,7 @@ module _ (r : Replacing) where
   in_doing (writes address kind w volatile) = writes (in_term r address) kind (in_term r w) volatile
   in_doing (puts_out byte) = puts_out (in_term r byte)
   in_doing (joins id) = joins (in_term r id)
+  in_doing (spawns_thread func argument) = spawns_thread func (in_term r argument)
   in_doing (leaves_block block exit) = leaves_block block (in_exit exit)
   in_doing doing = doing
 

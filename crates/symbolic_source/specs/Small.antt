@@ -17,6 +17,7 @@ pub record IsSmall (p : Program) : Type 0 where
   pub globals : (unit n : ℕ) → p.global unit n < 2 ^ 64
   pub functions : (unit n : ℕ) → function_address (p.number unit n) < 2 ^ 64
   pub tables : (c : ℕ) → p.table c < 2 ^ 64
+  pub slots : (a c s n : ℕ) → p.slot a c s ≡ Some n → function_address n < 2 ^ 64
 
 -- what variables stand for are words
 abbrev pub AreWords : Values → Type 0

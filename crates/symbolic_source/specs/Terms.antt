@@ -1,5 +1,5 @@
 -- Words as terms over variables.
-use Rattle.std.specs.Prelude.{ℕ, ℤ, ◌+◌, ◌-◌, ◌*◌, ◌%◌, ◌^◌, nat_lt, cond, List, Result, Ok, Err}
+use Rattle.std.specs.Prelude.{ℕ, ℤ, ◌+◌, ◌-◌, ◌*◌, ◌%◌, ◌^◌, nat_lt, cond, List, Option, Some, None, Result, Ok, Err}
 use Rattle.cpp_tree.specs.tx_ints.declared.kinds.IntKind.{IntKind}
 use Rattle.cpp_tree.specs.tx_ints.declared.kinds.BinOp.{BinOp}
 use Rattle.cpp_tree.specs.tx_ints.declared.kinds.ArithTrap.{ArithTrap}
@@ -20,6 +20,7 @@ mutual
     global : ℕ → Term  -- the address of a global of the unit
     function : ℕ → Term  -- the address of a function of the unit
     table : ℕ → Term  -- a class address
+    slot_function : (class slot : ℕ) → Term → Term  -- the address of the function in a slot, of the class at this address
     sum : Term → Term → Term  -- of addresses
     product : Term → Term → Term  -- likewise
     before : Term → Term  -- one less, of what is not 0
@@ -50,6 +51,11 @@ abbrev pub word_or_zero : Result ℤ ArithTrap → ℕ
 word_or_zero (Ok v) = word_of v
 word_or_zero (Err trap) = 0
 
+-- the number of the function in a slot
+abbrev pub number_found : Option ℕ → ℕ
+number_found None = 0
+number_found (Some n) = n
+
 abbrev mutual
   -- the word that a term stands for
   pub eval : Program → Func → Values → Term → ℕ
@@ -59,6 +65,7 @@ abbrev mutual
   eval p f x (global n) = p.global f.unit n % 2 ^ 64
   eval p f x (function n) = function_address (p.number f.unit n) % 2 ^ 64
   eval p f x (table c) = p.table c % 2 ^ 64
+  eval p f x (slot_function class slot a) = function_address (number_found (p.slot (eval p f x a) class slot)) % 2 ^ 64
   eval p f x (sum a b) = plus (eval p f x a) (eval p f x b)
   eval p f x (product a b) = (eval p f x a * eval p f x b) % 2 ^ 64
   eval p f x (before a) = eval p f x a - 1
