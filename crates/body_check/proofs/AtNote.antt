@@ -18,6 +18,7 @@ use Rattle.symbolic_source.specs.Outcomes.{Outcome, Shows}
 use Rattle.symbolic_source.specs.Steps.{advanced}
 use Rattle.symbolic_source.specs.Small.{IsSmall, AreWords, is_stuck}
 use Rattle.symbolic_source.proofs.Advance.{advance}
+use Rattle.symbolic_code.specs.Facts.{Fact, AllHold}
 use Rattle.symbolic_code.specs.Places.{Place, coded, frame_at}
 use Rattle.symbolic_code.specs.Following.{followed, Follows, AreNames}
 use Rattle.symbolic_code.proofs.Followed.{followed_follows}
@@ -29,8 +30,9 @@ module _ (p : Program) (names : Names) (numbers : Typ → ℕ) (h : Held) (b : B
     (Related : ℕ → State → code.State → Type 0)
     (stands : (rank : ℕ) (s : State) (top : Frame) → Stands p numbers h home limit rest rank s top → Related rank s (Runs top below_frames))
     (stops : (s : State) (c : code.State) → Stopped names s c → Related 0 s c)
-    (flies : (s : State) (x : Values) → AreWords x → Based home limit x → (index : ℕ) (q : Place) (e : Exception) (o : Outcome) → FlightFits p h.func b h.notes numbers h.rows index q e o → Shows p h.func x rest o s
+    (flies : (s : State) (x : Values) → AreWords x → Based home limit x → (known : List Fact) → AllHold p h.func x known → (index : ℕ) (q : Place) (e : Exception) (o : Outcome) → FlightFits p h.func b h.notes numbers h.rows known index q e o → Shows p h.func x rest o s
         → Related 0 s (Unwinds (coded numbers (exception_of p h.func x e)) (frame_at p h.func numbers x home index q) below_frames))
+    (current : code.current below_frames ≡ option_map (coded numbers) (frames.handled rest))
     (is_body : names.body home.func home.safe ≡ Some h.body) (right : AreNames p h.func numbers names (names.numbering home.func) h.table) where
   pub fetched : (i : ℕ) (a : Instr) → slice_get h.body.code i ≡ Some a → fetch names home i ≡ Some (renamed (names.numbering home.func) a)
   fetched i a e = ap (λ z. option_map (renamed (names.numbering home.func)) (slice_get (code_of z) i)) is_body ∙ ap (λ z. option_map (renamed (names.numbering home.func)) z) e
@@ -41,14 +43,14 @@ module _ (p : Program) (names : Names) (numbers : Typ → ℕ) (h : Held) (b : B
 
   pub note_move : (rank : ℕ) (s : State) (top : Frame) (t : Stands p numbers h home limit rest rank s top) (a : Instr) → slice_get h.body.code t.index ≡ Some a
       → is_stuck (advanced p h.func no_answers t.note.lead t.note.outcome) ≡ false → t.note.lead ≤ b.longest
-      → Fits p h.func b h.notes numbers h.rows t.note.lead rank (followed h.table t.index a t.note.place (advanced p h.func no_answers t.note.lead t.note.outcome))
+      → Fits p h.func b h.notes numbers h.rows t.note.facts t.note.lead rank (followed h.table t.note.facts t.index a t.note.place (advanced p h.func no_answers t.note.lead t.note.outcome))
       → Move (source p) (thread names) b.most b.longest Related rank s (Runs top below_frames)
   note_move rank s top t a is foreseen short fits =
       let v = advance p h.func t.values no_answers rest small t.are_words (none_right p t.values) t.note.lead t.note.outcome s t.shows foreseen in
-      let follows = followed_follows p h.func numbers t.values home rest below_frames small t.are_words t.based.0 names (names.numbering home.func) h.table right t.index a t.note.place (advanced p h.func no_answers t.note.lead t.note.outcome) v.to v.shows in
+      let follows = followed_follows p h.func numbers t.values home rest below_frames small t.are_words t.based.0 names (names.numbering home.func) h.table right t.note.facts t.index a t.note.place (advanced p h.func no_answers t.note.lead t.note.outcome) v.to t.holds v.shows in
       let stepped = ap (λ z. if_some z Lost (λ i. act names i (frame_at p h.func numbers t.values home t.index t.note.place) below_frames)) (fetched t.index a is) in
       subst (λ z. Move (source p) (thread names) b.most b.longest Related rank s (Runs z below_frames)) (sym t.frame)
-      (follow_move p names numbers h b home limit rest below_frames small Related stands stops flies t.note.lead rank t.values t.are_words t.based s v.to (Runs (frame_at p h.func numbers t.values home t.index t.note.place) below_frames)
+      (follow_move p names numbers h b home limit rest below_frames small Related stands stops flies current t.note.lead rank t.values t.are_words t.based t.note.facts t.holds s v.to (Runs (frame_at p h.func numbers t.values home t.index t.note.place) below_frames)
       (subst (λ z. Path (source p) z s v.to) v.long v.path) short
-      (followed h.table t.index a t.note.place (advanced p h.func no_answers t.note.lead t.note.outcome)) fits
-      (subst (λ z. Follows p h.func numbers t.values home rest below_frames (followed h.table t.index a t.note.place (advanced p h.func no_answers t.note.lead t.note.outcome)) z v.to) (sym stepped) follows))
+      (followed h.table t.note.facts t.index a t.note.place (advanced p h.func no_answers t.note.lead t.note.outcome)) fits
+      (subst (λ z. Follows p h.func numbers t.values home rest below_frames (followed h.table t.note.facts t.index a t.note.place (advanced p h.func no_answers t.note.lead t.note.outcome)) z v.to) (sym stepped) follows))

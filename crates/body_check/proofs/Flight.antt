@@ -27,6 +27,8 @@ use Rattle.symbolic_source.specs.Steps.{Answers, advanced}
 use Rattle.symbolic_source.specs.Small.{IsSmall, AreWords, AreRight, Advanced, is_stuck}
 use Rattle.symbolic_source.specs.Replacing.{in_terms}
 use Rattle.symbolic_source.proofs.Advance.{advance}
+use Rattle.std.specs.Option.{option_map}
+use Rattle.symbolic_code.specs.Facts.{Fact, AllHold}
 use Rattle.symbolic_code.specs.Places.{Place, flying, coded, frame_at, replied, later, with_operands, holding, opened_later}
 use Rattle.symbolic_code.specs.Following.{Loud}
 use Rattle.symbolic_code.proofs.Later.{words_later, frame_later}
@@ -63,10 +65,11 @@ module _ (p : Program) (names : Names) (numbers : Typ → ℕ) (h : Held) (b : B
     (Related : ℕ → State → code.State → Type 0)
     (stands : (rank : ℕ) (s : State) (top : Frame) → Stands p numbers h home limit rest rank s top → Related rank s (Runs top below_frames))
     (stops : (s : State) (c : code.State) → Stopped names s c → Related 0 s c)
-    (flies : (s : State) (x : Values) → AreWords x → Based home limit x → (index : ℕ) (q : Place) (e : Exception) (o : Outcome) → FlightFits p h.func b h.notes numbers h.rows index q e o → Shows p h.func x rest o s
+    (flies : (s : State) (x : Values) → AreWords x → Based home limit x → (known : List Fact) → AllHold p h.func x known → (index : ℕ) (q : Place) (e : Exception) (o : Outcome) → FlightFits p h.func b h.notes numbers h.rows known index q e o → Shows p h.func x rest o s
         → Related 0 s (Unwinds (coded numbers (exception_of p h.func x e)) (frame_at p h.func numbers x home index q) below_frames))
+    (current : code.current below_frames ≡ option_map (coded numbers) (frames.handled rest))
     (cancel : (t : Typ) → names.cancels (numbers t) ≡ cancels t)
-    (x : Values) (bounded : AreWords x) (based : Based home limit x) (index : ℕ) (q : Place) (e : Exception) (o : Outcome) (s : State) (shows : Shows p h.func x rest o s) where
+    (x : Values) (bounded : AreWords x) (based : Based home limit x) (known : List Fact) (holds : AllHold p h.func x known) (index : ℕ) (q : Place) (e : Exception) (o : Outcome) (s : State) (shows : Shows p h.func x rest o s) where
   abbrev exception : code.Exception
   exception = coded numbers (exception_of p h.func x e)
 
@@ -83,11 +86,11 @@ module _ (p : Program) (names : Names) (numbers : Typ → ℕ) (h : Held) (b : B
   words r = words_of p h.func x r.operands
 
   -- the code goes on at an index
-  reaches_move : (answers : Answers) (right : AreRight p x answers) (target : ℕ) (r : Place) → Reaches p h.func b h.notes answers target r o
+  reaches_move : (answers : Answers) (right : AreRight p x answers) (target : ℕ) (r : Place) → Reaches p h.func b h.notes known answers target r o
       → step_act names flight ≡ code.goes (Runs (frame_at p h.func numbers x home target r) below_frames) → Moves
   reaches_move answers right target r fits e =
-      let l = landed p names numbers h b home limit rest below_frames small Related stands stops flies x bounded based answers right target r o s fits.lands shows in
-      strode p names numbers h b home limit rest below_frames small Related stands stops flies 0 fits.lands.lag 0 fits.lands.note.rank s s l.to flight (Runs (frame_at p h.func numbers x home target r) below_frames) here l.path e
+      let l = landed p names numbers h b home limit rest below_frames small Related stands stops flies current x bounded based known holds answers right target r o s fits.lands shows in
+      strode p names numbers h b home limit rest below_frames small Related stands stops flies current 0 fits.lands.lag 0 fits.lands.note.rank s s l.to flight (Runs (frame_at p h.func numbers x home target r) below_frames) here l.path e
       (plain fits.lands.lag fits.short) fits.lands.low l.related (inl (some fits.lands.lag fits.some))
     where
       plain : (n : ℕ) → n ≤ b.longest → 0 + n ≤ b.longest
@@ -97,13 +100,13 @@ module _ (p : Program) (names : Names) (numbers : Typ → ℕ) (h : Held) (b : B
       some n h = omega (arith, h)
 
   -- the exception leaves a block
-  edge_move : (answers : Answers) (right : AreRight p x answers) (block : Open) (target : ℕ) (r : Place) → Edges p h.func b h.notes answers block target r e o → (event : Event) → event ≡ event_of p h.func x (leaves_block block (throws e))
+  edge_move : (answers : Answers) (right : AreRight p x answers) (block : Open) (target : ℕ) (r : Place) → Edges p h.func b h.notes known answers block target r e o → (event : Event) → event ≡ event_of p h.func x (leaves_block block (throws e))
       → step_act names flight ≡ code.asks event (Runs (record { home = home; nest = record { opens = rest_of r.opens; caught = (frame_at p h.func numbers x home target r).nest.caught; held = Flying exception }; index = target; words = words r }) below_frames) → Moves
   edge_move answers right block target r fits event event_is step_is =
       let a = advance p h.func x answers rest small bounded right fits.lag o s shows (ap is_stuck fits.is) in
       let after = Runs (record { home = home; nest = record { opens = rest_of r.opens; caught = (frame_at p h.func numbers x home target r).nest.caught; held = Flying exception }; index = target; words = words r }) below_frames in
       leads fits.short (subst (λ z. Path (source p) z s a.to) a.long a.path)
-      (event_meets p names numbers h b home limit rest below_frames small Related stands stops flies x based a.to flight (leaves_block block (throws e)) fits.temporaries fits.others target (opened_later (holding r (flying e)) (rest_of r.opens)) bounded refl fits.lands fits.at_once
+      (event_meets p names numbers h b home limit rest below_frames small Related stands stops flies current x based known holds a.to flight (leaves_block block (throws e)) fits.temporaries fits.others target (opened_later (holding r (flying e)) (rest_of r.opens)) bounded refl fits.lands fits.at_once
       (record {
         on = λ reply. after;
         does = step_is ∙ ap (λ z. Does z (λ (reply : Reply). after)) event_is;
@@ -118,7 +121,7 @@ module _ (p : Program) (names : Names) (numbers : Typ → ℕ) (h : Held) (b : B
   raised_is kind = ap (λ z. Raise kind z) (cancel (exception_of p h.func x e).typ)
 
   -- what a row does
-  row_move : (answers : Answers) (right : AreRight p x answers) (what target d : ℕ) → RowFits p h.func b h.notes answers what target (cut_to d q) e o
+  row_move : (answers : Answers) (right : AreRight p x answers) (what target d : ℕ) → RowFits p h.func b h.notes known answers what target (cut_to d q) e o
       → step_act names flight ≡ row_act names what target (words (cut_to d q)) exception frame below_frames → Moves
   row_move answers right zero target d fits i = reaches_move answers right target (holding (cut_to d q) (flying e)) fits i
   row_move answers right (suc zero) target d fits i = reaches_move answers right target (catching (cut_to d q) e) fits i
@@ -131,12 +134,12 @@ module _ (p : Program) (names : Names) (numbers : Typ → ℕ) (h : Held) (b : B
 
   -- the row that is found, or none
   found_move : (out : (answers : Answers) → AreRight p x answers → Outward p h.func b h.notes answers e o → step_act names flight ≡ leave_act names exception frame below_frames → Moves)
-      → (answers : Answers) (right : AreRight p x answers) (found : Option Row) → FoundFits p h.func b h.notes answers found q e o → step_act names flight ≡ unwind_act names found exception frame below_frames → Moves
+      → (answers : Answers) (right : AreRight p x answers) (found : Option Row) → FoundFits p h.func b h.notes known answers found q e o → step_act names flight ≡ unwind_act names found exception frame below_frames → Moves
   found_move out answers right None fits i = out answers right fits i
   found_move out answers right (Some r) fits i = row_move answers right r.what r.target r.depth fits (i ∙ ap (λ z. row_act names r.what r.target z exception frame below_frames) (cut_is p h.func x r.depth q.operands))
 
   pub flight_move : (out : (answers : Answers) → AreRight p x answers → Outward p h.func b h.notes answers e o → step_act names flight ≡ leave_act names exception frame below_frames → Moves)
-      → rows_in names home ≡ h.rows → FlightFits p h.func b h.notes numbers h.rows index q e o → Moves
+      → rows_in names home ≡ h.rows → FlightFits p h.func b h.notes numbers h.rows known index q e o → Moves
   flight_move out rows fits =
       let t = (exception_of p h.func x e).typ in
       let c = fits t (own_type p h.func x e) in

@@ -6,6 +6,8 @@ use Rattle.std.proofs.Math.Nat.{pow-le-pow_right}
 use Rattle.tx_ints.proofs.WordLaws.{word_below}
 use Rattle.tx_ints.specs.declared.kinds.ArithTrap.{ArithTrap}
 use Rattle.tx_events.specs.declared.End.{End}
+use Rattle.tx_events.specs.declared.End.TheVariants.{Terminate, Trapped}
+use Rattle.tx_events.specs.declared.Trap.TheVariants.{BadCall, BadVirtual}
 use Rattle.tx_events.specs.declared.Event.{Event}
 use Rattle.tx_events.specs.declared.Event.TheVariants.{Silent, Stop, Done}
 use Rattle.tx_events.specs.declared.Reply.{Reply}
@@ -13,27 +15,31 @@ use Rattle.tx_events.specs.declared.Reply.TheVariants.{Nothing, Loaded, Byte, Id
 use Rattle.tx_events.specs.Thread.{Thread, Open, Atomic, Sync, Answers, is_silent}
 use Rattle.tx_events.specs.Simulation.{Path, here, step}
 use Rattle.lockstep.specs.Moves.{Ranked, Meeting, Striding, Waiting, Move, meets, strides, waits, leads}
-use Rattle.tx_code.specs.Meaning.{Names, Home, Frame, Runs, Unwinds, Act, Does, Ends, Free, Building, Flying, step_act, event_of, state_after, thread}
+use Rattle.tx_code.specs.Meaning.{Names, Home, Frame, Runs, Unwinds, Act, Does, Ends, if_some, Free, Building, Flying, step_act, event_of, state_after, thread}
 use Rattle.tx_code.specs.Meaning as code
 use Rattle.cpp_tree.specs.cpp_types.Typ.{Typ}
 use Rattle.src_mean.specs.Linked.{Func, Program}
 use Rattle.src_mean.specs.Exceptions as exceptions
 use Rattle.src_mean.specs.Frames.{State}
 use Rattle.src_mean.specs.Frames as frames
-use Rattle.src_mean.specs.Source.{source, give, applied, reply_word}
-use Rattle.symbolic_source.specs.Terms.{Term, variable, Exception, made, Values, eval, exception_of}
-use Rattle.symbolic_source.specs.Frames.{Waiting as Waits, Frame as Form, words_of, throws, returns, breaks, continues}
-use Rattle.symbolic_source.specs.Outcomes.{Doing, silent, reads, writes, puts_out, takes_in, joins, begins_atomic, begins_sync, ends_block, leaves_block, Outcome, goes, Shows}
+use Rattle.src_mean.specs.Source.{source, give, leave, rethrow, applied, reply_word, thread_signature}
+use Rattle.symbolic_source.specs.Terms.{Term, variable, Exception, unknown, made, Values, eval, exception_of}
+use Rattle.symbolic_source.specs.Frames.{Waiting as Waits, Frame as Form, Replied, words_of, below, here_of, throws, returns, breaks, continues}
+use Rattle.symbolic_source.specs.Outcomes.{Doing, silent, reads, writes, puts_out, takes_in, joins, spawns_thread, begins_atomic, begins_sync, ends_block, leaves_block, Outcome, goes, Shows}
 use Rattle.symbolic_source.specs.Outcomes as outcomes
-use Rattle.symbolic_source.specs.Steps.{Answers as Caught, given, advanced}
+use Rattle.symbolic_source.specs.Steps.{Answers as Caught, left, given, advanced}
+use Rattle.symbolic_source.proofs.Shown.{left_shown}
+use Rattle.symbolic_code.specs.Facts.{Fact, not_zero, has_function, AllHold, in_facts}
+use Rattle.symbolic_code.proofs.Facts.{facts_replaced, facts_placed, all_among}
+use Rattle.std.specs.Option.{option_map}
 use Rattle.symbolic_source.specs.Small.{IsSmall, AreWords, AreRight, Advanced}
 use Rattle.symbolic_source.specs.Replacing.{Replacing, seen_by, in_terms, in_outcome, in_doing, in_waitings, in_frames}
 use Rattle.symbolic_source.proofs.TermLemmas.{term_below}
 use Rattle.symbolic_source.proofs.Advance.{advance, replied as value_after}
-use Rattle.symbolic_source.proofs.Replaced.{terms_replaced, exception_replaced, outcome_replaced, outcome_placed}
+use Rattle.symbolic_source.proofs.Replaced.{terms_replaced, here_replaced, frames_replaced, exception_replaced, outcome_replaced, outcome_placed}
 use Rattle.symbolic_code.specs.Places.{Place, Hold, nothing, making, flying, coded, all_coded, hold_of, frame_at, replied, later}
-use Rattle.symbolic_code.specs.Following.{Next, refused, quietly, either_way, unless_trap, loudly, throwing, ends, Follows, Loud}
-use Rattle.body_check.specs.Notes.{Note, Bounds, in_caught, in_hold, in_place, is_loud, no_answers, Lands, LandsOn, FlightFits, Fits}
+use Rattle.symbolic_code.specs.Following.{Next, refused, quietly, either_way, unless_trap, loudly, throwing, finding, starting, rethrowing, ends, Follows, Loud}
+use Rattle.body_check.specs.Notes.{Note, Bounds, in_caught, in_hold, in_place, rising, is_loud, no_answers, Lands, LandsOn, FlightFits, Fits}
 use Rattle.body_check.specs.Linked.{Held, Based, Stands, Stopped, Finished}
 
 -- paths one behind the other
@@ -89,6 +95,7 @@ loud_event p f x (writes a k w v) h = refl
 loud_event p f x (puts_out b) h = refl
 loud_event p f x takes_in h = refl
 loud_event p f x (joins i) h = refl
+loud_event p f x (spawns_thread n a) h = refl
 loud_event p f x (begins_atomic k) h = refl
 loud_event p f x begins_sync h = refl
 loud_event p f x (ends_block (Atomic k)) h = refl
@@ -121,6 +128,7 @@ reply_small p f x (writes a k u v) (Loaded w) h g = absurd cc
 reply_small p f x (puts_out b) (Loaded w) h g = absurd cc
 reply_small p f x takes_in (Loaded w) h g = absurd g
 reply_small p f x (joins i) (Loaded w) h g = absurd cc
+reply_small p f x (spawns_thread n a) (Loaded w) h g = absurd g
 reply_small p f x (begins_atomic k) (Loaded w) h g = absurd cc
 reply_small p f x begins_sync (Loaded w) h g = absurd cc
 reply_small p f x (ends_block (Atomic k)) (Loaded w) h g = absurd cc
@@ -171,8 +179,9 @@ module _ (p : Program) (names : Names) (numbers : Typ → ℕ) (h : Held) (b : B
     (Related : ℕ → State → code.State → Type 0)
     (stands : (rank : ℕ) (s : State) (top : Frame) → Stands p numbers h home limit rest rank s top → Related rank s (Runs top below_frames))
     (stops : (s : State) (c : code.State) → Stopped names s c → Related 0 s c)
-    (flies : (s : State) (x : Values) → AreWords x → Based home limit x → (index : ℕ) (q : Place) (e : Exception) (o : Outcome) → FlightFits p h.func b h.notes numbers h.rows index q e o → Shows p h.func x rest o s
-        → Related 0 s (Unwinds (coded numbers (exception_of p h.func x e)) (frame_at p h.func numbers x home index q) below_frames)) where
+    (flies : (s : State) (x : Values) → AreWords x → Based home limit x → (known : List Fact) → AllHold p h.func x known → (index : ℕ) (q : Place) (e : Exception) (o : Outcome) → FlightFits p h.func b h.notes numbers h.rows known index q e o → Shows p h.func x rest o s
+        → Related 0 s (Unwinds (coded numbers (exception_of p h.func x e)) (frame_at p h.func numbers x home index q) below_frames))
+    (current : code.current below_frames ≡ option_map (coded numbers) (frames.handled rest)) where
   abbrev Moves : ℕ → State → code.State → Type 0
   Moves rank s c = Move (source p) (thread names) b.most b.longest Related rank s c
 
@@ -182,8 +191,8 @@ module _ (p : Program) (names : Names) (numbers : Typ → ℕ) (h : Held) (b : B
     pub path : Path (source p) lag s to
     pub related : Related rank to (Runs top below_frames)
 
-  pub landed : (x : Values) (bounded : AreWords x) (based : Based home limit x) (answers : Caught) (right : AreRight p x answers) (index : ℕ) (q : Place) (o : Outcome) (s : State) (l : Lands p h.func b h.notes answers index q o) → Shows p h.func x rest o s → Landed l.lag l.note.rank s (frame_at p h.func numbers x home index q)
-  landed x bounded based answers right index q o s l g =
+  pub landed : (x : Values) (bounded : AreWords x) (based : Based home limit x) (known : List Fact) (holds : AllHold p h.func x known) (answers : Caught) (right : AreRight p x answers) (index : ℕ) (q : Place) (o : Outcome) (s : State) (l : Lands p h.func b h.notes known answers index q o) → Shows p h.func x rest o s → Landed l.lag l.note.rank s (frame_at p h.func numbers x home index q)
+  landed x bounded based known holds answers right index q o s l g =
       let a = advance p h.func x answers rest small bounded right l.lag o s g l.foreseen in
       record {
         to = a.to;
@@ -196,6 +205,7 @@ module _ (p : Program) (names : Names) (numbers : Typ → ℕ) (h : Held) (b : B
           note = l.note;
           is = l.is;
           ranked = refl;
+          holds = facts_replaced p h.func l.terms x l.note.facts (all_among p h.func x (in_facts l.terms l.note.facts) known l.same_facts holds);
           frame = ap (λ (z : Place). frame_at p h.func numbers x home index z) (sym l.same_place) ∙ frame_replaced p h.func numbers l.terms x home index l.note.place;
           shows = outcome_replaced p h.func l.terms x rest l.note.outcome a.to (subst (λ z. Shows p h.func x rest z a.to) (sym l.same_outcome) a.shows);
         });
@@ -246,47 +256,83 @@ module _ (p : Program) (names : Names) (numbers : Typ → ℕ) (h : Held) (b : B
       value_after p h.func (replied x reply) no_answers rest small bounded (λ n handler answer e. absurd (cc)) (in_doing later doing) (in_waitings later ws) (in_frames later k) t reply (variable 0)
       (outcome_placed p h.func later (replied x reply) rest (goes doing ws k) t g) refl
 
-  replies : (x : Values) (based : Based home limit x) (index : ℕ) (q : Place) (o : Outcome) (t : State) (d : code.State) (l : Lands p h.func b h.notes no_answers index q o) → AreWords x → l.lag ≡ 0 → Shows p h.func x rest o t
+  replies : (x : Values) (based : Based home limit x) (known : List Fact) (holds : AllHold p h.func x known) (index : ℕ) (q : Place) (o : Outcome) (t : State) (d : code.State) (l : Lands p h.func b h.notes known no_answers index q o) → AreWords x → l.lag ≡ 0 → Shows p h.func x rest o t
       → d ≡ Runs (frame_at p h.func numbers x home index q) below_frames → Ranked b.most Related t d
-  replies x based index q o t d l bounded e g i =
-      let r = landed x bounded based no_answers (none_right p x) index q o t l g in
+  replies x based known holds index q o t d l bounded e g i =
+      let r = landed x bounded based known holds no_answers (none_right p x) index q o t l g in
       record {
         rank = l.note.rank;
         low = l.low;
         related = subst (λ z. Related l.note.rank t z) (sym i) (subst (λ z. Related l.note.rank z (Runs (frame_at p h.func numbers x home index q) below_frames)) (sym (still (source p) r.path e)) r.related);
       }
 
-  pub event_meets : (x : Values) (based : Based home limit x) (t : State) (c : code.State) (doing : Doing) (ws : List Waits) (k : List Form) (index : ℕ) (q : Place) → AreWords x → is_loud doing ≡ true
-      → (l : Lands p h.func b h.notes no_answers index q (given p h.func no_answers (in_waitings later ws) (variable 0) (in_frames later k))) → l.lag ≡ 0
+  pub event_meets : (x : Values) (based : Based home limit x) (known : List Fact) (holds : AllHold p h.func x known) (t : State) (c : code.State) (doing : Doing) (ws : List Waits) (k : List Form) (index : ℕ) (q : Place) → AreWords x → is_loud doing ≡ true
+      → (l : Lands p h.func b h.notes (in_facts later known) no_answers index q (given p h.func no_answers (in_waitings later ws) (variable 0) (in_frames later k))) → l.lag ≡ 0
       → Loud p h.func numbers x home rest below_frames doing index q (step_act names c) → Shows p h.func x rest (goes doing ws k) t → Meeting (source p) (thread names) b.most Related t c
-  event_meets x based t c doing ws k index q bounded loud l e a g = record {
+  event_meets x based known holds t c doing ws k index q bounded loud l e a g = record {
     loud = ap (λ (z : State). is_silent z.event) g ∙ loud_event p h.func x doing loud;
     same = ap event_of a.does ∙ sym (ap (λ (z : State). z.event) g);
     on = λ reply fits.
         let fits_event = subst (λ z. Answers z reply) (ap (λ (z : State). z.event) g) fits in
         let words = words_after x reply bounded (reply_small p h.func x doing reply loud fits_event) in
-        replies (replied x reply) based index q _ ((source p).after t reply) ((thread names).after c reply) l words e (foreseen_after x doing ws k t reply words g)
+        replies (replied x reply) based (in_facts later known) (facts_placed p h.func later (replied x reply) known holds) index q _ ((source p).after t reply) ((thread names).after c reply) l words e (foreseen_after x doing ws k t reply words g)
         (ap (λ z. state_after c z reply) a.does ∙ a.then_at reply fits_event);
   }
 
-  pub follow_move : (lead rank : ℕ) (x : Values) (bounded : AreWords x) (based : Based home limit x) (s t : State) (c : code.State) → Path (source p) lead s t → lead ≤ b.longest
-      → (next : Next) → Fits p h.func b h.notes numbers h.rows lead rank next → Follows p h.func numbers x home rest below_frames next (step_act names c) t → Moves rank s c
-  follow_move lead rank x bounded based s t c v short refused fits g = absurd fits
-  follow_move lead rank x bounded based s t c v short (quietly index q o) fits g =
-      let l = landed x bounded based no_answers (none_right p x) index q o t fits.lands g.1 in
-      strode lead fits.lands.lag rank fits.lands.note.rank s t l.to c (Runs (frame_at p h.func numbers x home index q) below_frames) v l.path g.0 fits.short fits.lands.low l.related fits.goes_on
-  follow_move lead rank x bounded based s t c v short (either_way w first other) fits g = either_zero (eval p h.func x w)
-      (λ e. follow_move lead rank x bounded based s t c v short first fits.0 (g.0 e)) (λ e. follow_move lead rank x bounded based s t c v short other fits.1 (g.1 e))
-  follow_move lead rank x bounded based s t c v short (unless_trap op kind y z next) fits g = either_result (applied op kind (eval p h.func x y) (eval p h.func x z))
-      (λ n e. follow_move lead rank x bounded based s t c v short next fits (g.0 n e)) (λ trap e. let w = g.1 trap e in leads short v (stop_meets p names b Related stops _ t c w.1 w.0))
-  follow_move lead rank x bounded based s t c v short (loudly doing ws k index q) fits g = leads short v (event_meets x based t c doing ws k index q bounded fits.0 fits.1 fits.2 g.0 g.1)
-  follow_move lead rank x bounded based s t c v short (throwing e index q o) fits g =
-      strode lead 0 rank 0 s t t c (Unwinds (coded numbers (exception_of p h.func x e)) (frame_at p h.func numbers x home index q) below_frames) v here g.0 (few lead short) (omega arith) (flies t x bounded based index q e o fits.1 g.1) (moves_on fits.0)
-    where
-      few : (lead : ℕ) → lead ≤ b.longest → lead + 0 ≤ b.longest
-      few lead h = omega (arith, h)
+  -- the first unknown exception is one that comes from elsewhere
+  abbrev exception_first : exceptions.Exception → (ℕ → exceptions.Exception) → ℕ → exceptions.Exception
+  exception_first e others zero = e
+  exception_first e others (suc n) = others n
 
-      moves_on : (1 ≤ lead) ⊎ (1 ≤ rank) → (1 ≤ lead + 0) ⊎ (0 + 1 ≤ rank)
-      moves_on (inl h) = inl (omega (arith, h))
-      moves_on (inr h) = inr (omega (arith, h))
-  follow_move lead rank x bounded based s t c v short (ends end) fits g = leads short v (stop_meets p names b Related stops end t c g.1 g.0)
+  abbrev pub thrown_into : Values → exceptions.Exception → Values
+  thrown_into x e = record { word = x.word; exception = exception_first e x.exception; base = x.base; limit = x.limit }
+
+  few : (lead : ℕ) → lead ≤ b.longest → lead + 0 ≤ b.longest
+  few lead h = omega (arith, h)
+
+  moves_on : (lead rank : ℕ) → (1 ≤ lead) ⊎ (1 ≤ rank) → (1 ≤ lead + 0) ⊎ (0 + 1 ≤ rank)
+  moves_on lead rank (inl h) = inl (omega (arith, h))
+  moves_on lead rank (inr h) = inr (omega (arith, h))
+
+  -- what a caller's handler has is thrown again
+  rethrown_move : (lead rank : ℕ) (x : Values) (bounded : AreWords x) (based : Based home limit x) (known : List Fact) (holds : AllHold p h.func x known) (s t : State) (c : code.State) (ws : List Waits) (k : List Form) (index : ℕ) (q : Place)
+      → Path (source p) lead s t → lead ≤ b.longest → (1 ≤ lead) ⊎ (1 ≤ rank)
+      → FlightFits p h.func b h.notes numbers h.rows (in_facts rising known) index (in_place rising q) (unknown 0) (left (in_waitings rising ws) (throws (unknown 0)) (in_frames rising k))
+      → (o : Option exceptions.Exception) → step_act names c ≡ if_some (option_map (coded numbers) o) (Ends (Stop Terminate)) (λ e. code.goes (Unwinds e (frame_at p h.func numbers x home index q) below_frames))
+      → t ≡ rethrow (here_of p h.func x ws) o (below p h.func x k rest) → Moves rank s c
+  rethrown_move lead rank x bounded based known holds s t c ws k index q v short on fits None e g =
+      leads short v (stop_meets p names b Related stops Terminate t c (record { here = here_of p h.func x ws; others = below p h.func x k rest; is = g }) e)
+  rethrown_move lead rank x bounded based known holds s t c ws k index q v short on fits (Some m) e g =
+      let y = thrown_into x m in
+      let shows : Shows p h.func y rest (left (in_waitings rising ws) (throws (unknown 0)) (in_frames rising k)) t =
+      subst (λ z. Shows p h.func y rest (left (in_waitings rising ws) (throws (unknown 0)) (in_frames rising k)) z) (sym (g ∙ ap₂ (λ a d. leave a (frames.throws m) d) (sym (here_replaced p h.func rising y rest ws)) (sym (frames_replaced p h.func rising y rest k))))
+      (left_shown p h.func y rest (in_waitings rising ws) (throws (unknown 0)) (in_frames rising k)) in
+      strode lead 0 rank 0 s t t c (Unwinds (coded numbers m) (frame_at p h.func numbers x home index q) below_frames) v here e (few lead short) (omega arith)
+      (subst (λ z. Related 0 t (Unwinds (coded numbers m) z below_frames)) (frame_replaced p h.func numbers rising y home index q)
+      (flies t y bounded based (in_facts rising known) (facts_placed p h.func rising y known holds) index (in_place rising q) (unknown 0) (left (in_waitings rising ws) (throws (unknown 0)) (in_frames rising k)) fits shows)) (moves_on lead rank on)
+
+  either_found : (o : Option ℕ) {A : Type 0} → ((n : ℕ) → o ≡ Some n → A) → (o ≡ None → A) → A
+  either_found None g h = h refl
+  either_found (Some n) g h = g n refl
+
+  pub follow_move : (lead rank : ℕ) (x : Values) (bounded : AreWords x) (based : Based home limit x) (known : List Fact) (holds : AllHold p h.func x known) (s t : State) (c : code.State) → Path (source p) lead s t → lead ≤ b.longest
+      → (next : Next) → Fits p h.func b h.notes numbers h.rows known lead rank next → Follows p h.func numbers x home rest below_frames next (step_act names c) t → Moves rank s c
+  follow_move lead rank x bounded based known holds s t c v short refused fits g = absurd fits
+  follow_move lead rank x bounded based known holds s t c v short (quietly index q o) fits g =
+      let l = landed x bounded based known holds no_answers (none_right p x) index q o t fits.lands g.1 in
+      strode lead fits.lands.lag rank fits.lands.note.rank s t l.to c (Runs (frame_at p h.func numbers x home index q) below_frames) v l.path g.0 fits.short fits.lands.low l.related fits.goes_on
+  follow_move lead rank x bounded based known holds s t c v short (either_way w first other) fits g = either_zero (eval p h.func x w)
+      (λ e. follow_move lead rank x bounded based known holds s t c v short first fits.0 (g.0 e)) (λ e. follow_move lead rank x bounded based (not_zero w ∷ known) (e, holds) s t c v short other fits.1 (g.1 e))
+  follow_move lead rank x bounded based known holds s t c v short (unless_trap op kind y z next) fits g = either_result (applied op kind (eval p h.func x y) (eval p h.func x z))
+      (λ n e. follow_move lead rank x bounded based known holds s t c v short next fits (g.0 n e)) (λ trap e. let w = g.1 trap e in leads short v (stop_meets p names b Related stops _ t c w.1 w.0))
+  follow_move lead rank x bounded based known holds s t c v short (finding class slot w next) fits g = either_found (p.slot (eval p h.func x w) class slot)
+      (λ n e. follow_move lead rank x bounded based (has_function class slot w ∷ known) ((n, e), holds) s t c v short next fits (g.0 n e)) (λ e. let r = g.1 e in leads short v (stop_meets p names b Related stops (Trapped BadVirtual) t c r.1 r.0))
+  follow_move lead rank x bounded based known holds s t c v short (loudly doing ws k index q) fits g = leads short v (event_meets x based known holds t c doing ws k index q bounded fits.0 fits.1 fits.2 g.0 g.1)
+  follow_move lead rank x bounded based known holds s t c v short (starting address argument ws k index q) fits g = either_found (p.pointed (eval p h.func x address) thread_signature)
+      (λ n e. let r = g.0 n e in leads short v (event_meets x based known holds t c (spawns_thread n argument) ws (Replied ∷ k) index q bounded refl fits.0 fits.1 r.0 r.1)) (λ e. let r = g.1 e in leads short v (stop_meets p names b Related stops (Trapped BadCall) t c r.1 r.0))
+  follow_move lead rank x bounded based known holds s t c v short (throwing e index q o) fits g =
+      strode lead 0 rank 0 s t t c (Unwinds (coded numbers (exception_of p h.func x e)) (frame_at p h.func numbers x home index q) below_frames) v here g.0 (few lead short) (omega arith) (flies t x bounded based known holds index q e o fits.1 g.1) (moves_on lead rank fits.0)
+  follow_move lead rank x bounded based known holds s t c v short (rethrowing ws k index q) fits g =
+      rethrown_move lead rank x bounded based known holds s t c ws k index q v short fits.0 fits.1 (frames.handled rest)
+      (g.0 ∙ ap (λ z. if_some z (Ends (Stop Terminate)) (λ e. code.goes (Unwinds e (frame_at p h.func numbers x home index q) below_frames))) current) g.1
+  follow_move lead rank x bounded based known holds s t c v short (ends end) fits g = leads short v (stop_meets p names b Related stops end t c g.1 g.0)

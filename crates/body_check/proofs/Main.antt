@@ -28,7 +28,7 @@ first_fits n safe = record {
   short = omega arith;
   foreseen = refl;
   fits = record {
-    lands = record { note = second_note; is = refl; lag = 0; terms = same; same_place = refl; same_outcome = refl; foreseen = refl; low = omega arith };
+    lands = record { note = second_note; is = refl; lag = 0; terms = same; same_place = refl; same_facts = tt; same_outcome = refl; foreseen = refl; low = omega arith };
     short = omega arith;
     goes_on = inl (omega arith);
   };
@@ -49,7 +49,7 @@ all_fit n safe (suc (suc k)) note e = absurd cc
 main_checked : (n : ℕ) (safe : Bool) → Checked main_program bounds main_book (main_book.held n safe)
 unfolding bounds
 main_checked n safe = record {
-  entry = record { note = first_note; is = refl; place_is = refl; outcome_is = refl; foreseen = refl; low = omega arith };
+  entry = record { facts_are = refl; note = first_note; is = refl; place_is = refl; outcome_is = refl; foreseen = refl; low = omega arith };
   notes = λ index note e. all_fit n safe index note e;
 }
 
@@ -71,19 +71,23 @@ main_links = record {
   bodies = λ n safe body e. cc;
   funcs = λ n safe body e. refl;
   numbers = λ n safe. refl;
+  safes = λ n safe. refl;
   frames = λ n safe. refl;
   rows = λ n safe body e. rows_there body e;
   stops = λ n safe. refl;
   cancels = λ t. cancels_same t;
   checked = λ n safe body e. main_checked n safe;
-  names = λ n safe. record { globals = λ s m e. absurd cc; functions = λ s m e. absurd cc; classes = λ s m e. absurd cc; types = λ s t e. absurd cc };
+  names = λ n safe. record { globals = λ s m e. absurd cc; functions = λ s m e. absurd cc; classes = λ s m e. absurd cc; types = λ s t e. absurd cc; addresses = λ n. refl; slots = λ s class e a slot. absurd cc; spawned = λ a. refl; signatures = λ s sig e a. absurd cc; methods = λ s class slot a n e. absurd cc };
   called = λ n safe name callee e. absurd cc;
   plain_there = λ n safe index name count callee i e. absurd cc;
   safe_there = λ n safe index name count callee i e. absurd cc;
+  pointed = λ a n sig e. absurd cc;
+  slotted = λ a class slot n e. absurd cc;
+  safe_bodies = λ n. refl;
 }
 
 pub main_small : IsSmall main_program
-main_small = record { globals = λ u n. omega arith; functions = λ u n. omega arith; tables = λ c. omega arith }
+main_small = record { globals = λ u n. omega arith; functions = λ u n. omega arith; tables = λ c. omega arith; slots = λ a c s n e. absurd cc }
 
 pub main_begins : Begins main_program main_names main_book 0 0 []
 main_begins = record { body = main_body; there = refl; gives = refl; takes = refl; starts = refl; ends = refl; room = refl }

@@ -43,15 +43,19 @@ call_fits safe = record {
     outcome_is = refl;
     operands_are = refl;
     taken = refl;
-    back = record {
-      lands = record { note = back_note; is = refl; lag = 1; terms = same; same_place = refl; same_outcome = refl; foreseen = refl; low = omega arith };
-      some = omega arith;
-      short = omega arith;
-    };
-    thrown = λ t is. record {
-      answers = no_answers;
-      right = λ n handler answer e. absurd cc;
-      found = record { lag = 3; temporaries = []; is = refl; some = omega arith; short = omega arith };
+    behind = record {
+      back = record {
+        lands = record { note = back_note; is = refl; lag = 1; terms = same; same_place = refl; same_facts = tt; same_outcome = refl; foreseen = refl; low = omega arith };
+        some = omega arith;
+        short = omega arith;
+      };
+      thrown = λ t is. record {
+        answers = no_answers;
+        right = λ n handler answer e. absurd cc;
+        found = record { lag = 3; temporaries = []; is = refl; some = omega arith; short = omega arith };
+      };
+      opens = refl;
+      caught = refl;
     };
   };
 }
@@ -68,7 +72,7 @@ push_fits n safe = record {
   short = omega arith;
   foreseen = refl;
   fits = record {
-    lands = record { note = ret_note; is = refl; lag = 0; terms = same; same_place = refl; same_outcome = refl; foreseen = refl; low = omega arith };
+    lands = record { note = ret_note; is = refl; lag = 0; terms = same; same_place = refl; same_facts = tt; same_outcome = refl; foreseen = refl; low = omega arith };
     short = omega arith;
     goes_on = inl (omega arith);
   };
@@ -92,11 +96,11 @@ fit_one n safe (suc (suc k)) note e = absurd cc
 pub pair_checked : (n : ℕ) (safe : Bool) → Checked pair_program bounds pair_book (pair_book.held n safe)
 unfolding bounds
 pair_checked zero safe = record {
-  entry = record { note = call_note; is = refl; place_is = refl; outcome_is = refl; foreseen = refl; low = omega arith };
+  entry = record { facts_are = refl; note = call_note; is = refl; place_is = refl; outcome_is = refl; foreseen = refl; low = omega arith };
   notes = λ index note e. fit_main safe index note e;
 }
 pair_checked (suc n) safe = record {
-  entry = record { note = push_note; is = refl; place_is = refl; outcome_is = refl; foreseen = refl; low = omega arith };
+  entry = record { facts_are = refl; note = push_note; is = refl; place_is = refl; outcome_is = refl; foreseen = refl; low = omega arith };
   notes = λ index note e. fit_one n safe index note e;
 }
 
@@ -117,15 +121,19 @@ pair_links = record {
   bodies = λ n safe body e. body_there n body e;
   funcs = λ n safe body e. refl;
   numbers = λ n safe. refl;
+  safes = λ n safe. refl;
   frames = λ n safe. size_of n;
   rows = λ n safe body e. ap (λ (z : BodyView). map (renamed_row itself) z.rows) (sym (body_there n body e)) ∙ no_rows n;
   stops = λ n safe. no_stops n;
   cancels = λ t. cancels_same t;
   checked = λ n safe body e. pair_checked n safe;
-  names = λ n safe. record { globals = λ s m e. absurd cc; functions = λ s m e. ap function_address (called_right s m e); classes = λ s m e. absurd cc; types = λ s t e. absurd cc };
+  names = λ n safe. record { globals = λ s m e. absurd cc; functions = λ s m e. ap function_address (called_right s m e); classes = λ s m e. absurd cc; types = λ s t e. absurd cc; addresses = λ n. refl; slots = λ s class e a slot. absurd cc; spawned = λ a. refl; signatures = λ s sig e a. absurd cc; methods = λ s class slot a n e. absurd cc };
   called = λ n safe name callee e. called_right name callee e;
   plain_there = λ n safe index name count callee i e. (body_of (number_of callee), refl);
   safe_there = λ n safe index name count callee i e. (body_of (number_of callee), refl);
+  pointed = λ a n sig e. absurd cc;
+  slotted = λ a class slot n e. absurd cc;
+  safe_bodies = λ n. all_safe n;
 }
   where
     size_of : (n : ℕ) → 16 ≡ (func_of n).size
@@ -136,12 +144,16 @@ pair_links = record {
     no_rows zero = refl
     no_rows (suc n) = refl
 
+    all_safe : (n : ℕ) → (func_of n).safe ≡ true
+    all_safe zero = refl
+    all_safe (suc n) = refl
+
     no_stops : (n : ℕ) → false ≡ (func_of n).stops
     no_stops zero = refl
     no_stops (suc n) = refl
 
 pub pair_small : IsSmall pair_program
-pair_small = record { globals = λ u n. omega arith; functions = λ u n. small_function n; tables = λ c. omega arith }
+pair_small = record { globals = λ u n. omega arith; functions = λ u n. small_function n; tables = λ c. omega arith; slots = λ a c s n e. absurd cc }
 
 pub pair_begins : Begins pair_program pair_names pair_book 0 0 []
 pair_begins = record { body = calling_body; there = refl; gives = refl; takes = refl; starts = refl; ends = refl; room = refl }

@@ -1,6 +1,12 @@
 -- The threads of a checked program go together, from main on.
-use Rattle.std.proofs.Common.{ℕ, zero, suc, ℤ, ◌≡◌, ◌+◌, ◌*◌, ◌^◌, ◌<◌, ◌==◌, ◌≤◌, nat_lt, Bool, true, false, cond, refl, ap, ap₂, sym, ◌∙◌, subst, List, [], ◌∷◌, Option, Some, None, arith}
-use Rattle.std.specs.Prelude.{slice_get, length, map}
+use Rattle.std.proofs.Common.{ℕ, zero, suc, ℤ, ◌≡◌, ◌+◌, ◌*◌, ◌^◌, ◌<◌, ◌==◌, ◌≤◌, ◌%◌, ◌++◌, ◌||◌, not, nat_lt, Bool, true, false, cond, refl, ap, ap₂, sym, ◌∙◌, subst, List, [], ◌∷◌, Option, Some, None, arith}
+use Rattle.std.specs.Prelude.{slice_get, length, map, is_some}
+use Rattle.std.specs.Option.{option_map}
+use Rattle.std.proofs.Math.Nat.{mod-eq_of_lt}
+use Rattle.cpp_tree.specs.cpp_layout.Layout.{function_address}
+use Rattle.symbolic_source.proofs.Below.{blocks_below}
+use Rattle.symbolic_code.specs.Facts.{Fact, has_function, AllHold}
+use Rattle.symbolic_code.proofs.Facts.{holds_among}
 use Rattle.tx_ints.specs.Words.{word_of}
 use Rattle.tx_ints.proofs.WordLaws.{word_below}
 use Rattle.std.proofs.lemmas.Bool.{true≢false}
@@ -8,43 +14,60 @@ use Rattle.tx_events.specs.declared.Event.{Event}
 use Rattle.tx_events.specs.declared.Event.TheVariants.{Silent}
 use Rattle.tx_events.specs.declared.Reply.{Reply}
 use Rattle.tx_events.specs.declared.Reply.TheVariants.{Nothing}
-use Rattle.tx_events.specs.Thread.{Thread, is_silent}
+use Rattle.tx_events.specs.Thread.{Thread, Open, Atomic, Sync, no_atomic, is_silent}
 use Rattle.tx_events.specs.Same.{Reaches, at_once, silently, answered, steps, Comes, SameEvents, StepsWithin}
 use Rattle.tx_events.specs.Simulation.{Path, here, step}
 use Rattle.tx_events.specs.declared.End.TheVariants.{Trapped}
-use Rattle.tx_events.specs.declared.Trap.TheVariants.{StackOverflow}
+use Rattle.tx_events.specs.declared.Trap.TheVariants.{StackOverflow, UnsafeCall, BadCall}
 use Rattle.std.proofs.Math.Nat.{mul-le-mul_left}
-use Rattle.lockstep.specs.Moves.{Move, meets}
+use Rattle.lockstep.specs.Moves.{Move, meets, leads}
 use Rattle.lockstep.proofs.Walk.{moves_same, moves_within}
 use Rattle.tx_code.specs.declared.instr.Instr.{Instr}
-use Rattle.tx_code.specs.declared.instr.Instr.TheVariants.{Call, TCall, Ret}
+use Rattle.tx_code.specs.declared.instr.Instr.TheVariants.{Call, TCall, CallIndirect, TCallIndirect, Ret}
 use Rattle.tx_code.specs.Objects.{BodyView}
 use Rattle.tx_code.specs.Meaning.{Names, Home, Frame, Runs, Unwinds, Act, first_frame, leave_act, rows_in, step_act, thread, starts}
 use Rattle.tx_code.specs.Meaning as code
 use Rattle.tx_code.specs.Renaming.{renamed, renamed_row}
-use Rattle.cpp_tree.specs.cpp_types.Typ.{Typ, typ, void}
+use Rattle.cpp_tree.specs.cpp_types.Typ.{Typ, Signature, typ, void}
 use Rattle.src_mean.specs.Linked.{Func, Program}
 use Rattle.src_mean.specs.Frames.{State}
 use Rattle.src_mean.specs.Frames as frames
 use Rattle.src_mean.specs.Exceptions as exceptions
-use Rattle.src_mean.specs.Source.{source, begins as thread_begins, main_state, empty_stack, enter, inside, halt}
-use Rattle.symbolic_source.specs.Terms.{Term, Exception, number, Values, eval, exception_of}
-use Rattle.symbolic_source.specs.Frames.{known, value, Passes, Then, words_of, here_of}
+use Rattle.src_mean.specs.Source.{source, begins as thread_begins, main_state, empty_stack, enter, enter_found, enter_pointed, invoke, is_safe, inside, halt}
+use Rattle.symbolic_source.specs.Terms.{Term, Exception, number, Values, number_found, eval, exception_of}
+use Rattle.symbolic_source.specs.Frames.{Waiting, Frame as Form, Callee, value, Passes, Then, words_of, callee_of, below, here_of}
 use Rattle.symbolic_source.specs.Outcomes.{Outcome, silent, goes, calls, Shows}
 use Rattle.symbolic_source.specs.Steps.{Answers, advanced}
 use Rattle.symbolic_source.specs.Small.{IsSmall, AreWords, AreRight, Advanced, is_stuck}
 use Rattle.symbolic_source.proofs.Advance.{advance}
-use Rattle.symbolic_code.specs.Places.{Place, coded, frame_at}
+use Rattle.symbolic_code.specs.Places.{Place, coded, frame_at, with_operands}
 use Rattle.symbolic_code.specs.Following.{followed}
 use Rattle.body_check.specs.Notes.{Note, Bounds, Outward, FlightFits, Fits, no_answers, variables}
 use Rattle.body_check.specs.Linked.{Held, Based, Stands, Stopped, Finished}
-use Rattle.body_check.specs.Calls.{Book, taken_off, bare, Begins, Hands, BackWith, Calling, StepFits, NoteFits, Checked, Links}
+use Rattle.body_check.specs.Calls.{Book, taken_off, bare, Begins, Hands, covers, Behind, Calling, Found, by_pointer, by_slot, CallingFound, StepFits, NoteFits, Checked, Whole, Links}
 use Rattle.body_check.specs.Threads.{home_of, limit, Callers, nobody, RunsIn, FliesIn, Together, running, flies, stopped, finished}
 use Rattle.body_check.proofs.Landing.{none_right, stop_meets, ended_meets}
 use Rattle.body_check.proofs.Flight.{flight_move}
-use Rattle.body_check.proofs.Calls.{count_of, word_at, variables_are}
+use Rattle.body_check.proofs.Calls.{count_of, moved_is, taken_count, word_at, variables_are}
 use Rattle.body_check.proofs.AtNote.{step_is, note_move}
-use Rattle.body_check.proofs.Threads.{Moves, Pairs, held, end_of, stands_in, flies_in, call_move, return_word, return_none, out_move}
+use Rattle.body_check.proofs.Threads.{Moves, Pairs, held, end_of, stands_in, flies_in, callers_blocks, callers_current, call_move, return_word, return_none, out_move}
+
+-- where a frame of a safe body has an open atomic block below it
+
+covered_by : (safe : Bool) (opens others : List Open) → (safe ≡ true → no_atomic others ≡ false) → covers safe opens ≡ true → no_atomic (opens ++ others) ≡ false
+covered_by true [] others h e = h refl
+covered_by false [] others h e = absurd (true≢false (sym e))
+covered_by safe (Atomic kind ∷ opens) others h e = refl
+covered_by safe (Sync ∷ opens) others h e = covered_by safe opens others h e
+
+none_behind : (opens others : List Open) → no_atomic (opens ++ others) ≡ true → no_atomic others ≡ true
+none_behind [] others e = e
+none_behind (Atomic kind ∷ opens) others e = absurd (true≢false (sym e))
+none_behind (Sync ∷ opens) others e = none_behind opens others e
+
+plain_frame : (safe : Bool) (opens others : List Open) → no_atomic (opens ++ others) ≡ true → (safe ≡ true → no_atomic others ≡ false) → safe ≡ false
+plain_frame true opens others e h = absurd (true≢false (sym (none_behind opens others e) ∙ h refl))
+plain_frame false opens others e h = refl
 
 module _ (p : Program) (names : Names) (b : Bounds) (book : Book) (id : ℕ) (links : Links p names b book) (small : IsSmall p) where
   abbrev numbers : Typ → ℕ
@@ -73,32 +96,141 @@ module _ (p : Program) (names : Names) (b : Bounds) (book : Book) (id : ℕ) (li
     is_body = r.there ∙ ap Some (sym (links.bodies n safe r.body r.there))
 
     stands : (rank : ℕ) (s : State) (top : Frame) → Stands p numbers h home (limit p names b book id) r.rest rank s top → Together p names b book id rank s (Runs top fs)
-    stands rank s top z = stands_in p names b book id links small n safe base r.body r.there fs r.rest r.callers rank s top z
+    stands rank s top z = stands_in p names b book id links small n safe base r.body r.there fs r.rest r.covered r.callers rank s top z
 
     stops : (s : State) (c : code.State) → Stopped names s c → Together p names b book id 0 s c
     stops s c z = stopped z
 
-    flying_in : (s : State) (x : Values) → AreWords x → Based home (limit p names b book id) x → (index : ℕ) (q : Place) (e : Exception) (o : Outcome) → FlightFits p h.func b h.notes numbers h.rows index q e o → Shows p h.func x r.rest o s
+    flying_in : (s : State) (x : Values) → AreWords x → Based home (limit p names b book id) x → (known : List Fact) → AllHold p h.func x known → (index : ℕ) (q : Place) (e : Exception) (o : Outcome) → FlightFits p h.func b h.notes numbers h.rows known index q e o → Shows p h.func x r.rest o s
         → Together p names b book id 0 s (Unwinds (coded numbers (exception_of p h.func x e)) (frame_at p h.func numbers x home index q) fs)
-    flying_in s x bounded based index q e o fits shows = flies_in p names b book id links small n safe base r.body r.there fs r.rest r.callers s x bounded based index q e o fits shows
+    flying_in s x bounded based known holds index q e o fits shows = flies_in p names b book id links small n safe base r.body r.there fs r.rest r.covered r.callers s x bounded based known holds index q e o fits shows
+
+    current : code.current fs ≡ option_map (coded numbers) (frames.handled r.rest)
+    current = callers_current p names b book id links small (book.gives n) h.func.stops fs r.rest r.callers
 
     stepped : (a : Instr) → slice_get h.body.code r.stands.index ≡ Some a → step_act names (Runs frame fs) ≡ code.act names (renamed (names.numbering n) a) frame fs
-    stepped a is = step_is p names numbers h b home (limit p names b book id) r.rest fs small (Together p names b book id) stands stops flying_in is_body (links.names n safe) x r.stands.index note.place a is
+    stepped a is = step_is p names numbers h b home (limit p names b book id) r.rest fs small (Together p names b book id) stands stops flying_in current is_body (links.names n safe) x r.stands.index note.place a is
 
     ahead : is_stuck (advanced p h.func no_answers note.lead note.outcome) ≡ false → Advanced p h.func x no_answers r.rest note.lead note.outcome s
     ahead foreseen = advance p h.func x no_answers r.rest small r.stands.are_words (none_right p x) note.lead note.outcome s r.stands.shows foreseen
 
-    call_at : (into : Bool) (name count : ℕ) → note.lead + 1 ≤ b.half → (foreseen : is_stuck (advanced p h.func no_answers note.lead note.outcome) ≡ false)
-        → (c : Calling p b book h r.stands.index note.place (advanced p h.func no_answers note.lead note.outcome) name count) → (body : BodyView) × (names.body (p.number h.func.unit c.callee) into ≡ Some body)
+    room : note.lead + 1 ≤ b.half → note.lead ≤ b.longest
+    room short = let both = b.both in omega (arith, short, both)
+
+    -- a safe body is called where an atomic block is open
+    covers_callee : covers h.safe note.place.opens ≡ true → no_atomic (note.place.opens ++ code.blocks_in fs) ≡ false
+    covers_callee e = covered_by h.safe note.place.opens (code.blocks_in fs) (λ i. r.covered (sym (links.safes n safe) ∙ i)) e
+
+    abbrev under_frame : List Term → Frame
+    under_frame under = frame_at p h.func numbers x home r.stands.index (with_operands note.place under)
+
+    counted : (count : ℕ) (words under : List Term) → taken_off count note.place.operands [] ≡ Some (words, under) → count_of words ≡ count
+    counted count words under e = taken_count count note.place.operands [] words under e ∙ none count
+      where
+        none : (n : ℕ) → n + 0 ≡ n
+        none n = omega arith
+
+    enter_at : (into : Bool) (m : ℕ) (body : BodyView) → names.body m into ≡ Some body → (words under : List Term) (ws : List Waiting) (k : List Form) → count_of words ≡ book.takes m → Behind p b book (book.gives m) h note.facts r.stands.index note.place under ws k
+        → (into ≡ true → no_atomic (note.place.opens ++ code.blocks_in fs) ≡ false) → (t : State) → Path (source p) note.lead s t → note.lead + 1 ≤ b.half → t ≡ enter (here_of p h.func x ws) (words_of p h.func x words) (p.func m) (below p h.func x k r.rest)
+        → step_act names (Runs frame fs) ≡ code.enter_act names m into (words_of p h.func x words) (under_frame under) fs → Makes rank s (Runs frame fs)
+    enter_at into m body there words under ws k count behind cover t path short g e =
+        call_move p names b book id links small n safe base x r.stands.are_words r.stands.based r.stands.index note.place fs r.rest m into body there r.body r.there words under ws k count note.facts r.stands.holds behind r.covered cover r.callers
+        note.lead rank s t (Runs frame fs) path short e g
+
+    call_at : (into : Bool) (name count : ℕ) → (into ≡ true → no_atomic (note.place.opens ++ code.blocks_in fs) ≡ false) → note.lead + 1 ≤ b.half → (foreseen : is_stuck (advanced p h.func no_answers note.lead note.outcome) ≡ false)
+        → (c : Calling p b book h note.facts r.stands.index note.place (advanced p h.func no_answers note.lead note.outcome) name count) → (body : BodyView) × (names.body (p.number h.func.unit c.callee) into ≡ Some body)
         → step_act names (Runs frame fs) ≡ code.call_act names ((names.numbering n).func name) into count frame fs → Makes rank s (Runs frame fs)
-    call_at into name count short foreseen c found e =
+    call_at into name count cover short foreseen c found e =
         let m = p.number h.func.unit c.callee in
         let v = ahead foreseen in
-        call_move p names b book id links small n safe base x r.stands.are_words r.stands.based r.stands.index note.place fs r.rest m into found.0 found.1 r.body r.there c.words c.under c.temporaries c.others
-        (ap (λ z. taken_off z note.place.operands []) c.taken ∙ c.operands_are) c.back c.thrown r.callers
-        note.lead rank s v.to (Runs frame fs) (subst (λ z. Path (source p) z s v.to) v.long v.path) short
-        (e ∙ ap₂ (λ y z. code.call_act names y into z frame fs) (links.called n safe name c.callee c.named) (sym c.taken))
+        enter_at into m found.0 found.1 c.words c.under c.temporaries c.others (counted count c.words c.under c.operands_are ∙ sym c.taken) c.behind cover v.to (subst (λ z. Path (source p) z s v.to) v.long v.path) short
         (subst (λ z. Shows p h.func x r.rest z v.to) c.outcome_is v.shows)
+        (e ∙ (ap (λ y. code.call_act names y into count frame fs) (links.called n safe name c.callee c.named)
+        ∙ (moved_is p h.func x count note.place.operands [] c.words c.under (λ args vs. code.entered_act names m into args (code.at frame r.stands.index vs) fs) c.operands_are
+        ∙ ap (λ o. code.if_some o code.Lost (λ y. code.enter_act names m into (words_of p h.func x c.words) (under_frame c.under) fs)) found.1)))
+
+    -- a function that was found
+    module _ (into : Bool) (m count : ℕ) (gives : Bool) (whole : Whole names book m count gives) (words under : List Term) (ws : List Waiting) (k : List Form) (counts : count_of words ≡ count) (behind : Behind p b book gives h note.facts r.stands.index note.place under ws k)
+        (cover : into ≡ true → no_atomic (note.place.opens ++ code.blocks_in fs) ≡ false) (t : State) (path : Path (source p) note.lead s t) (short : note.lead + 1 ≤ b.half) where
+      abbrev on : List frames.Frame
+      on = below p h.func x k r.rest
+
+      abbrev enters : Act
+      enters = code.entered_act names m into (words_of p h.func x words) (under_frame under) fs
+
+      abbrev open_blocks : List Open
+      open_blocks = note.place.opens ++ code.blocks_in fs
+
+      blocks_are : frames.blocks_of on ≡ open_blocks
+      blocks_are = blocks_below p h.func x r.rest k ∙ ap₂ (λ (u v : List Open). u ++ v) (sym behind.opens) (sym (callers_blocks p names b book id links small (book.gives n) h.func.stops fs r.rest r.callers))
+
+      found_enters : (body : BodyView) → names.body m into ≡ Some body → t ≡ enter (here_of p h.func x ws) (words_of p h.func x words) (p.func m) on → step_act names (Runs frame fs) ≡ enters → Makes rank s (Runs frame fs)
+      found_enters body there g e = enter_at into m body there words under ws k (counts ∙ sym whole.takes) (subst (λ z. Behind p b book z h note.facts r.stands.index note.place under ws k) (sym whole.gives_so) behind) cover t path short g
+          (e ∙ ap (λ o. code.if_some o code.Lost (λ y. code.enter_act names m into (words_of p h.func x words) (under_frame under) fs)) there)
+
+      abbrev finding : Bool → State
+      finding z = cond z (enter (here_of p h.func x ws) (words_of p h.func x words) (p.func m) on) (halt (here_of p h.func x ws) (Trapped UnsafeCall) on)
+
+      -- outside of transactions
+      plain_enters : (i : Bool) → into ≡ i → no_atomic open_blocks ≡ true → t ≡ finding true → step_act names (Runs frame fs) ≡ enters → Makes rank s (Runs frame fs)
+      plain_enters true i opens g e = absurd (true≢false (sym opens ∙ cover i))
+      plain_enters false i opens g e = found_enters whole.body (ap (λ z. names.body m z) i ∙ whole.there) g e
+
+      -- in one
+      safe_enters : (o : Option BodyView) → names.body m true ≡ o → t ≡ finding (is_some o) → step_act names (Runs frame fs) ≡ code.if_some o (code.traps UnsafeCall) (λ y. enters) → Makes rank s (Runs frame fs)
+      safe_enters None there g e = leads (room short) path (stop_meets p names b (Together p names b book id) (λ s c y. stopped y) (Trapped UnsafeCall) t (Runs frame fs) (record { here = here_of p h.func x ws; others = on; is = g }) e)
+      safe_enters (Some body) there g e = by_into into refl
+        where
+          by_into : (i : Bool) → into ≡ i → Makes rank s (Runs frame fs)
+          by_into true i = found_enters body (ap (λ z. names.body m z) i ∙ there) g e
+          by_into false i = found_enters whole.body (ap (λ z. names.body m z) i ∙ whole.there) g e
+
+      by_blocks : (z : Bool) → no_atomic open_blocks ≡ z → t ≡ finding (z || is_safe (p.func m)) → step_act names (Runs frame fs) ≡ code.checked_act names m (safe || not z) enters → Makes rank s (Runs frame fs)
+      by_blocks true opens g e = plain_enters into refl opens g (e ∙ ap (λ z. code.checked_act names m (z || false) enters) (plain_frame safe note.place.opens (code.blocks_in fs) opens r.covered))
+      by_blocks false opens g e = safe_enters (names.body m true) refl (g ∙ ap (λ z. finding z) (links.safe_bodies m)) (e ∙ ap (λ z. code.checked_act names m z enters) (always safe))
+        where
+          always : (z : Bool) → (z || true) ≡ true
+          always true = refl
+          always false = refl
+
+      found_at : t ≡ enter_found (here_of p h.func x ws) (words_of p h.func x words) (p.func m) on → step_act names (Runs frame fs) ≡ code.checked_act names m (code.in_transaction frame fs) enters → Makes rank s (Runs frame fs)
+      found_at g e = by_blocks (no_atomic open_blocks) refl (g ∙ ap (λ (z : List Open). finding (no_atomic z || is_safe (p.func m))) blocks_are) e
+
+    abbrev calls_found : Bool → Option ℕ → List Term → List Term → Act
+    calls_found into o words under = code.if_some o (code.traps BadCall) (λ m. code.checked_act names m (code.in_transaction frame fs) (code.entered_act names m into (words_of p h.func x words) (under_frame under) fs))
+
+    pointer_at : (into : Bool) (count : ℕ) (gives : Bool) (a : ℕ) (sig : Signature) → count ≡ book.takes_as sig → gives ≡ book.gives_as sig → (words under : List Term) (ws : List Waiting) (k : List Form) → count_of words ≡ count
+        → Behind p b book gives h note.facts r.stands.index note.place under ws k → (into ≡ true → no_atomic (note.place.opens ++ code.blocks_in fs) ≡ false) → (t : State) → Path (source p) note.lead s t → note.lead + 1 ≤ b.half
+        → (o : Option ℕ) → p.pointed a sig ≡ o → t ≡ enter_pointed p (here_of p h.func x ws) (words_of p h.func x words) o (below p h.func x k r.rest) → step_act names (Runs frame fs) ≡ calls_found into o words under → Makes rank s (Runs frame fs)
+    pointer_at into count gives a sig i j words under ws k counts behind cover t path short None is g e =
+        leads (room short) path (stop_meets p names b (Together p names b book id) (λ s c y. stopped y) (Trapped BadCall) t (Runs frame fs) (record { here = here_of p h.func x ws; others = below p h.func x k r.rest; is = g }) e)
+    pointer_at into count gives a sig i j words under ws k counts behind cover t path short (Some m) is g e =
+        found_at into m (book.takes_as sig) (book.gives_as sig) (links.pointed a m sig is) words under ws k (counts ∙ i) (subst (λ z. Behind p b book z h note.facts r.stands.index note.place under ws k) j behind) cover t path short g e
+
+    found_call : (into : Bool) (name count : ℕ) (address : Term) (callee : Callee) (gives : Bool) → Found p b book h note.facts name address callee count gives → (words under : List Term) (ws : List Waiting) (k : List Form) → count_of words ≡ count
+        → Behind p b book gives h note.facts r.stands.index note.place under ws k → (into ≡ true → no_atomic (note.place.opens ++ code.blocks_in fs) ≡ false) → (t : State) → Path (source p) note.lead s t → note.lead + 1 ≤ b.half
+        → t ≡ invoke p (here_of p h.func x ws) (callee_of p h.func x callee) (words_of p h.func x words) (below p h.func x k r.rest)
+        → step_act names (Runs frame fs) ≡ calls_found into (names.called ((names.numbering n).ty name) (eval p h.func x address)) words under → Makes rank s (Runs frame fs)
+    found_call into name count address callee gives (by_pointer a sig named) words under ws k counts behind cover t path short g e =
+        pointer_at into (book.takes_as sig) (book.gives_as sig) (eval p h.func x a) sig refl refl words under ws k counts behind cover t path short (p.pointed (eval p h.func x a) sig) refl g
+        (e ∙ ap (λ z. calls_found into z words under) ((links.names n safe).signatures name sig named (eval p h.func x a)))
+    found_call into name count address callee gives (by_slot class slot a named among) words under ws k counts behind cover t path short g e =
+        let fact = holds_among p h.func x (has_function class slot a) note.facts among r.stands.holds in
+        let m = fact.0 in
+        found_at into m (book.slot_takes class slot) (book.slot_gives class slot) (links.slotted (eval p h.func x a) class slot m fact.1) words under ws k counts behind cover t path short
+        (g ∙ ap (λ (z : Option ℕ). enter_found (here_of p h.func x ws) (words_of p h.func x words) (p.func (number_found z)) (below p h.func x k r.rest)) fact.1)
+        (e ∙ ap (λ z. calls_found into z words under) (ap (λ (z : Option ℕ). names.called ((names.numbering n).ty name) (function_address (number_found z) % 2 ^ 64)) fact.1
+        ∙ (ap (λ z. names.called ((names.numbering n).ty name) z) (mod-eq_of_lt (small.slots (eval p h.func x a) class slot m fact.1)) ∙ (links.names n safe).methods name class slot (eval p h.func x a) m named fact.1)))
+
+    found_call_at : (into : Bool) (name count : ℕ) → (into ≡ true → no_atomic (note.place.opens ++ code.blocks_in fs) ≡ false) → note.lead + 1 ≤ b.half → (foreseen : is_stuck (advanced p h.func no_answers note.lead note.outcome) ≡ false)
+        → CallingFound p b book h note.facts r.stands.index note.place (advanced p h.func no_answers note.lead note.outcome) name count
+        → step_act names (Runs frame fs) ≡ code.call_indirect_act names ((names.numbering n).ty name) into count frame fs → Makes rank s (Runs frame fs)
+    found_call_at into name count cover short foreseen c e =
+        let v = ahead foreseen in
+        found_call into name count c.address c.callee c.gives c.found c.words c.under c.temporaries c.others (counted count c.words (c.address ∷ c.under) c.operands_are) c.behind cover v.to (subst (λ z. Path (source p) z s v.to) v.long v.path) short
+        (subst (λ z. Shows p h.func x r.rest z v.to) c.outcome_is v.shows)
+        (e ∙ moved_is p h.func x count note.place.operands [] c.words (c.address ∷ c.under) (λ args vs. code.one vs (λ a others. code.if_some (names.called ((names.numbering n).ty name) a) (code.traps BadCall)
+            (λ m. code.checked_act names m (code.in_transaction frame fs) (code.entered_act names m into args (code.at frame r.stands.index others) fs)))) c.operands_are)
 
     word_at_return : (w : Term) (under : List Term) → note.lead + 1 ≤ b.half → (foreseen : is_stuck (advanced p h.func no_answers note.lead note.outcome) ≡ false) → book.gives n ≡ true
         → note.place.operands ≡ w ∷ under → Hands w (advanced p h.func no_answers note.lead note.outcome) → step_act names (Runs frame fs) ≡ code.ret_act 1 frame fs → Makes rank s (Runs frame fs)
@@ -115,9 +247,6 @@ module _ (p : Program) (names : Names) (b : Bounds) (book : Book) (id : ℕ) (li
         return_none p names b book id links small home note.lead rank h.func x (advanced p h.func no_answers note.lead note.outcome) h.func.stops s v.to (Runs frame fs) fs r.rest refl
         (subst (λ z. Callers p names b book id z h.func.stops fs r.rest) gives r.callers) (subst (λ z. Path (source p) z s v.to) v.long v.path) short e hands v.shows
 
-    room : note.lead + 1 ≤ b.half → note.lead ≤ b.longest
-    room short = let both = b.both in omega (arith, short, both)
-
     numbered : h.number ≡ n
     numbered = links.numbers n safe
 
@@ -125,14 +254,16 @@ module _ (p : Program) (names : Names) (b : Bounds) (book : Book) (id : ℕ) (li
     on_top m = subst (λ z. Makes rank s (Runs z fs)) (sym r.stands.frame) m
 
     plain_move : (a : Instr) → slice_get h.body.code r.stands.index ≡ Some a → note.lead + 1 ≤ b.half → is_stuck (advanced p h.func no_answers note.lead note.outcome) ≡ false
-        → Fits p h.func b h.notes numbers h.rows note.lead note.rank (followed h.table r.stands.index a note.place (advanced p h.func no_answers note.lead note.outcome)) → Makes rank s (Runs top fs)
-    plain_move a is short foreseen fits = note_move p names numbers h b home (limit p names b book id) r.rest fs small (Together p names b book id) stands stops flying_in is_body (links.names n safe) rank s top r.stands a is foreseen (room short)
-        (subst (λ z. Fits p h.func b h.notes numbers h.rows note.lead z (followed h.table r.stands.index a note.place (advanced p h.func no_answers note.lead note.outcome))) r.stands.ranked fits)
+        → Fits p h.func b h.notes numbers h.rows note.facts note.lead note.rank (followed h.table note.facts r.stands.index a note.place (advanced p h.func no_answers note.lead note.outcome)) → Makes rank s (Runs top fs)
+    plain_move a is short foreseen fits = note_move p names numbers h b home (limit p names b book id) r.rest fs small (Together p names b book id) stands stops flying_in current is_body (links.names n safe) rank s top r.stands a is foreseen (room short)
+        (subst (λ z. Fits p h.func b h.notes numbers h.rows note.facts note.lead z (followed h.table note.facts r.stands.index a note.place (advanced p h.func no_answers note.lead note.outcome))) r.stands.ranked fits)
 
     at_instr : (a : Instr) → slice_get h.body.code r.stands.index ≡ Some a → note.lead + 1 ≤ b.half → is_stuck (advanced p h.func no_answers note.lead note.outcome) ≡ false
-        → StepFits p b book h note.lead note.rank r.stands.index a note.place (advanced p h.func no_answers note.lead note.outcome) → Makes rank s (Runs top fs)
-    at_instr (Call name k) is short foreseen fits = on_top (call_at false name k short foreseen fits (links.plain_there n safe r.stands.index name k fits.callee is fits.named) (stepped (Call name k) is))
-    at_instr (TCall name k) is short foreseen fits = on_top (call_at true name k short foreseen fits (links.safe_there n safe r.stands.index name k fits.callee is fits.named) (stepped (TCall name k) is))
+        → StepFits p b book h note.facts note.lead note.rank r.stands.index a note.place (advanced p h.func no_answers note.lead note.outcome) → Makes rank s (Runs top fs)
+    at_instr (Call name k) is short foreseen fits = on_top (call_at false name k (λ i. absurd (true≢false (sym i))) short foreseen fits (links.plain_there n safe r.stands.index name k fits.callee is fits.named) (stepped (Call name k) is))
+    at_instr (TCall name k) is short foreseen fits = on_top (call_at true name k (λ i. covers_callee fits.0) short foreseen fits.1 (links.safe_there n safe r.stands.index name k fits.1.callee is fits.1.named) (stepped (TCall name k) is))
+    at_instr (CallIndirect name k) is short foreseen fits = on_top (found_call_at false name k (λ i. absurd (true≢false (sym i))) short foreseen fits (stepped (CallIndirect name k) is))
+    at_instr (TCallIndirect name k) is short foreseen fits = on_top (found_call_at true name k (λ i. covers_callee fits.0) short foreseen fits.1 (stepped (TCallIndirect name k) is))
     at_instr (Ret zero) is short foreseen fits = on_top (none_at_return short foreseen (ap book.gives (sym numbered) ∙ fits.0) fits.1 (stepped (Ret zero) is))
     at_instr (Ret (suc zero)) is short foreseen fits = on_top (word_at_return fits.1.0 fits.1.1 short foreseen (ap book.gives (sym numbered) ∙ fits.0) fits.1.2 fits.1.3 (stepped (Ret (suc zero)) is))
     at_instr (Ret (suc (suc k))) is short foreseen fits = absurd fits
@@ -152,14 +283,17 @@ module _ (p : Program) (names : Names) (b : Bounds) (book : Book) (id : ℕ) (li
     own_home = home_of id n safe base
 
     own_stands : (rank : ℕ) (s : State) (top : Frame) → Stands p numbers own own_home (limit p names b book id) r.rest rank s top → Together p names b book id rank s (Runs top fs)
-    own_stands rank s top z = stands_in p names b book id links small n safe base r.body r.there fs r.rest r.callers rank s top z
+    own_stands rank s top z = stands_in p names b book id links small n safe base r.body r.there fs r.rest r.covered r.callers rank s top z
 
     own_stops : (s : State) (c : code.State) → Stopped names s c → Together p names b book id 0 s c
     own_stops s c z = stopped z
 
-    own_flies : (s : State) (x : Values) → AreWords x → Based own_home (limit p names b book id) x → (index : ℕ) (q : Place) (e : Exception) (o : Outcome) → FlightFits p own.func b own.notes numbers own.rows index q e o → Shows p own.func x r.rest o s
+    own_flies : (s : State) (x : Values) → AreWords x → Based own_home (limit p names b book id) x → (known : List Fact) → AllHold p own.func x known → (index : ℕ) (q : Place) (e : Exception) (o : Outcome) → FlightFits p own.func b own.notes numbers own.rows known index q e o → Shows p own.func x r.rest o s
         → Together p names b book id 0 s (Unwinds (coded numbers (exception_of p own.func x e)) (frame_at p own.func numbers x own_home index q) fs)
-    own_flies s x bounded based index q e o fits shows = flies_in p names b book id links small n safe base r.body r.there fs r.rest r.callers s x bounded based index q e o fits shows
+    own_flies s x bounded based known holds index q e o fits shows = flies_in p names b book id links small n safe base r.body r.there fs r.rest r.covered r.callers s x bounded based known holds index q e o fits shows
+
+    own_current : code.current fs ≡ option_map (coded numbers) (frames.handled r.rest)
+    own_current = callers_current p names b book id links small (book.gives n) own.func.stops fs r.rest r.callers
 
     abbrev thrown : exceptions.Exception
     thrown = exception_of p own.func r.values r.form
@@ -179,7 +313,7 @@ module _ (p : Program) (names : Names) (b : Bounds) (book : Book) (id : ℕ) (li
 
     flying_move : Makes 0 s (Unwinds e top fs)
     flying_move = subst (λ z. Makes 0 s (Unwinds z top fs)) (sym r.is) (subst (λ z. Makes 0 s (Unwinds (coded numbers thrown) z fs)) (sym r.frame)
-        (flight_move p names numbers own b own_home (limit p names b book id) r.rest fs small (Together p names b book id) own_stands own_stops own_flies links.cancels r.values r.are_words r.based r.index r.place r.form r.outcome s r.shows leaves_function rows_are r.fits))
+        (flight_move p names numbers own b own_home (limit p names b book id) r.rest fs small (Together p names b book id) own_stands own_stops own_flies own_current links.cancels r.values r.are_words r.based r.facts r.holds r.index r.place r.form r.outcome s r.shows leaves_function rows_are r.fits))
 
   pub together_moves : (rank : ℕ) (s : State) (c : code.State) → rank ≤ b.most → Together p names b book id rank s c → Makes rank s c
   together_moves rank s c low (running {top = top} {fs = fs} n safe base r) = running_move n safe base fs rank s top r
@@ -288,6 +422,7 @@ module _ (p : Program) (names : Names) (b : Bounds) (book : Book) (id : ℕ) (li
     there = begins.there;
     rest = called;
     callers = subst (λ z. Callers p names b book id z g.func.stops [] called) (sym begins.gives) (nobody (id == 0) g.func.stops refl);
+    covered = λ e. absurd (true≢false (sym e));
     stands = record {
       values = values;
       are_words = bounded;
@@ -296,6 +431,7 @@ module _ (p : Program) (names : Names) (b : Bounds) (book : Book) (id : ℕ) (li
       note = checked.entry.note;
       is = checked.entry.is;
       ranked = refl;
+      holds = subst (λ z. AllHold p g.func values z) (sym checked.entry.facts_are) tt;
       frame = ap (λ (z : List ℕ). first_frame first_home z) (sym own_words) ∙ ap (λ (z : Place). frame_at p g.func book.numbers values first_home 0 z) (sym (checked.entry.place_is ∙ ap (λ z. bare z) takes));
       shows = subst (λ z. Shows p g.func values called z begun.to) (sym foreseen) begun.shows;
     };

@@ -30,12 +30,17 @@ use Rattle.symbolic_source.specs.Replacing.{in_terms, in_waitings, in_frames}
 use Rattle.symbolic_source.proofs.TermLemmas.{term_below}
 use Rattle.symbolic_source.proofs.Advance.{advance}
 use Rattle.symbolic_source.proofs.Replaced.{here_replaced, frames_replaced}
-use Rattle.symbolic_code.specs.Places.{Place, coded, frame_at, replied, later, with_operands, place_later}
+use Rattle.symbolic_code.specs.Places.{Place, coded, all_coded, frame_at, replied, later, with_operands, place_later}
 use Rattle.symbolic_code.proofs.Later.{words_later, frame_later}
-use Rattle.body_check.specs.Notes.{Note, Bounds, FlightFits, in_place, no_answers, variables}
+use Rattle.body_check.specs.Notes.{Note, Bounds, FlightFits, in_place, rising, no_answers, variables}
 use Rattle.body_check.specs.Linked.{Held, Based, Stands, Stopped, Finished}
-use Rattle.body_check.specs.Calls.{Book, taken_off, bare, Hands, by_end, by_return, rising, Back, BackWith, ThrownWith, Calling, Entry, Checked, Links}
-use Rattle.body_check.specs.Threads.{home_of, limit, Waits, waiting_frame, waiting_frames, Callers, nobody, waits_for, RunsIn, FliesIn, Together, running, flies, stopped, finished}
+use Rattle.std.specs.Option.{option_map}
+use Rattle.tx_events.specs.Thread.{Open, no_atomic}
+use Rattle.symbolic_source.proofs.Below.{blocks_below, or_callers, handled_below}
+use Rattle.symbolic_code.specs.Facts.{Fact, AllHold, in_facts}
+use Rattle.symbolic_code.proofs.Facts.{facts_placed}
+use Rattle.body_check.specs.Calls.{Book, taken_off, bare, Hands, by_end, by_return, first_of, Behind, Entry, Checked, Links}
+use Rattle.body_check.specs.Threads.{home_of, limit, Waits, waiting_frame, waiting_frames, Covered, Callers, nobody, waits_for, RunsIn, FliesIn, Together, running, flies, stopped, finished}
 use Rattle.body_check.proofs.Landing.{joined, none_right, landed, Landed, frame_replaced, stop_meets, ended_meets}
 use Rattle.body_check.proofs.Calls.{count_of, moved_is, taken_count, fits_or_not, values_in, new_variables, entered, new_words}
 
@@ -75,8 +80,8 @@ module _ (p : Program) (names : Names) (b : Bounds) (book : Book) (id : ℕ) (li
   -- the callee's frame, where it is entered
   module _ (n : ℕ) (safe : Bool) (base : ℕ) (x : Values) (bounded : AreWords x) (based : Based (home_of id n safe base) end_of x) (index : ℕ) (q : Place) (fs : List Frame) (rest : List frames.Frame)
       (m : ℕ) (into : Bool) (body : BodyView) (there : names.body m into ≡ Some body) (own : BodyView) (own_there : names.body n safe ≡ Some own)
-      (words under : List Term) (ws : List Kept) (k : List Form) (taken : taken_off (book.takes m) q.operands [] ≡ Some (words, under))
-      (back : BackWith p b book (book.gives m) (held n safe) index q under ws k) (thrown : ThrownWith p b book (held n safe) index q under ws k) (callers : Callers p names b book id (book.gives n) (held n safe).func.stops fs rest) where
+      (words under : List Term) (ws : List Kept) (k : List Form) (counted : count_of words ≡ book.takes m) (facts : List Fact) (holds : AllHold p (held n safe).func x facts)
+      (behind : Behind p b book (book.gives m) (held n safe) facts index q under ws k) (covered : Covered p names b book id safe fs) (covers_callee : into ≡ true → no_atomic (q.opens ++ code.blocks_in fs) ≡ false) (callers : Callers p names b book id (book.gives n) (held n safe).func.stops fs rest) where
     abbrev f : Func
     f = (held n safe).func
 
@@ -84,7 +89,7 @@ module _ (p : Program) (names : Names) (b : Bounds) (book : Book) (id : ℕ) (li
     g = (held m into).func
 
     abbrev waiting : Waits p names b book id (book.gives m) n safe base
-    waiting = record { body = own; there = own_there; values = x; are_words = bounded; based = based; index = index; place = q; under = under; temporaries = ws; others = k; back = back; thrown = thrown }
+    waiting = record { body = own; there = own_there; values = x; are_words = bounded; based = based; index = index; place = q; facts = facts; holds = holds; under = under; temporaries = ws; others = k; behind = behind }
 
     abbrev new : Values
     new = values_in x (words_of p f x words) (x.base + f.size)
@@ -96,12 +101,6 @@ module _ (p : Program) (names : Names) (b : Bounds) (book : Book) (id : ℕ) (li
     entry = (links.checked m into body there).entry
 
     -- where the source has got to one step on
-    counted : count_of words ≡ book.takes m
-    counted = taken_count (book.takes m) q.operands [] words under taken ∙ none (book.takes m)
-      where
-        none : (n : ℕ) → n + 0 ≡ n
-        none n = omega arith
-
     first : State
     first = frames.at Silent (source.inside (here_of p f x ws) g) (frames.Passes (words_of p f x words) g.words ∷ frames.Then frames.value g.body ∷ called)
 
@@ -114,7 +113,7 @@ module _ (p : Program) (names : Names) (b : Bounds) (book : Book) (id : ℕ) (li
 
     begun : Advanced p g new no_answers called 1 start first
     unfolding first start
-    begun = advance p g new no_answers called small (new_words p small f g x bounded ws k rest words) (λ n handler answer e. absurd (cc)) 1 (goes silent [] (Passes (variables 0 (book.takes m)) g.words ∷ Then value g.body ∷ []))
+    begun = advance p g new no_answers called small (new_words p small f g x bounded ws k rest words) (none_right p new) 1 (goes silent [] (Passes (variables 0 (book.takes m)) g.words ∷ Then value g.body ∷ []))
         (frames.at Silent (source.inside (here_of p f x ws) g) (frames.Passes (words_of p f x words) g.words ∷ frames.Then frames.value g.body ∷ called))
         (entered p small f g x bounded ws k rest words (book.takes m) counted) (ap is_stuck (sym foreseen_at_entry) ∙ entry.foreseen)
 
@@ -131,21 +130,17 @@ module _ (p : Program) (names : Names) (b : Bounds) (book : Book) (id : ℕ) (li
       note = entry.note;
       is = entry.is;
       ranked = refl;
+      holds = subst (λ z. AllHold p g new z) (sym entry.facts_are) tt;
       frame = ap (λ (z : List ℕ). code.first_frame (home_of id m into (base + names.frame n)) z) (sym (new_variables p small f g x bounded ws k rest words (book.takes m) counted))
           ∙ (ap (λ z. frame_at p g numbers new (home_of id m into (base + names.frame n)) 0 (bare (book.takes z))) (sym (links.numbers m into)) ∙ ap (λ (z : Place). frame_at p g numbers new (home_of id m into (base + names.frame n)) 0 z) (sym entry.place_is));
       shows = subst (λ z. Shows p g new called z begun.to) (sym foreseen_at_entry) begun.shows;
     }
 
     goes_in : Pairs entry.note.rank begun.to (Runs new_frame (waiting_frame p names b book id (book.gives m) n safe base waiting ∷ fs))
-    goes_in = running m into (base + names.frame n) (record { body = body; there = there; rest = called; callers = waits_for n safe base waiting callers; stands = stands_there })
+    goes_in = running m into (base + names.frame n) (record { body = body; there = there; rest = called; callers = waits_for n safe base waiting covered callers; covered = covers_callee; stands = stands_there })
 
     abbrev under_frame : Frame
     under_frame = frame_at p f numbers x (home_of id n safe base) index (with_operands q under)
-
-    -- the frame that a call leaves
-    call_acts : code.call_act names m into (book.takes m) (frame_at p f numbers x (home_of id n safe base) index q) fs ≡ code.enter_act names m into (words_of p f x words) under_frame fs
-    call_acts = moved_is p f x (book.takes m) q.operands [] words under (λ args vs. code.entered_act names m into args (code.at (frame_at p f numbers x (home_of id n safe base) index q) index vs) fs) taken
-        ∙ ap (λ o. if_some o Lost (λ c. code.enter_act names m into (words_of p f x words) under_frame fs)) there
 
     fits_same : code.fits names (home_of id m into (base + names.frame n)) ≡ nat_le (x.base + f.size + g.size) x.limit
     fits_same = ap₂ (λ u v. nat_le u v) (ap₂ (λ u v. u + v) (ap₂ (λ u v. u + v) based.0 (links.frames n safe)) (links.frames m into)) (sym based.1)
@@ -154,13 +149,13 @@ module _ (p : Program) (names : Names) (b : Bounds) (book : Book) (id : ℕ) (li
     entering = enter (here_of p f x ws) (words_of p f x words) (p.func m) (below p f x k rest)
 
     pub call_move : (lead rank : ℕ) (s t : State) (c : code.State) → Path (thread_of p) lead s t → lead + 1 ≤ b.half
-        → step_act names c ≡ code.call_act names m into (book.takes m) (frame_at p f numbers x (home_of id n safe base) index q) fs → t ≡ entering → Moves rank s c
+        → step_act names c ≡ code.enter_act names m into (words_of p f x words) under_frame fs → t ≡ entering → Moves rank s c
     unfolding first new_frame
     call_move lead rank s t c v short e g_is = fits_or_not (x.base + f.size + g.size) x.limit
         (λ i j. both_go (lead + begun.steps) rank entry.note.rank s begun.to c (Runs new_frame (under_frame ∷ fs)) (joined (thread_of p) (subst (λ z. Path (thread_of p) lead s z) (g_is ∙ goes_first j) v) begun.path)
-        (one lead begun.steps begun.long) (room lead begun.steps begun.long short b.both) (e ∙ (call_acts ∙ enters i)) entry.low goes_in)
+        (one lead begun.steps begun.long) (room lead begun.steps begun.long short b.both) (e ∙ enters i) entry.low goes_in)
         (λ i j. leads (less lead short b.both) v (stop_meets p names b Pairs (λ s c z. stopped z) (Trapped StackOverflow) t c
-        (record { here = here_of p f x ws; others = below p f x k rest; is = g_is ∙ stops_first j }) (e ∙ (call_acts ∙ overflows i))))
+        (record { here = here_of p f x ws; others = below p f x k rest; is = g_is ∙ stops_first j }) (e ∙ overflows i)))
       where
         one : (lead n : ℕ) → n ≡ 1 → 1 ≤ lead + n
         one lead n e = omega (arith, e)
@@ -185,6 +180,24 @@ module _ (p : Program) (names : Names) (b : Bounds) (book : Book) (id : ℕ) (li
         overflows : nat_le (x.base + f.size + g.size) x.limit ≡ false → code.enter_act names m into (words_of p f x words) under_frame fs ≡ Ends (Stop (Trapped StackOverflow))
         overflows i = ap (λ z. if z then code.goes (Runs (code.first_frame (home_of id m into (base + names.frame n)) (words_of p f x words)) (under_frame ∷ fs)) else code.traps StackOverflow) (fits_same ∙ i)
 
+  -- what is in sight below a frame
+
+  pub callers_blocks : (gives stops : Bool) (fs : List Frame) (rest : List frames.Frame) → Callers p names b book id gives stops fs rest → code.blocks_in fs ≡ frames.blocks_of rest
+  callers_blocks gives stops fs rest (nobody main stopping is_main) = refl
+  callers_blocks gives stops fs rest (waits_for {fs = gs} {rest = more} n safe base w covered callers) =
+      ap₂ (λ (u v : List Open). u ++ v) w.behind.opens (callers_blocks (book.gives n) (held n safe).func.stops gs more callers) ∙ sym (blocks_below p (held n safe).func w.values more w.others)
+
+  own_first : (f : Func) (x : Values) (es : List Exception) (others : List Frame) (rest : List frames.Frame) → code.current others ≡ option_map (coded numbers) (frames.handled rest)
+      → code.first_or (all_coded p f numbers x es) (code.current others) ≡ option_map (coded numbers) (or_callers p f x rest (first_of es))
+  own_first f x [] others rest h = h
+  own_first f x (e ∷ es) others rest h = refl
+
+  pub callers_current : (gives stops : Bool) (fs : List Frame) (rest : List frames.Frame) → Callers p names b book id gives stops fs rest → code.current fs ≡ option_map (coded numbers) (frames.handled rest)
+  callers_current gives stops fs rest (nobody main stopping is_main) = refl
+  callers_current gives stops fs rest (waits_for {fs = gs} {rest = more} n safe base w covered callers) =
+      own_first (held n safe).func w.values w.place.caught gs more (callers_current (book.gives n) (held n safe).func.stops gs more callers)
+      ∙ (ap (λ z. option_map (coded numbers) (or_callers p (held n safe).func w.values more z)) w.behind.caught ∙ ap (λ z. option_map (coded numbers) z) (sym (handled_below p (held n safe).func w.values more w.others)))
+
   -- ---- a return
 
   -- the word of a function that is done
@@ -198,48 +211,48 @@ module _ (p : Program) (names : Names) (b : Bounds) (book : Book) (id : ℕ) (li
   some_back : (lead lag : ℕ) → 1 ≤ lag → 1 ≤ lead + lag
   some_back lead lag h = omega (arith, h)
 
-  pub stands_in : (n : ℕ) (safe : Bool) (base : ℕ) (body : BodyView) (there : names.body n safe ≡ Some body) (fs : List Frame) (rest : List frames.Frame) (callers : Callers p names b book id (book.gives n) (held n safe).func.stops fs rest)
+  pub stands_in : (n : ℕ) (safe : Bool) (base : ℕ) (body : BodyView) (there : names.body n safe ≡ Some body) (fs : List Frame) (rest : List frames.Frame) (covered : Covered p names b book id safe fs) (callers : Callers p names b book id (book.gives n) (held n safe).func.stops fs rest)
       (rank : ℕ) (s : State) (top : Frame) → Stands p numbers (held n safe) (home_of id n safe base) end_of rest rank s top → Pairs rank s (Runs top fs)
-  stands_in n safe base body there fs rest callers rank s top st = running n safe base (record { body = body; there = there; rest = rest; callers = callers; stands = st })
+  stands_in n safe base body there fs rest covered callers rank s top st = running n safe base (record { body = body; there = there; rest = rest; callers = callers; covered = covered; stands = st })
 
-  pub flies_in : (n : ℕ) (safe : Bool) (base : ℕ) (body : BodyView) (there : names.body n safe ≡ Some body) (fs : List Frame) (rest : List frames.Frame) (callers : Callers p names b book id (book.gives n) (held n safe).func.stops fs rest)
-      (s : State) (x : Values) → AreWords x → Based (home_of id n safe base) end_of x → (index : ℕ) (q : Place) (e : Exception) (o : Outcome) → FlightFits p (held n safe).func b (held n safe).notes numbers (held n safe).rows index q e o
+  pub flies_in : (n : ℕ) (safe : Bool) (base : ℕ) (body : BodyView) (there : names.body n safe ≡ Some body) (fs : List Frame) (rest : List frames.Frame) (covered : Covered p names b book id safe fs) (callers : Callers p names b book id (book.gives n) (held n safe).func.stops fs rest)
+      (s : State) (x : Values) → AreWords x → Based (home_of id n safe base) end_of x → (known : List Fact) → AllHold p (held n safe).func x known → (index : ℕ) (q : Place) (e : Exception) (o : Outcome) → FlightFits p (held n safe).func b (held n safe).notes numbers (held n safe).rows known index q e o
       → Shows p (held n safe).func x rest o s → Pairs 0 s (Unwinds (coded numbers (exception_of p (held n safe).func x e)) (frame_at p (held n safe).func numbers x (home_of id n safe base) index q) fs)
-  flies_in n safe base body there fs rest callers s x bounded based index q e o fits shows = flies n safe base (record {
-    body = body; there = there; rest = rest; callers = callers; values = x; are_words = bounded; based = based; index = index; place = q; form = e; outcome = o; frame = refl; is = refl; fits = fits; shows = shows;
+  flies_in n safe base body there fs rest covered callers s x bounded based facts holds index q e o fits shows = flies n safe base (record {
+    body = body; there = there; rest = rest; callers = callers; covered = covered; facts = facts; holds = holds; values = x; are_words = bounded; based = based; index = index; place = q; form = e; outcome = o; frame = refl; is = refl; fits = fits; shows = shows;
   })
 
-  back_with_word : (home : Home) (lead rank v : ℕ) (s t : State) (c : code.State) (n : ℕ) (safe : Bool) (base : ℕ) (w : Waits p names b book id true n safe base) (fs : List Frame) (rest : List frames.Frame) → v < 2 ^ 64
+  back_with_word : (home : Home) (lead rank v : ℕ) (s t : State) (c : code.State) (n : ℕ) (safe : Bool) (base : ℕ) (w : Waits p names b book id true n safe base) (fs : List Frame) (rest : List frames.Frame) (covered : Covered p names b book id safe fs) → v < 2 ^ 64
       → Callers p names b book id (book.gives n) (held n safe).func.stops fs rest → Path (thread_of p) lead s t → lead + 1 ≤ b.half
       → step_act names c ≡ code.back_act home (v ∷ []) (waiting_frame p names b book id true n safe base w ∷ fs)
       → t ≡ frames.at Silent (here_of p (held n safe).func w.values w.temporaries) (frames.Gives v ∷ below p (held n safe).func w.values w.others rest) → Moves rank s c
-  back_with_word home lead rank v s t c n safe base w fs rest small_word callers path short e g =
+  back_with_word home lead rank v s t c n safe base w fs rest covered small_word callers path short e g =
       let f = (held n safe).func in
       let y = replied w.values (Loaded v) in
       let q = place_later w.place (variable 0 ∷ in_terms later w.under) in
       let shows : Shows p f y rest (goes silent (in_waitings later w.temporaries) (Gives (variable 0) ∷ in_frames later w.others)) t =
       g ∙ ap₂ (λ a d. frames.at Silent a (frames.Gives v ∷ d)) (sym (here_replaced p f later y rest w.temporaries)) (sym (frames_replaced p f later y rest w.others)) in
-      let l = landed p names numbers (held n safe) b (home_of id n safe base) end_of rest fs small Pairs (stands_in n safe base w.body w.there fs rest callers) (λ s c z. stopped z) (flies_in n safe base w.body w.there fs rest callers) y (words_then w.values v w.are_words small_word) w.based no_answers (none_right p y) (w.index + 1) q
-      (goes silent (in_waitings later w.temporaries) (Gives (variable 0) ∷ in_frames later w.others)) t w.back.lands shows in
-      both_go (lead + w.back.lands.lag) rank w.back.lands.note.rank s l.to c (Runs (frame_at p f numbers y (home_of id n safe base) (w.index + 1) q) fs) (joined (thread_of p) path l.path)
-      (some_back lead w.back.lands.lag w.back.some) (room_back lead w.back.lands.lag short w.back.short)
+      let l = landed p names numbers (held n safe) b (home_of id n safe base) end_of rest fs small Pairs (stands_in n safe base w.body w.there fs rest covered callers) (λ s c z. stopped z) (flies_in n safe base w.body w.there fs rest covered callers) (callers_current (book.gives n) (held n safe).func.stops fs rest callers) y (words_then w.values v w.are_words small_word) w.based (in_facts later w.facts) (facts_placed p f later y w.facts w.holds) no_answers (none_right p y) (w.index + 1) q
+      (goes silent (in_waitings later w.temporaries) (Gives (variable 0) ∷ in_frames later w.others)) t w.behind.back.lands shows in
+      both_go (lead + w.behind.back.lands.lag) rank w.behind.back.lands.note.rank s l.to c (Runs (frame_at p f numbers y (home_of id n safe base) (w.index + 1) q) fs) (joined (thread_of p) path l.path)
+      (some_back lead w.behind.back.lands.lag w.behind.back.some) (room_back lead w.behind.back.lands.lag short w.behind.back.short)
       (e ∙ ap code.goes (frame_later p f numbers w.values (Loaded v) (home_of id n safe base) fs (w.index + 1) w.place w.place.opens (v ∷ words_of p f w.values w.under) (variable 0 ∷ in_terms later w.under)
-      (ap (λ (z : List ℕ). v ∷ z) (sym (words_later p f numbers w.values (Loaded v) w.under))))) w.back.lands.low l.related
+      (ap (λ (z : List ℕ). v ∷ z) (sym (words_later p f numbers w.values (Loaded v) w.under))))) w.behind.back.lands.low l.related
     where
       words_then : (x : Values) (v : ℕ) → AreWords x → v < 2 ^ 64 → AreWords (replied x (Loaded v))
       words_then x v bounded h zero = h
       words_then x v bounded h (suc n) = bounded n
 
-  back_without : (home : Home) (lead rank : ℕ) (s t : State) (c : code.State) (n : ℕ) (safe : Bool) (base : ℕ) (w : Waits p names b book id false n safe base) (fs : List Frame) (rest : List frames.Frame)
+  back_without : (home : Home) (lead rank : ℕ) (s t : State) (c : code.State) (n : ℕ) (safe : Bool) (base : ℕ) (w : Waits p names b book id false n safe base) (fs : List Frame) (rest : List frames.Frame) (covered : Covered p names b book id safe fs)
       → Callers p names b book id (book.gives n) (held n safe).func.stops fs rest → Path (thread_of p) lead s t → lead + 1 ≤ b.half
       → step_act names c ≡ code.back_act home [] (waiting_frame p names b book id false n safe base w ∷ fs)
       → t ≡ frames.at Silent (here_of p (held n safe).func w.values w.temporaries) (frames.Gives 0 ∷ below p (held n safe).func w.values w.others rest) → Moves rank s c
-  back_without home lead rank s t c n safe base w fs rest callers path short e g =
+  back_without home lead rank s t c n safe base w fs rest covered callers path short e g =
       let f = (held n safe).func in
-      let l = landed p names numbers (held n safe) b (home_of id n safe base) end_of rest fs small Pairs (stands_in n safe base w.body w.there fs rest callers) (λ s c z. stopped z) (flies_in n safe base w.body w.there fs rest callers) w.values w.are_words w.based no_answers (none_right p w.values) (w.index + 1) (with_operands w.place w.under)
-      (goes silent w.temporaries (Gives (number 0) ∷ w.others)) t w.back.lands g in
-      both_go (lead + w.back.lands.lag) rank w.back.lands.note.rank s l.to c (Runs (frame_at p f numbers w.values (home_of id n safe base) (w.index + 1) (with_operands w.place w.under)) fs) (joined (thread_of p) path l.path)
-      (some_back lead w.back.lands.lag w.back.some) (room_back lead w.back.lands.lag short w.back.short) e w.back.lands.low l.related
+      let l = landed p names numbers (held n safe) b (home_of id n safe base) end_of rest fs small Pairs (stands_in n safe base w.body w.there fs rest covered callers) (λ s c z. stopped z) (flies_in n safe base w.body w.there fs rest covered callers) (callers_current (book.gives n) (held n safe).func.stops fs rest callers) w.values w.are_words w.based w.facts w.holds no_answers (none_right p w.values) (w.index + 1) (with_operands w.place w.under)
+      (goes silent w.temporaries (Gives (number 0) ∷ w.others)) t w.behind.back.lands g in
+      both_go (lead + w.behind.back.lands.lag) rank w.behind.back.lands.note.rank s l.to c (Runs (frame_at p f numbers w.values (home_of id n safe base) (w.index + 1) (with_operands w.place w.under)) fs) (joined (thread_of p) path l.path)
+      (some_back lead w.behind.back.lands.lag w.behind.back.some) (room_back lead w.behind.back.lands.lag short w.behind.back.short) e w.behind.back.lands.low l.related
 
   -- the first function of a thread is done
 
@@ -267,25 +280,21 @@ module _ (p : Program) (names : Names) (b : Bounds) (book : Book) (id : ℕ) (li
       → Callers p names b book id true stops fs rest → Path (thread_of p) lead s t → lead + 1 ≤ b.half → step_act names c ≡ code.back_act home (eval p f x w ∷ []) fs → Hands w o → Shows p f x rest o t → Moves rank s c
   return_word home lead rank f x bounded w o stops s t c fs rest own (nobody main stopping is_main) path short e hands g =
       main_ends home lead rank (eval p f x w) s t c own is_main path short e (handed f x w o _ stops _ t hands g)
-  return_word home lead rank f x bounded w o stops s t c fs rest own (waits_for n safe base z callers) path short e hands g =
-      back_with_word home lead rank (eval p f x w) s t c n safe base z _ _ (term_below p f x bounded w) callers path short e (handed f x w o _ stops _ t hands g)
+  return_word home lead rank f x bounded w o stops s t c fs rest own (waits_for {fs = gs} {rest = more} n safe base z covered callers) path short e hands g =
+      back_with_word home lead rank (eval p f x w) s t c n safe base z gs more covered (term_below p f x bounded w) callers path short e (handed f x w o _ stops _ t hands g)
 
   pub return_none : (home : Home) (lead rank : ℕ) (f : Func) (x : Values) (o : Outcome) (stops : Bool) (s t : State) (c : code.State) (fs : List Frame) (rest : List frames.Frame) → home.thread ≡ id
       → Callers p names b book id false stops fs rest → Path (thread_of p) lead s t → lead + 1 ≤ b.half → step_act names c ≡ code.back_act home [] fs → Hands (number 0) o → Shows p f x rest o t → Moves rank s c
   return_none home lead rank f x o stops s t c fs rest own (nobody main stopping is_main) path short e hands g =
       child_ends home lead rank s t c own is_main path short e (handed f x (number 0) o _ stops _ t hands g)
-  return_none home lead rank f x o stops s t c fs rest own (waits_for n safe base z callers) path short e hands g =
-      back_without home lead rank s t c n safe base z _ _ callers path short e (handed f x (number 0) o _ stops _ t hands g)
+  return_none home lead rank f x o stops s t c fs rest own (waits_for {fs = gs} {rest = more} n safe base z covered callers) path short e hands g =
+      back_without home lead rank s t c n safe base z gs more covered callers path short e (handed f x (number 0) o _ stops _ t hands g)
 
   -- ---- an exception leaves a function
 
-  -- the values of a caller, with the exception that comes
   abbrev exception_first : exceptions.Exception → (ℕ → exceptions.Exception) → ℕ → exceptions.Exception
   exception_first e others zero = e
   exception_first e others (suc n) = others n
-
-  abbrev thrown_into : Values → exceptions.Exception → Values
-  thrown_into x e = record { word = x.word; exception = exception_first e x.exception; base = x.base; limit = x.limit }
 
   less : (lag : ℕ) → lag + 1 ≤ b.longest → lag ≤ b.longest
   less lag h = omega (arith, h)
@@ -303,25 +312,25 @@ module _ (p : Program) (names : Names) (b : Bounds) (book : Book) (id : ℕ) (li
       (record { here = empty_stack id; others = frames.Starts main ∷ []; is = refl }) i)
 
   -- the exception comes to the caller
-  caller_flies : (lag : ℕ) (e : exceptions.Exception) (s t : State) (c : code.State) (gives : Bool) (n : ℕ) (safe : Bool) (base : ℕ) (w : Waits p names b book id gives n safe base) (fs : List Frame) (rest : List frames.Frame)
+  caller_flies : (lag : ℕ) (e : exceptions.Exception) (s t : State) (c : code.State) (gives : Bool) (n : ℕ) (safe : Bool) (base : ℕ) (w : Waits p names b book id gives n safe base) (fs : List Frame) (rest : List frames.Frame) (covered : Covered p names b book id safe fs)
       → Callers p names b book id (book.gives n) (held n safe).func.stops fs rest → Path (thread_of p) lag s t → 1 ≤ lag → lag + 1 ≤ b.longest
       → t ≡ frames.at Silent (here_of p (held n safe).func w.values w.temporaries) (frames.Leaves (frames.throws e) ∷ below p (held n safe).func w.values w.others rest)
       → step_act names c ≡ code.goes (Unwinds (coded numbers e) (waiting_frame p names b book id gives n safe base w) fs) → Moves 0 s c
-  caller_flies lag e s t c gives n safe base w fs rest callers path some short g i =
+  caller_flies lag e s t c gives n safe base w fs rest covered callers path some short g i =
       let f = (held n safe).func in
-      let y = thrown_into w.values e in
+      let y : Values = record { word = w.values.word; exception = exception_first e w.values.exception; base = w.values.base; limit = w.values.limit } in
       let shows : Shows p f y rest (goes silent (in_waitings rising w.temporaries) (Leaves (throws (unknown 0)) ∷ in_frames rising w.others)) t =
       g ∙ ap₂ (λ a d. frames.at Silent a (frames.Leaves (frames.throws e) ∷ d)) (sym (here_replaced p f rising y rest w.temporaries)) (sym (frames_replaced p f rising y rest w.others)) in
       both_go lag 0 0 s t c (Unwinds (coded numbers e) (waiting_frame p names b book id gives n safe base w) fs) path some (less lag short) i (omega arith)
       (subst (λ z. Pairs 0 t (Unwinds (coded numbers e) z fs)) (frame_replaced p f numbers rising y (home_of id n safe base) w.index (with_operands w.place w.under))
-      (flies_in n safe base w.body w.there fs rest callers t y w.are_words w.based w.index (in_place rising (with_operands w.place w.under)) (unknown 0) (goes silent (in_waitings rising w.temporaries) (Leaves (throws (unknown 0)) ∷ in_frames rising w.others)) w.thrown shows))
+      (flies_in n safe base w.body w.there fs rest covered callers t y w.are_words w.based (in_facts rising w.facts) (facts_placed p f rising y w.facts w.holds) w.index (in_place rising (with_operands w.place w.under)) (unknown 0) (goes silent (in_waitings rising w.temporaries) (Leaves (throws (unknown 0)) ∷ in_frames rising w.others)) w.behind.thrown shows))
 
   pub out_move : (home : Home) (lag : ℕ) (f : Func) (x : Values) (e : exceptions.Exception) (hand : frames.Here) (gives stops : Bool) (s t : State) (c : code.State) (top : Frame) (fs : List Frame) (rest : List frames.Frame) → top.home ≡ home → names.no_except home.func ≡ stops
       → Callers p names b book id gives stops fs rest → Path (thread_of p) lag s t → 1 ≤ lag → lag + 1 ≤ b.longest → t ≡ leave hand (frames.throws e) rest
       → step_act names c ≡ code.leave_act names (coded numbers e) top fs → Moves 0 s c
   out_move home lag f x e hand gives true s t c top fs rest own stop (nobody main stopping is_main) path some short g i = terminates lag s t c hand _ path short g i
   out_move home lag f x e hand gives false s t c top fs rest own stop (nobody main stopping is_main) path some short g i = thread_terminates lag e s t c main path short g i
-  out_move home lag f x e hand gives true s t c top fs rest own stop (waits_for {fs = gs} {rest = more} n safe base w callers) path some short g i =
+  out_move home lag f x e hand gives true s t c top fs rest own stop (waits_for {fs = gs} {rest = more} n safe base w covered callers) path some short g i =
       terminates lag s t c hand _ path short g (i ∙ ap (λ (z : Bool). if z then Ends (Stop Terminate) else code.goes (Unwinds (coded numbers e) (waiting_frame p names b book id gives n safe base w) gs)) (ap (λ (z : Home). names.no_except z.func) own ∙ stop))
-  out_move home lag f x e hand gives false s t c top fs rest own stop (waits_for {fs = gs} {rest = more} n safe base w callers) path some short g i =
-      caller_flies lag e s t c gives n safe base w gs more callers path some short g (i ∙ ap (λ (z : Bool). if z then Ends (Stop Terminate) else code.goes (Unwinds (coded numbers e) (waiting_frame p names b book id gives n safe base w) gs)) (ap (λ (z : Home). names.no_except z.func) own ∙ stop))
+  out_move home lag f x e hand gives false s t c top fs rest own stop (waits_for {fs = gs} {rest = more} n safe base w covered callers) path some short g i =
+      caller_flies lag e s t c gives n safe base w gs more covered callers path some short g (i ∙ ap (λ (z : Bool). if z then Ends (Stop Terminate) else code.goes (Unwinds (coded numbers e) (waiting_frame p names b book id gives n safe base w) gs)) (ap (λ (z : Home). names.no_except z.func) own ∙ stop))

@@ -1,5 +1,5 @@
 -- A frame of a checked body, with what the source has left to do in it.
-use Rattle.std.specs.Prelude.{ℕ, ◌≡◌, ◌≤◌, List, ◌∷◌, Option, Some, slice_get}
+use Rattle.std.specs.Prelude.{ℕ, Bool, ◌≡◌, ◌≤◌, List, ◌∷◌, Option, Some, slice_get}
 use Rattle.tx_events.specs.declared.End.{End}
 use Rattle.tx_events.specs.declared.Event.TheVariants.{Stop, Done}
 use Rattle.tx_code.specs.declared.body.Row.{Row}
@@ -13,13 +13,15 @@ use Rattle.src_mean.specs.Frames as frames
 use Rattle.symbolic_source.specs.Terms.{Values}
 use Rattle.symbolic_source.specs.Outcomes.{Shows}
 use Rattle.symbolic_source.specs.Small.{AreWords}
+use Rattle.symbolic_code.specs.Facts.{AllHold}
 use Rattle.symbolic_code.specs.Places.{frame_at}
 use Rattle.symbolic_code.specs.Following.{Table, AreNames}
 use Rattle.body_check.specs.Notes.{Note}
 
--- a body that is held against a function of the source: the function's number and frame, its rows with the numbers of types, the notes and the table
+-- a body that is held against a function of the source: the function's number and frame, whether it is the safe body, its rows with the numbers of types, the notes and the table
 pub record Held : Type 0 where
   pub number : ℕ
+  pub safe : Bool
   pub func : Func
   pub body : BodyView
   pub rows : List Row
@@ -39,6 +41,7 @@ pub record Stands (p : Program) (numbers : Typ → ℕ) (h : Held) (home : Home)
   pub note : Note
   pub is : slice_get h.notes index ≡ Some note
   pub ranked : note.rank ≡ rank
+  pub holds : AllHold p h.func values note.facts
   pub frame : top ≡ frame_at p h.func numbers values home index note.place
   pub shows : Shows p h.func values rest note.outcome s
 

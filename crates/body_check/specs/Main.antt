@@ -6,6 +6,7 @@ use Rattle.tx_code.specs.Objects.{BodyView}
 use Rattle.tx_code.specs.Renaming.{itself}
 use Rattle.tx_code.specs.Meaning.{Names}
 use Rattle.cpp_tree.specs.cpp_types.Typ.{Typ, int}
+use Rattle.cpp_tree.specs.cpp_layout.Layout.{function_address}
 use Rattle.cpp_tree.specs.declared.kinds.TKind.TheVariants.{Literal, Block, Return}
 use Rattle.cpp_tree.specs.Notation.{plain, effect, prvalue}
 use Rattle.src_mean.specs.Linked.{Func, Program}
@@ -55,7 +56,7 @@ main_names = record {
   no_except = λ n. false;
   numbering = λ n. itself;
   global_address = λ n. 0;
-  func_address = λ n. 0;
+  func_address = λ n. function_address n;
   class_address = λ n. 0;
   stack_start = λ t. (empty_stack t).end;
   stack_end = λ t. (empty_stack t).limit;
@@ -70,13 +71,13 @@ abbrev pub main_begun : Outcome
 main_begun = advanced main_program main_func no_answers 1 (goes silent [] (Passes [] main_func.words ∷ Then value main_func.body ∷ []))
 
 abbrev pub first_note : Note
-first_note = record { place = bare 0; outcome = main_begun; lead = 4; rank = 1 }
+first_note = record { place = bare 0; facts = []; outcome = main_begun; lead = 4; rank = 1 }
 
 abbrev pub second_note : Note
-second_note = record { place = with_operands (bare 0) (number 0 ∷ []); outcome = advanced main_program main_func no_answers 4 main_begun; lead = 1; rank = 0 }
+second_note = record { place = with_operands (bare 0) (number 0 ∷ []); facts = []; outcome = advanced main_program main_func no_answers 4 main_begun; lead = 1; rank = 0 }
 
 abbrev pub no_names : Table
-no_names = record { global_of = λ n. None; function_of = λ n. None; class_of = λ n. None; type_of = λ n. None }
+no_names = record { global_of = λ n. None; function_of = λ n. None; class_of = λ n. None; type_of = λ n. None; signature_of = λ n. None; is_slot = λ n c s. false }
 
 -- a type that supports cancellation has number 1, any other 0
 abbrev pub number_of_type : Typ → ℕ
@@ -84,8 +85,12 @@ number_of_type t = cond (cancels t) 1 0
 
 abbrev pub main_book : Book
 main_book = record {
-  held = λ n safe. record { number = n; func = main_func; body = main_body; rows = []; notes = first_note ∷ second_note ∷ []; table = no_names };
+  held = λ n safe. record { number = n; safe = safe; func = main_func; body = main_body; rows = []; notes = first_note ∷ second_note ∷ []; table = no_names };
   gives = λ n. true;
   takes = λ n. 0;
   numbers = number_of_type;
+  takes_as = λ sig. 0;
+  gives_as = λ sig. false;
+  slot_takes = λ c s. 0;
+  slot_gives = λ c s. false;
 }

@@ -9,18 +9,20 @@ use Rattle.src_mean.specs.Exceptions.{catches}
 use Rattle.src_mean.specs.Linked.{Func, Program}
 use Rattle.cpp_tree.specs.Trees.{Tree, typ_in}
 use Rattle.symbolic_source.specs.Terms.{Term, variable, Exception, unknown, made}
-use Rattle.symbolic_source.specs.Frames.{Waiting, Frame, throws}
+use Rattle.symbolic_source.specs.Frames.{Waiting, Frame, throws, Replied}
 use Rattle.symbolic_source.specs.Outcomes.{Doing, silent, reads, leaves_block, Outcome, goes, goes_out}
-use Rattle.symbolic_source.specs.Steps.{Answers, given, advanced}
+use Rattle.symbolic_source.specs.Steps.{Answers, left, given, advanced}
 use Rattle.symbolic_source.specs.Small.{is_stuck}
 use Rattle.symbolic_source.specs.Replacing.{Replacing, in_exception, in_puts, in_terms, in_waitings, in_frames, in_outcome}
+use Rattle.symbolic_code.specs.Facts.{Fact, not_zero, has_function, in_facts, AllAmong}
 use Rattle.symbolic_code.specs.Places.{Place, Hold, nothing, making, flying, later, with_operands, holding, opened_later}
-use Rattle.symbolic_code.specs.Following.{Next, refused, quietly, either_way, unless_trap, loudly, throwing, ends}
+use Rattle.symbolic_code.specs.Following.{Next, refused, quietly, either_way, unless_trap, loudly, throwing, finding, starting, rethrowing, ends}
 
--- at an index: the place, what comes of the source, how many silent steps the source takes before the instruction, and a rank that falls
+-- at an index: the place, what is known of its words, what comes of the source, how many silent steps the source takes before the instruction, and a rank that falls
 -- where the code goes on and the source does not
 pub record Note : Type 0 where
   pub place : Place
+  pub facts : List Fact
   pub outcome : Outcome
   pub lead : ℕ
   pub rank : ℕ
@@ -59,6 +61,10 @@ catching q e = record { operands = q.operands; opens = q.opens; caught = e ∷ q
 abbrev pub cut_to : ℕ → Place → Place
 cut_to d q = with_operands q (drop (length q.operands - d) q.operands)
 
+-- an exception that comes from elsewhere is the first unknown one
+abbrev pub rising : Replacing
+rising = record { word = λ n. variable n; exception = λ n. unknown (suc n) }
+
 -- the types that an exception can be of
 abbrev pub IsOf : Exception → Typ → Type 0
 IsOf (unknown n) t = Unit {0}
@@ -77,39 +83,40 @@ pub record Bounds : Type 0 where
 
 module _ (p : Program) (f : Func) (b : Bounds) (notes : List Note) where
   -- a way on leads to an index, with the terms of the way in the place of the note's variables, after some silent steps of the source,
-  -- with these answers on unknown exceptions
-  pub record Lands (answers : Answers) (index : ℕ) (q : Place) (o : Outcome) : Type 0 where
+  -- with these answers on unknown exceptions; what the note knows is among what is known
+  pub record Lands (known : List Fact) (answers : Answers) (index : ℕ) (q : Place) (o : Outcome) : Type 0 where
     pub note : Note
     pub is : slice_get notes index ≡ Some note
     pub lag : ℕ
     pub terms : Replacing
     pub same_place : in_place terms note.place ≡ q
+    pub same_facts : AllAmong (in_facts terms note.facts) known
     pub same_outcome : in_outcome terms note.outcome ≡ advanced p f answers lag o
     pub foreseen : is_stuck (advanced p f answers lag o) ≡ false
     pub low : note.rank ≤ b.most
 
   -- the same where the source took so many steps before: one of both goes on, or the rank falls
-  pub record LandsOn (lead rank : ℕ) (index : ℕ) (q : Place) (o : Outcome) : Type 0 where
-    pub lands : Lands no_answers index q o
+  pub record LandsOn (known : List Fact) (lead rank : ℕ) (index : ℕ) (q : Place) (o : Outcome) : Type 0 where
+    pub lands : Lands known no_answers index q o
     pub short : lead + lands.lag ≤ b.longest
     pub goes_on : (1 ≤ lead + lands.lag) ⊎ (lands.note.rank + 1 ≤ rank)
 
   -- ---- exceptions in flight
 
   -- a row leads to an index
-  pub record Reaches (answers : Answers) (index : ℕ) (q : Place) (o : Outcome) : Type 0 where
-    pub lands : Lands answers index q o
+  pub record Reaches (known : List Fact) (answers : Answers) (index : ℕ) (q : Place) (o : Outcome) : Type 0 where
+    pub lands : Lands known answers index q o
     pub some : 1 ≤ lands.lag
     pub short : lands.lag ≤ b.longest
 
   -- an exception leaves a block, and the code goes on at an index behind this event
-  pub record Edges (answers : Answers) (block : Open) (index : ℕ) (q : Place) (e : Exception) (o : Outcome) : Type 0 where
+  pub record Edges (known : List Fact) (answers : Answers) (block : Open) (index : ℕ) (q : Place) (e : Exception) (o : Outcome) : Type 0 where
     pub lag : ℕ
     pub temporaries : List Waiting
     pub others : List Frame
     pub is : advanced p f answers lag o ≡ goes (leaves_block block (throws e)) temporaries others
     pub short : lag ≤ b.longest
-    pub lands : Lands no_answers index (opened_later (holding q (flying e)) (rest_of q.opens)) (given p f no_answers (in_waitings later temporaries) (variable 0) (in_frames later others))
+    pub lands : Lands (in_facts later known) no_answers index (opened_later (holding q (flying e)) (rest_of q.opens)) (given p f no_answers (in_waitings later temporaries) (variable 0) (in_frames later others))
     pub at_once : lands.lag ≡ 0
 
   -- the exception leaves the function
@@ -121,36 +128,39 @@ module _ (p : Program) (f : Func) (b : Bounds) (notes : List Note) where
     pub short : lag + 1 ≤ b.longest
 
   -- what each sort of row asks
-  abbrev pub RowFits : Answers → (what target : ℕ) → Place → Exception → Outcome → Type 0
-  RowFits answers zero target q e o = Reaches answers target (holding q (flying e)) o
-  RowFits answers (suc zero) target q e o = Reaches answers target (catching q e) o
-  RowFits answers (suc (suc zero)) target q e o = Reaches answers target (catching q e) o
-  RowFits answers (suc (suc (suc zero))) target q e o = Edges answers (Atomic NoExcept) target q e o
-  RowFits answers (suc (suc (suc (suc zero)))) target q e o = Edges answers (Atomic Commit) target q e o
-  RowFits answers (suc (suc (suc (suc (suc zero))))) target q e o = Edges answers (Atomic Cancel) target q e o
-  RowFits answers (suc (suc (suc (suc (suc (suc zero)))))) target q e o = Edges answers Sync target q e o
-  RowFits answers (suc (suc (suc (suc (suc (suc (suc n))))))) target q e o = ⊥
+  abbrev pub RowFits : List Fact → Answers → (what target : ℕ) → Place → Exception → Outcome → Type 0
+  RowFits known answers zero target q e o = Reaches known answers target (holding q (flying e)) o
+  RowFits known answers (suc zero) target q e o = Reaches known answers target (catching q e) o
+  RowFits known answers (suc (suc zero)) target q e o = Reaches known answers target (catching q e) o
+  RowFits known answers (suc (suc (suc zero))) target q e o = Edges known answers (Atomic NoExcept) target q e o
+  RowFits known answers (suc (suc (suc (suc zero)))) target q e o = Edges known answers (Atomic Commit) target q e o
+  RowFits known answers (suc (suc (suc (suc (suc zero))))) target q e o = Edges known answers (Atomic Cancel) target q e o
+  RowFits known answers (suc (suc (suc (suc (suc (suc zero)))))) target q e o = Edges known answers Sync target q e o
+  RowFits known answers (suc (suc (suc (suc (suc (suc (suc n))))))) target q e o = ⊥
 
-  abbrev pub FoundFits : Answers → Option Row → Place → Exception → Outcome → Type 0
-  FoundFits answers None q e o = Outward answers e o
-  FoundFits answers (Some r) q e o = RowFits answers r.what r.target (cut_to r.depth q) e o
+  abbrev pub FoundFits : List Fact → Answers → Option Row → Place → Exception → Outcome → Type 0
+  FoundFits known answers None q e o = Outward answers e o
+  FoundFits known answers (Some r) q e o = RowFits known answers r.what r.target (cut_to r.depth q) e o
 
   -- for a type: what is answered on an unknown exception of it, and the row that takes it
-  pub record TypeFits (numbers : Typ → ℕ) (rows : List Row) (index : ℕ) (q : Place) (e : Exception) (o : Outcome) (t : Typ) : Type 0 where
+  pub record TypeFits (numbers : Typ → ℕ) (rows : List Row) (known : List Fact) (index : ℕ) (q : Place) (e : Exception) (o : Outcome) (t : Typ) : Type 0 where
     pub answers : Answers
     pub right : Answering p e t answers
-    pub found : FoundFits answers (find rows index (numbers t)) q e o
+    pub found : FoundFits known answers (find rows index (numbers t)) q e o
 
   -- an exception in flight at an index, of each type that it can be of
-  abbrev pub FlightFits : (numbers : Typ → ℕ) → List Row → ℕ → Place → Exception → Outcome → Type 0
-  FlightFits numbers rows index q e o = (t : Typ) → IsOf e t → TypeFits numbers rows index q e o t
+  abbrev pub FlightFits : (numbers : Typ → ℕ) → List Row → List Fact → ℕ → Place → Exception → Outcome → Type 0
+  FlightFits numbers rows known index q e o = (t : Typ) → IsOf e t → TypeFits numbers rows known index q e o t
 
   module _ (numbers : Typ → ℕ) (rows : List Row) where
-    abbrev pub Fits : (lead rank : ℕ) → Next → Type 0
-    Fits lead rank refused = ⊥
-    Fits lead rank (quietly index q o) = LandsOn lead rank index q o
-    Fits lead rank (either_way w first other) = Fits lead rank first × Fits lead rank other
-    Fits lead rank (unless_trap op kind x y next) = Fits lead rank next
-    Fits lead rank (loudly doing ws k index q) = (is_loud doing ≡ true) × (l : Lands no_answers index q (given p f no_answers (in_waitings later ws) (variable 0) (in_frames later k))) × (l.lag ≡ 0)
-    Fits lead rank (throwing e index q o) = ((1 ≤ lead) ⊎ (1 ≤ rank)) × FlightFits numbers rows index q e o
-    Fits lead rank (ends end) = Unit {0}
+    abbrev pub Fits : (known : List Fact) → (lead rank : ℕ) → Next → Type 0
+    Fits known lead rank refused = ⊥
+    Fits known lead rank (quietly index q o) = LandsOn known lead rank index q o
+    Fits known lead rank (either_way w first other) = Fits known lead rank first × Fits (not_zero w ∷ known) lead rank other
+    Fits known lead rank (unless_trap op kind x y next) = Fits known lead rank next
+    Fits known lead rank (finding class slot w next) = Fits (has_function class slot w ∷ known) lead rank next
+    Fits known lead rank (loudly doing ws k index q) = (is_loud doing ≡ true) × (l : Lands (in_facts later known) no_answers index q (given p f no_answers (in_waitings later ws) (variable 0) (in_frames later k))) × (l.lag ≡ 0)
+    Fits known lead rank (starting address argument ws k index q) = (l : Lands (in_facts later known) no_answers index q (given p f no_answers (in_waitings later ws) (variable 0) (in_frames later (Replied ∷ k)))) × (l.lag ≡ 0)
+    Fits known lead rank (throwing e index q o) = ((1 ≤ lead) ⊎ (1 ≤ rank)) × FlightFits numbers rows known index q e o
+    Fits known lead rank (rethrowing ws k index q) = ((1 ≤ lead) ⊎ (1 ≤ rank)) × FlightFits numbers rows (in_facts rising known) index (in_place rising q) (unknown 0) (left (in_waitings rising ws) (throws (unknown 0)) (in_frames rising k))
+    Fits known lead rank (ends end) = Unit {0}

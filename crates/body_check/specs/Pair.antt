@@ -97,28 +97,32 @@ abbrev pub behind_call : List symbolic.Frame
 behind_call = Scope of_call true [] ∷ Returning ∷ Items none ∷ Scope of_block true [] ∷ []
 
 abbrev pub call_note : Note
-call_note = record { place = bare 0; outcome = begun calling_func; lead = 4; rank = 1 }
+call_note = record { place = bare 0; facts = []; outcome = begun calling_func; lead = 4; rank = 1 }
 
 abbrev pub back_note : Note
-back_note = record { place = with_operands (bare 0) (variable 0 ∷ []); outcome = advanced pair_program calling_func no_answers 1 (goes silent [] (Gives (variable 0) ∷ behind_call)); lead = 2; rank = 0 }
+back_note = record { place = with_operands (bare 0) (variable 0 ∷ []); facts = []; outcome = advanced pair_program calling_func no_answers 1 (goes silent [] (Gives (variable 0) ∷ behind_call)); lead = 2; rank = 0 }
 
 abbrev pub push_note : Note
-push_note = record { place = bare 0; outcome = begun one_func; lead = 4; rank = 1 }
+push_note = record { place = bare 0; facts = []; outcome = begun one_func; lead = 4; rank = 1 }
 
 abbrev pub ret_note : Note
-ret_note = record { place = with_operands (bare 0) (number 1 ∷ []); outcome = advanced pair_program one_func no_answers 4 (begun one_func); lead = 1; rank = 0 }
+ret_note = record { place = with_operands (bare 0) (number 1 ∷ []); facts = []; outcome = advanced pair_program one_func no_answers 4 (begun one_func); lead = 1; rank = 0 }
 
 abbrev pub notes_of : ℕ → List Note
 notes_of zero = call_note ∷ back_note ∷ []
 notes_of (suc n) = push_note ∷ ret_note ∷ []
 
 abbrev pub own_names : Table
-own_names = record { global_of = λ n. None; function_of = named; class_of = λ n. None; type_of = λ n. None }
+own_names = record { global_of = λ n. None; function_of = named; class_of = λ n. None; type_of = λ n. None; signature_of = λ n. None; is_slot = λ n c s. false }
 
 abbrev pub pair_book : Book
 pair_book = record {
-  held = λ n safe. record { number = n; func = func_of n; body = body_of n; rows = []; notes = notes_of n; table = own_names };
+  held = λ n safe. record { number = n; safe = safe; func = func_of n; body = body_of n; rows = []; notes = notes_of n; table = own_names };
   gives = λ n. true;
   takes = λ n. 0;
   numbers = number_of_type;
+  takes_as = λ sig. 0;
+  gives_as = λ sig. false;
+  slot_takes = λ c s. 0;
+  slot_gives = λ c s. false;
 }

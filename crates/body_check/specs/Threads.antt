@@ -1,7 +1,8 @@
 -- Threads of checked bodies: each frame with what the source has left to do in it.
 use Rattle.std.specs.Prelude.{ℕ, ◌+◌, ◌==◌, ◌≡◌, Bool, true, false, List, [], ◌∷◌, Some, slice_get}
 use Rattle.tx_code.specs.Objects.{BodyView}
-use Rattle.tx_code.specs.Meaning.{Names, Home, Frame, Runs, Unwinds}
+use Rattle.tx_code.specs.Meaning.{Names, Home, Frame, Runs, Unwinds, blocks_in}
+use Rattle.tx_events.specs.Thread.{no_atomic}
 use Rattle.tx_code.specs.Meaning as code
 use Rattle.cpp_tree.specs.cpp_types.Typ.{Typ}
 use Rattle.src_mean.specs.Linked.{Func, Program}
@@ -13,10 +14,11 @@ use Rattle.symbolic_source.specs.Frames.{Waiting, below, here_of}
 use Rattle.symbolic_source.specs.Frames as symbolic
 use Rattle.symbolic_source.specs.Outcomes.{Outcome, Shows}
 use Rattle.symbolic_source.specs.Small.{AreWords}
+use Rattle.symbolic_code.specs.Facts.{Fact, AllHold}
 use Rattle.symbolic_code.specs.Places.{Place, coded, frame_at, with_operands}
 use Rattle.body_check.specs.Notes.{Bounds, FlightFits}
 use Rattle.body_check.specs.Linked.{Held, Based, Stands, Stopped, Finished}
-use Rattle.body_check.specs.Calls.{Book, BackWith, ThrownWith}
+use Rattle.body_check.specs.Calls.{Book, Behind}
 
 -- a frame of a thread
 abbrev pub home_of : (thread : ℕ) → (func : ℕ) → (safe : Bool) → (base : ℕ) → Home
@@ -36,11 +38,12 @@ module _ (p : Program) (names : Names) (b : Bounds) (book : Book) (thread : ℕ)
     pub based : Based (home_of thread n safe base) limit values
     pub index : ℕ
     pub place : Place
+    pub facts : List Fact
+    pub holds : AllHold p (book.held n safe).func values facts
     pub under : List Term
     pub temporaries : List Waiting
     pub others : List symbolic.Frame
-    pub back : BackWith p b book gives (book.held n safe) index place under temporaries others
-    pub thrown : ThrownWith p b book (book.held n safe) index place under temporaries others
+    pub behind : Behind p b book gives (book.held n safe) facts index place under temporaries others
 
   -- the frame of the code, and what the source has left to do in it
   abbrev pub waiting_frame : (gives : Bool) (n : ℕ) (safe : Bool) (base : ℕ) → Waits gives n safe base → Frame
@@ -49,11 +52,15 @@ module _ (p : Program) (names : Names) (b : Bounds) (book : Book) (thread : ℕ)
   abbrev pub waiting_frames : (gives : Bool) (n : ℕ) (safe : Bool) (base : ℕ) → Waits gives n safe base → (stops : Bool) → List frames.Frame → List frames.Frame
   waiting_frames gives n safe base w stops rest = frames.Called (here_of p (book.held n safe).func w.values w.temporaries) stops ∷ below p (book.held n safe).func w.values w.others rest
 
+  -- a frame of a safe body has an open atomic block below it
+  abbrev pub Covered : (safe : Bool) → List Frame → Type 0
+  Covered safe fs = safe ≡ true → no_atomic (blocks_in fs) ≡ false
+
   -- the callers of a function, which hands back a word or none and lets exceptions out or none: nobody below the first function of a thread,
   -- of which main's hands back a word, or one that waits and its callers
   pub data Callers : (gives stops : Bool) → List Frame → List frames.Frame → Type 0 where
     nobody : (main stops : Bool) → (thread == 0) ≡ main → Callers main stops [] (frames.Called (empty_stack thread) stops ∷ frames.Starts main ∷ [])
-    waits_for : {gives stops : Bool} {fs : List Frame} {rest : List frames.Frame} (n : ℕ) (safe : Bool) (base : ℕ) (w : Waits gives n safe base) → Callers (book.gives n) (book.held n safe).func.stops fs rest
+    waits_for : {gives stops : Bool} {fs : List Frame} {rest : List frames.Frame} (n : ℕ) (safe : Bool) (base : ℕ) (w : Waits gives n safe base) → Covered safe fs → Callers (book.gives n) (book.held n safe).func.stops fs rest
         → Callers gives stops (waiting_frame gives n safe base w ∷ fs) (waiting_frames gives n safe base w stops rest)
 
   -- a frame that runs
@@ -62,6 +69,7 @@ module _ (p : Program) (names : Names) (b : Bounds) (book : Book) (thread : ℕ)
     pub there : names.body n safe ≡ Some body
     pub rest : List frames.Frame
     pub callers : Callers (book.gives n) (book.held n safe).func.stops fs rest
+    pub covered : Covered safe fs
     pub stands : Stands p book.numbers (book.held n safe) (home_of thread n safe base) limit rest rank s top
 
   -- a frame in which an exception is in flight
@@ -70,16 +78,19 @@ module _ (p : Program) (names : Names) (b : Bounds) (book : Book) (thread : ℕ)
     pub there : names.body n safe ≡ Some body
     pub rest : List frames.Frame
     pub callers : Callers (book.gives n) (book.held n safe).func.stops fs rest
+    pub covered : Covered safe fs
     pub values : Values
     pub are_words : AreWords values
     pub based : Based (home_of thread n safe base) limit values
     pub index : ℕ
     pub place : Place
+    pub facts : List Fact
+    pub holds : AllHold p (book.held n safe).func values facts
     pub form : Exception
     pub outcome : Outcome
     pub frame : top ≡ frame_at p (book.held n safe).func book.numbers values (home_of thread n safe base) index place
     pub is : exception ≡ coded book.numbers (exception_of p (book.held n safe).func values form)
-    pub fits : FlightFits p (book.held n safe).func b (book.held n safe).notes book.numbers (book.held n safe).rows index place form outcome
+    pub fits : FlightFits p (book.held n safe).func b (book.held n safe).notes book.numbers (book.held n safe).rows facts index place form outcome
     pub shows : Shows p (book.held n safe).func values rest outcome s
 
   -- both threads go together, or an exception is in flight in both, or both have stopped

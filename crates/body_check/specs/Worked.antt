@@ -16,7 +16,7 @@ use Rattle.symbolic_source.specs.Outcomes.{silent, Outcome, goes}
 use Rattle.symbolic_source.specs.Steps.{given, advanced}
 use Rattle.symbolic_source.specs.Replacing.{in_waitings, in_frames}
 use Rattle.symbolic_code.specs.Places.{Place, nothing, later}
-use Rattle.symbolic_code.specs.Following.{Table, Next, refused, quietly, either_way, unless_trap, loudly, throwing, ends, followed}
+use Rattle.symbolic_code.specs.Following.{Table, Next, refused, quietly, either_way, unless_trap, loudly, throwing, finding, starting, rethrowing, ends, followed}
 use Rattle.body_check.specs.Notes.{no_answers, variables}
 
 -- where a body without jumps goes on
@@ -34,12 +34,15 @@ next_point p f (quietly i q o) = Some (point i q o)
 next_point p f (either_way w first other) = None
 next_point p f (unless_trap op kind a b next) = next_point p f next
 next_point p f (loudly doing ws k i q) = Some (point i q (given p f no_answers (in_waitings later ws) (variable 0) (in_frames later k)))
+next_point p f (finding class slot w next) = None
+next_point p f (starting address argument ws k i q) = None
 next_point p f (throwing e i q o) = None
+next_point p f (rethrowing ws k i q) = None
 next_point p f (ends end) = None
 
 abbrev pub step_over : Program → Func → Table → ℕ → Place → Outcome → Option Instr → Option Point
 step_over p f t i q o None = None
-step_over p f t i q o (Some a) = next_point p f (followed t i a q o)
+step_over p f t i q o (Some a) = next_point p f (followed t [] i a q o)
 
 -- along the instructions, where the source takes so many silent steps before each
 abbrev pub goes_along : Program → Func → Table → List Instr → (leads : List ℕ) → Point → Option Point
@@ -51,7 +54,7 @@ abbrev pub entered : Program → Func → ℕ → Point
 entered p f n = point 0 (record { operands = variables 0 n; opens = []; caught = []; hold = nothing }) (advanced p f no_answers 1 (goes silent [] (Passes (variables 0 n) f.words ∷ Then value f.body ∷ [])))
 
 abbrev pub itself : Table
-itself = record { global_of = λ n. Some n; function_of = λ n. Some n; class_of = λ n. Some n; type_of = λ n. None }
+itself = record { global_of = λ n. Some n; function_of = λ n. Some n; class_of = λ n. Some n; type_of = λ n. None; signature_of = λ n. None; is_slot = λ n c s. false }
 
 -- the point at which the outcome has gone on for so many silent steps
 abbrev pub outcome_at : Program → Func → ℕ → Option Point → Option Outcome
