@@ -96,6 +96,21 @@ short_number ULong r h = convert_same ULong (pos r) (pos (r % 2 ^ 64)) (λ e. cc
 short_number LLong r h = convert_same LLong (pos r) (pos (r % 2 ^ 64)) (λ e. cc) (ap (λ n. pos n) (shorter r 0 64 refl))
 short_number ULLong r h = convert_same ULLong (pos r) (pos (r % 2 ^ 64)) (λ e. cc) (ap (λ n. pos n) (shorter r 0 64 refl))
 
+-- and what is left modulo as many bits as it has
+pub low_number : (k : IntKind) (r : ℕ) → is_bool k ≡ false → convert_of k (pos r) ≡ convert_of k (pos (r % 2 ^ (8 * size_of k)))
+low_number BoolKind r h = absurd (true≢false h)
+low_number Char r h = convert_same Char (pos r) (pos (r % 2 ^ 8)) (λ e. cc) (ap (λ n. pos n) (sym (mod-mod-pow r 0 8)))
+low_number SChar r h = convert_same SChar (pos r) (pos (r % 2 ^ 8)) (λ e. cc) (ap (λ n. pos n) (sym (mod-mod-pow r 0 8)))
+low_number UChar r h = convert_same UChar (pos r) (pos (r % 2 ^ 8)) (λ e. cc) (ap (λ n. pos n) (sym (mod-mod-pow r 0 8)))
+low_number Short r h = convert_same Short (pos r) (pos (r % 2 ^ 16)) (λ e. cc) (ap (λ n. pos n) (sym (mod-mod-pow r 0 16)))
+low_number UShort r h = convert_same UShort (pos r) (pos (r % 2 ^ 16)) (λ e. cc) (ap (λ n. pos n) (sym (mod-mod-pow r 0 16)))
+low_number Int r h = convert_same Int (pos r) (pos (r % 2 ^ 32)) (λ e. cc) (ap (λ n. pos n) (sym (mod-mod-pow r 0 32)))
+low_number UInt r h = convert_same UInt (pos r) (pos (r % 2 ^ 32)) (λ e. cc) (ap (λ n. pos n) (sym (mod-mod-pow r 0 32)))
+low_number Long r h = convert_same Long (pos r) (pos (r % 2 ^ 64)) (λ e. cc) (ap (λ n. pos n) (sym (mod-mod-pow r 0 64)))
+low_number ULong r h = convert_same ULong (pos r) (pos (r % 2 ^ 64)) (λ e. cc) (ap (λ n. pos n) (sym (mod-mod-pow r 0 64)))
+low_number LLong r h = convert_same LLong (pos r) (pos (r % 2 ^ 64)) (λ e. cc) (ap (λ n. pos n) (sym (mod-mod-pow r 0 64)))
+low_number ULLong r h = convert_same ULLong (pos r) (pos (r % 2 ^ 64)) (λ e. cc) (ap (λ n. pos n) (sym (mod-mod-pow r 0 64)))
+
 -- a number modulo 2^64
 address_word : (n : ℕ) → word_of (reduced ULong (pos n)) ≡ n % 2 ^ 64
 unfolding word_of

@@ -1,8 +1,8 @@
 -- An instruction does what is foreseen.
-use Rattle.std.proofs.Common.{ℕ, zero, suc, ℤ, pos, ◌≡◌, ◌+◌, ◌*◌, ◌%◌, ◌^◌, ◌<◌, ◌==◌, ◌&&◌, nat_lt, Bool, true, false, not, cond, if◌then◌else◌, refl, ap, ap₂, sym, ◌∙◌, subst, List, [], ◌∷◌, Option, Some, None, Result, Ok, Err, arith}
-use Rattle.std.specs.Prelude.{slice_get, nat_eq}
+use Rattle.std.proofs.Common.{ℕ, zero, suc, ℤ, pos, ◌≡◌, ◌+◌, ◌*◌, ◌%◌, ◌^◌, ◌<◌, ◌==◌, ◌&&◌, ◌||◌, ◌≤◌, inl, inr, nat_lt, Bool, true, false, not, cond, if◌then◌else◌, refl, ap, ap₂, sym, ◌∙◌, subst, List, [], ◌∷◌, Option, Some, None, Result, Ok, Err, arith}
+use Rattle.std.specs.Prelude.{slice_get, nat_eq, nat_le, length}
 use Rattle.src_mean.specs.Exceptions.{bytes_of, with_bytes, read_bytes}
-use Rattle.std.proofs.lemmas.Bool.{true≢false, and_parts, eqb-true}
+use Rattle.std.proofs.lemmas.Bool.{true≢false, and_parts, eqb-true, leb-true}
 use Rattle.tx_ints.specs.declared.kinds.IntKind.{IntKind}
 use Rattle.tx_events.specs.declared.Trap.TheVariants.{BadCall, BadVirtual}
 use Rattle.tx_ints.specs.declared.kinds.IntKind.TheVariants.{Bool as BoolKind, Char, SChar, UChar, Short, UShort, Int, UInt, Long, ULong, LLong, ULLong}
@@ -30,7 +30,7 @@ use Rattle.src_mean.specs.Frames.{State}
 use Rattle.src_mean.specs.Frames as frames
 use Rattle.src_mean.specs.Source.{applied, right_value, stored_bytes, thread_signature}
 use Rattle.src_mean.specs.Source as source
-use Rattle.symbolic_source.specs.Terms.{Term, number, variable, local, global, function, table, slot_function, sum, product, low_byte, converted_to, result, field, Exception, made, Puts, untouched, put, Values, word_or_zero, number_found, eval, exception_of, bytes_put, plus_number, one_less}
+use Rattle.symbolic_source.specs.Terms.{Term, number, variable, local, global, function, table, slot_function, sum, product, low_byte, converted_to, result, field, Exception, unknown, made, Puts, untouched, put, Values, word_or_zero, number_found, eval, exception_of, bytes_put, plus_number, one_less}
 use Rattle.symbolic_source.specs.Frames.{Waiting, Exit, throws, returns, breaks, continues, words_of, below, here_of}
 use Rattle.symbolic_source.specs.Frames as symbolic
 use Rattle.symbolic_source.specs.Outcomes.{Doing, reads, writes, puts_out, takes_in, joins, spawns_thread, begins_atomic, begins_sync, ends_block, leaves_block, Outcome, goes, chooses, results, finds, spawns, rethrows, halts, Stops, Shows, event_of}
@@ -42,10 +42,10 @@ use Rattle.symbolic_code.specs.Same.{same_term, same_number, same_operator}
 use Rattle.symbolic_code.specs.Facts.{Fact, AllHold, is_not_zero}
 use Rattle.symbolic_code.proofs.Facts.{known_not_zero}
 use Rattle.symbolic_code.specs.Places.{Place, Hold, nothing, making, flying, all_coded, hold_of, holding, frame_at, replied, later, with_operands, place_later, opened_later}
-use Rattle.symbolic_code.specs.Following.{Table, Next, refused, quietly, either_way, unless_trap, loudly, throwing, finding, starting, rethrowing, ends, one_of, two_of, if_found, pushes, same_flag, is_bool, kept, stored_term, loads, stores, outputs, inputs, joining, begins, begins_locked, ends_atomic, ends_locked, aborts, addresses, operates, jumps_zero, puts_in, throws_made, resumes, rethrows_caught, gets_caught, handler_ends, bare_address, slots_follow, spawning, followed, Loud, Follows, AreNames}
+use Rattle.symbolic_code.specs.Following.{Table, Next, refused, quietly, either_way, unless_trap, loudly, throwing, finding, starting, rethrowing, ends, one_of, two_of, if_found, pushes, same_flag, is_bool, kept, stored_term, loads, stores, outputs, inputs, joining, begins, begins_locked, ends_atomic, ends_locked, aborts, addresses, operates, jumps_zero, puts_in, throws_made, resumes, rethrows_caught, was_put, put_in, read_as, taken_word, gets_caught, handler_ends, bare_address, slots_follow, spawning, followed, Loud, Follows, AreNames}
 use Rattle.symbolic_code.proofs.SameTerms.{term_same, number_same, operator_same}
-use Rattle.symbolic_code.proofs.Bytes.{put_same, get_same, no_bytes_same, bytes_low}
-use Rattle.symbolic_code.proofs.Arithmetic.{size_same, bits_same, stored_converted, bool_same, short_number, right_same, trap_same, sum_same, product_same, less_same, value_plain, equal_same, conversion_same}
+use Rattle.symbolic_code.proofs.Bytes.{put_same, get_same, no_bytes_same, bytes_low, with_length, put_read, read_apart}
+use Rattle.symbolic_code.proofs.Arithmetic.{size_same, bits_same, stored_converted, bool_same, short_number, low_number, right_same, trap_same, sum_same, product_same, less_same, value_plain, equal_same, conversion_same}
 use Rattle.symbolic_code.proofs.Later.{words_later, frame_later}
 
 flag_same : (a b : Bool) → same_flag a b ≡ true → a ≡ b
@@ -339,6 +339,10 @@ module _ (p : Program) (f : Func) (numbers : Typ → ℕ) (x : Values) (home : H
 
   -- Exceptions
 
+  word_as_number : (n : ℕ) → n < 2 ^ 64 → word_of (pos n) ≡ n
+  unfolding word_of
+  word_as_number n h = mod-eq_of_lt h
+
   typed_follows : {A : Type 0} (o : Option A) (go : A → Next) (a : Act) (s : State) → ((n : A) → o ≡ Some n → Is (go n) a s) → Is (if_found o go) a s
   typed_follows None go a s h = tt
   typed_follows (Some n) go a s h = h n refl
@@ -379,10 +383,56 @@ module _ (p : Program) (f : Func) (numbers : Typ → ℕ) (x : Values) (home : H
   got_is : (k : IntKind) (n : ℕ) (bs : List ℕ) → is_bool k ≡ false → word_of (convert_of k (pos (get_bytes bs n (size_of k)))) ≡ source.converted k (read_bytes bs n (size_of k) % 2 ^ 64)
   got_is k n bs h = ap (λ z. word_of (convert_of k (pos z))) (get_same bs n (size_of k)) ∙ ap (λ z. word_of z) (short_number k (read_bytes bs n (size_of k)) h)
 
+  puts_length : (puts : Puts) → length (bytes_put p f x puts) ≡ 64
+  puts_length untouched = refl
+  puts_length (put offset size w puts) = with_length offset (bytes_of size (word w)) (bytes_put p f x puts) ∙ puts_length puts
+
+  abbrev found_is : (n size : ℕ) → Puts → Option Term → Type 0
+  found_is n size puts o = (w : Term) → o ≡ Some w → read_bytes (bytes_put p f x puts) n size ≡ word w % 2 ^ (8 * size)
+
+  beside : (t u : Bool) (n size m k : ℕ) (v : Term) (puts : Puts) → nat_le (m + k) n ≡ t → nat_le (n + size) m ≡ u → found_is n size puts (was_put n size puts) → found_is n size (put m k v puts) (cond (t || u) (was_put n size puts) None)
+  beside true u n size m k v puts is other go w e = read_apart m k (word v) (bytes_put p f x puts) n size (inl (leb-true (m + k) n is)) ∙ go w e
+  beside false true n size m k v puts is other go w e = read_apart m k (word v) (bytes_put p f x puts) n size (inr (leb-true (n + size) m other)) ∙ go w e
+  beside false false n size m k v puts is other go w e = absurd cc
+
+  at_put : (t : Bool) (n size m k : ℕ) (v : Term) (puts : Puts) → n + size ≤ 64 → ((m == n) && (k == size)) ≡ t → found_is n size puts (was_put n size puts)
+      → found_is n size (put m k v puts) (cond t (Some v) (cond (nat_le (m + k) n || nat_le (n + size) m) (was_put n size puts) None))
+  at_put true n size m k v puts h is go w e =
+      let c = and_parts (m == n) (k == size) is in
+      let same : v ≡ w = cc in
+      ap₂ (λ (y z : ℕ). read_bytes (with_bytes y (bytes_of z (word v)) (bytes_put p f x puts)) n size) (eqb-true m n c.0) (eqb-true k size c.1)
+      ∙ (put_read n size (word v) (bytes_put p f x puts) (subst (λ z. n + size ≤ z) (sym (puts_length puts)) h) ∙ ap (λ z. word z % 2 ^ (8 * size)) same)
+  at_put false n size m k v puts h is go w e = beside (nat_le (m + k) n) (nat_le (n + size) m) n size m k v puts refl refl go w e
+
+  was_put_is : (n size : ℕ) (puts : Puts) → n + size ≤ 64 → found_is n size puts (was_put n size puts)
+  was_put_is n size untouched h w e = absurd cc
+  was_put_is n size (put m k v puts) h w e = at_put ((m == n) && (k == size)) n size m k v puts h refl (was_put_is n size puts h) w e
+
+  -- the word that was put is taken
+  taken_is : (k : IntKind) (n : ℕ) (bs : List ℕ) (w : Term) → is_bool k ≡ false → read_bytes bs n (size_of k) ≡ word w % 2 ^ (8 * size_of k) → word_of (convert_of k (pos (get_bytes bs n (size_of k)))) ≡ source.converted k (word w)
+  taken_is k n bs w h e = ap (λ z. word_of (convert_of k (pos z))) (get_same bs n (size_of k) ∙ e) ∙ ap (λ z. word_of z) (sym (low_number k (word w) h))
+
+  read_as_is : (k : IntKind) (w : Term) → source.converted k (word w) ≡ word (read_as k w)
+  read_as_is ULong w = ap (λ z. word_of z) (value_plain (word w) (term_below p f x bounded w)) ∙ word_as_number (word w) (term_below p f x bounded w)
+  read_as_is k w = refl
+
+  taken_word_is : (k : IntKind) (n : ℕ) (e : Exception) (o : Option Term) → is_bool k ≡ false → ((w : Term) → o ≡ Some w → read_bytes (exception_of p f x e).bytes n (size_of k) ≡ word w % 2 ^ (8 * size_of k))
+      → word_of (convert_of k (pos (get_bytes (exception_of p f x e).bytes n (size_of k)))) ≡ word (taken_word k n e o)
+  taken_word_is k n e None h g = got_is k n (exception_of p f x e).bytes h
+  taken_word_is k n e (Some w) h g = taken_is k n (exception_of p f x e).bytes w h (g w refl) ∙ read_as_is k w
+
+  within : (t : Bool) (n size : ℕ) (puts : Puts) → nat_le (n + size) 64 ≡ t → found_is n size puts (cond t (was_put n size puts) None)
+  within true n size puts h w e = was_put_is n size puts (leb-true (n + size) 64 h) w e
+  within false n size puts h w e = absurd cc
+
+  put_in_is : (n size : ℕ) (e : Exception) (w : Term) → put_in n size e ≡ Some w → read_bytes (exception_of p f x e).bytes n size ≡ word w % 2 ^ (8 * size)
+  put_in_is n size (unknown m) w h = absurd cc
+  put_in_is n size (made t puts) w h = within (nat_le (n + size) 64) n size puts refl w h
+
   gets_follow : (i n : ℕ) (k : IntKind) (q : Place) (o : Outcome) (s : State) (es : List Exception) → Foreseen o s
       → Is (gets_caught i n k q o es) (if_some (code.first_or (all_coded p f numbers x es) (code.current below_frames)) Lost (λ e. stands (i + 1) q (word_of (code.number_in e n k) ∷ words q.operands))) s
   gets_follow i n k q o s [] g = tt
-  gets_follow i n k q o s (e ∷ es) g = test_follows (not (is_bool k)) _ _ s (λ l. pushed i q o s (converted_to k (field e n (size_of k))) q.operands _ (got_is k n (exception_of p f x e).bytes (not_true (is_bool k) l)) g)
+  gets_follow i n k q o s (e ∷ es) g = test_follows (not (is_bool k)) _ _ s (λ l. pushed i q o s (taken_word k n e (put_in n (size_of k) e)) q.operands _ (taken_word_is k n e (put_in n (size_of k) e) (not_true (is_bool k) l) (λ w j. put_in_is n (size_of k) e w j)) g)
 
   handler_follows : (i : ℕ) (q : Place) (o : Outcome) (s : State) (es : List Exception) → Foreseen o s
       → Is (handler_ends i q o es) (code.in_handler (all_coded p f numbers x es) (code.goes (Runs (code.nested (frame i q) (record { opens = q.opens; caught = code.rest_caught (all_coded p f numbers x es); held = hold_of p f numbers x q.hold }) (i + 1) (words q.operands)) below_frames))) s
@@ -390,10 +440,6 @@ module _ (p : Program) (f : Func) (numbers : Typ → ℕ) (x : Values) (home : H
   handler_follows i q o s (e ∷ es) g = (refl, g)
 
   -- Functions that are found, and threads
-
-  word_as_number : (n : ℕ) → n < 2 ^ 64 → word_of (pos n) ≡ n
-  unfolding word_of
-  word_as_number n h = mod-eq_of_lt h
 
   bare_is : (a : Term) → word (bare_address a) ≡ word a
   bare_is (converted_to ULong w) = sym (ap (λ z. word_of z) (value_plain (word w) (term_below p f x bounded w)) ∙ word_as_number (word w) (term_below p f x bounded w))

@@ -1,5 +1,5 @@
 -- What an instruction does, with terms as operands, where the source does this next.
-use Rattle.std.specs.Prelude.{ℕ, ◌+◌, ◌==◌, ◌^◌, ℤ, ◌≡◌, Bool, true, false, not, cond, nat_lt, ◌&&◌, List, [], ◌∷◌, Option, Some, None, Result, Ok, Err, slice_get}
+use Rattle.std.specs.Prelude.{ℕ, ◌+◌, ◌==◌, ◌^◌, ℤ, ◌≡◌, Bool, true, false, not, cond, nat_lt, nat_le, ◌&&◌, ◌||◌, List, [], ◌∷◌, Option, Some, None, Result, Ok, Err, slice_get}
 use Rattle.tx_ints.specs.declared.kinds.IntKind.{IntKind}
 use Rattle.tx_ints.specs.declared.kinds.IntKind.TheVariants.{Bool as BoolKind, ULong}
 use Rattle.tx_ints.specs.declared.kinds.BinOp.{BinOp}
@@ -24,7 +24,7 @@ use Rattle.src_mean.specs.Linked.{Func, Program}
 use Rattle.src_mean.specs.Frames.{State}
 use Rattle.src_mean.specs.Frames as frames
 use Rattle.src_mean.specs.Source.{applied, trap_of, rethrow, thread_signature}
-use Rattle.symbolic_source.specs.Terms.{Term, number, variable, local, global, function, table, slot_function, sum, product, low_byte, converted_to, result, field, Exception, made, untouched, put, Values, eval, exception_of, plus_number, one_less}
+use Rattle.symbolic_source.specs.Terms.{Term, number, variable, local, global, function, table, slot_function, sum, product, low_byte, converted_to, result, field, Exception, unknown, made, Puts, untouched, put, Values, eval, exception_of, plus_number, one_less}
 use Rattle.symbolic_source.specs.Frames.{Waiting, Exit, throws, returns, breaks, continues, Replied, below, here_of}
 use Rattle.symbolic_source.specs.Frames as symbolic
 use Rattle.symbolic_source.specs.Outcomes.{Doing, silent, reads, writes, puts_out, takes_in, joins, spawns_thread, begins_atomic, begins_sync, ends_block, leaves_block, Outcome, stuck, goes, chooses, results, finds, spawns, rethrows, halts, Shows, Stops, event_of}
@@ -182,9 +182,27 @@ rethrows_caught i q (rethrows temporaries rest) [] = rethrowing temporaries rest
 rethrows_caught i q o [] = refused
 rethrows_caught i q o (e ∷ es) = throwing e i (holding q nothing) o
 
+-- what was put at this place, so many bytes
+abbrev pub was_put : (offset size : ℕ) → Puts → Option Term
+was_put n size untouched = None
+was_put n size (put m k w puts) = cond ((m == n) && (k == size)) (Some w) (cond (nat_le (m + k) n || nat_le (n + size) m) (was_put n size puts) None)
+
+abbrev pub put_in : (offset size : ℕ) → Exception → Option Term
+put_in n size (unknown m) = None
+put_in n size (made t puts) = cond (nat_le (n + size) 64) (was_put n size puts) None
+
+-- what is read as an address is the word itself
+abbrev pub read_as : IntKind → Term → Term
+read_as ULong w = w
+read_as k w = converted_to k w
+
+abbrev pub taken_word : IntKind → (offset : ℕ) → Exception → Option Term → Term
+taken_word k n e None = converted_to k (field e n (size_of k))
+taken_word k n e (Some w) = read_as k w
+
 abbrev pub gets_caught : ℕ → (offset : ℕ) → IntKind → Place → Outcome → List Exception → Next
 gets_caught i n k q o [] = refused
-gets_caught i n k q o (e ∷ es) = cond (not (is_bool k)) (pushes i q o (converted_to k (field e n (size_of k))) q.operands) refused
+gets_caught i n k q o (e ∷ es) = cond (not (is_bool k)) (pushes i q o (taken_word k n e (put_in n (size_of k) e)) q.operands) refused
 
 abbrev pub handler_ends : ℕ → Place → Outcome → List Exception → Next
 handler_ends i q o [] = refused
