@@ -32,7 +32,7 @@ use Rattle.symbolic_code.specs.Facts.{Fact, AllHold}
 use Rattle.symbolic_code.specs.Places.{Place, flying, coded, frame_at, replied, later, with_operands, holding, opened_later}
 use Rattle.symbolic_code.specs.Following.{Loud}
 use Rattle.symbolic_code.proofs.Later.{words_later, frame_later}
-use Rattle.body_check.specs.Notes.{Note, Bounds, catching, cut_to, IsOf, Answering, Lands, Reaches, Edges, Outward, RowFits, FoundFits, TypeFits, FlightFits}
+use Rattle.body_check.specs.Notes.{Note, Bounds, catching, cut_to, IsOf, Answering, Lands, Reaches, Edges, Outward, RowFits, FoundFits, TypeFits, Flies}
 use Rattle.body_check.specs.Linked.{Held, Based, Stands, Stopped}
 use Rattle.body_check.proofs.Landing.{landed, strode, event_meets}
 
@@ -65,11 +65,11 @@ module _ (p : Program) (names : Names) (numbers : Typ → ℕ) (h : Held) (b : B
     (Related : ℕ → State → code.State → Type 0)
     (stands : (rank : ℕ) (s : State) (top : Frame) → Stands p numbers h home limit rest rank s top → Related rank s (Runs top below_frames))
     (stops : (s : State) (c : code.State) → Stopped names s c → Related 0 s c)
-    (flies : (s : State) (x : Values) → AreWords x → Based home limit x → (known : List Fact) → AllHold p h.func x known → (index : ℕ) (q : Place) (e : Exception) (o : Outcome) → FlightFits p h.func b h.notes numbers h.rows known index q e o → Shows p h.func x rest o s
-        → Related 0 s (Unwinds (coded numbers (exception_of p h.func x e)) (frame_at p h.func numbers x home index q) below_frames))
+    (flies : (s : State) (x : Values) → AreWords x → Based home limit x → (known : List Fact) → AllHold p h.func x known → (index : ℕ) (q : Place) (e : Exception) (o : Outcome) → (t : Flies p h.func b h.notes numbers h.rows known index q e o) → Shows p h.func x rest o s
+        → Related t.rank s (Unwinds (coded numbers (exception_of p h.func x e)) (frame_at p h.func numbers x home index q) below_frames))
     (current : code.current below_frames ≡ option_map (coded numbers) (frames.handled rest))
     (cancel : (t : Typ) → names.cancels (numbers t) ≡ cancels t)
-    (x : Values) (bounded : AreWords x) (based : Based home limit x) (known : List Fact) (holds : AllHold p h.func x known) (index : ℕ) (q : Place) (e : Exception) (o : Outcome) (s : State) (shows : Shows p h.func x rest o s) where
+    (x : Values) (bounded : AreWords x) (based : Based home limit x) (known : List Fact) (holds : AllHold p h.func x known) (rank index : ℕ) (q : Place) (e : Exception) (o : Outcome) (s : State) (shows : Shows p h.func x rest o s) where
   abbrev exception : code.Exception
   exception = coded numbers (exception_of p h.func x e)
 
@@ -80,24 +80,25 @@ module _ (p : Program) (names : Names) (numbers : Typ → ℕ) (h : Held) (b : B
   flight = Unwinds exception frame below_frames
 
   abbrev Moves : Type 0
-  Moves = Move (source p) (thread names) b.most b.longest Related 0 s flight
+  Moves = Move (source p) (thread names) b.most b.longest Related rank s flight
 
   abbrev words : Place → List ℕ
   words r = words_of p h.func x r.operands
 
   -- the code goes on at an index
-  reaches_move : (answers : Answers) (right : AreRight p x answers) (target : ℕ) (r : Place) → Reaches p h.func b h.notes known answers target r o
+  reaches_move : (answers : Answers) (right : AreRight p x answers) (target : ℕ) (r : Place) → Reaches p h.func b h.notes known answers rank target r o
       → step_act names flight ≡ code.goes (Runs (frame_at p h.func numbers x home target r) below_frames) → Moves
   reaches_move answers right target r fits e =
       let l = landed p names numbers h b home limit rest below_frames small Related stands stops flies current x bounded based known holds answers right target r o s fits.lands shows in
-      strode p names numbers h b home limit rest below_frames small Related stands stops flies current 0 fits.lands.lag 0 fits.lands.note.rank s s l.to flight (Runs (frame_at p h.func numbers x home target r) below_frames) here l.path e
-      (plain fits.lands.lag fits.short) fits.lands.low l.related (inl (some fits.lands.lag fits.some))
+      strode p names numbers h b home limit rest below_frames small Related stands stops flies current 0 fits.lands.lag rank fits.lands.note.rank s s l.to flight (Runs (frame_at p h.func numbers x home target r) below_frames) here l.path e
+      (plain fits.lands.lag fits.short) fits.lands.low l.related (some fits.lands.lag fits.lands.note.rank fits.some)
     where
       plain : (n : ℕ) → n ≤ b.longest → 0 + n ≤ b.longest
       plain n h = omega (arith, h)
 
-      some : (n : ℕ) → 1 ≤ n → 1 ≤ 0 + n
-      some n h = omega (arith, h)
+      some : (n after : ℕ) → (1 ≤ n) ⊎ (after + 1 ≤ rank) → (1 ≤ 0 + n) ⊎ (after + 1 ≤ rank)
+      some n after (inl h) = inl (omega (arith, h))
+      some n after (inr h) = inr h
 
   -- the exception leaves a block
   edge_move : (answers : Answers) (right : AreRight p x answers) (block : Open) (target : ℕ) (r : Place) → Edges p h.func b h.notes known answers block target r e o → (event : Event) → event ≡ event_of p h.func x (leaves_block block (throws e))
@@ -121,7 +122,7 @@ module _ (p : Program) (names : Names) (numbers : Typ → ℕ) (h : Held) (b : B
   raised_is kind = ap (λ z. Raise kind z) (cancel (exception_of p h.func x e).typ)
 
   -- what a row does
-  row_move : (answers : Answers) (right : AreRight p x answers) (what target d : ℕ) → RowFits p h.func b h.notes known answers what target (cut_to d q) e o
+  row_move : (answers : Answers) (right : AreRight p x answers) (what target d : ℕ) → RowFits p h.func b h.notes known answers rank what target (cut_to d q) e o
       → step_act names flight ≡ row_act names what target (words (cut_to d q)) exception frame below_frames → Moves
   row_move answers right zero target d fits i = reaches_move answers right target (holding (cut_to d q) (flying e)) fits i
   row_move answers right (suc zero) target d fits i = reaches_move answers right target (catching (cut_to d q) e) fits i
@@ -134,12 +135,12 @@ module _ (p : Program) (names : Names) (numbers : Typ → ℕ) (h : Held) (b : B
 
   -- the row that is found, or none
   found_move : (out : (answers : Answers) → AreRight p x answers → Outward p h.func b h.notes answers e o → step_act names flight ≡ leave_act names exception frame below_frames → Moves)
-      → (answers : Answers) (right : AreRight p x answers) (found : Option Row) → FoundFits p h.func b h.notes known answers found q e o → step_act names flight ≡ unwind_act names found exception frame below_frames → Moves
+      → (answers : Answers) (right : AreRight p x answers) (found : Option Row) → FoundFits p h.func b h.notes known answers rank found q e o → step_act names flight ≡ unwind_act names found exception frame below_frames → Moves
   found_move out answers right None fits i = out answers right fits i
   found_move out answers right (Some r) fits i = row_move answers right r.what r.target r.depth fits (i ∙ ap (λ z. row_act names r.what r.target z exception frame below_frames) (cut_is p h.func x r.depth q.operands))
 
   pub flight_move : (out : (answers : Answers) → AreRight p x answers → Outward p h.func b h.notes answers e o → step_act names flight ≡ leave_act names exception frame below_frames → Moves)
-      → rows_in names home ≡ h.rows → FlightFits p h.func b h.notes numbers h.rows known index q e o → Moves
+      → rows_in names home ≡ h.rows → ((t : Typ) → IsOf e t → TypeFits p h.func b h.notes numbers h.rows known rank index q e o t) → Moves
   flight_move out rows fits =
       let t = (exception_of p h.func x e).typ in
       let c = fits t (own_type p h.func x e) in

@@ -39,7 +39,7 @@ use Rattle.symbolic_source.proofs.Advance.{advance, replied as value_after}
 use Rattle.symbolic_source.proofs.Replaced.{terms_replaced, here_replaced, frames_replaced, exception_replaced, outcome_replaced, outcome_placed}
 use Rattle.symbolic_code.specs.Places.{Place, Hold, nothing, making, flying, coded, all_coded, hold_of, frame_at, replied, later}
 use Rattle.symbolic_code.specs.Following.{Next, refused, quietly, either_way, unless_trap, loudly, throwing, finding, starting, rethrowing, ends, Follows, Loud}
-use Rattle.body_check.specs.Notes.{Note, Bounds, in_caught, in_hold, in_place, rising, is_loud, no_answers, Lands, LandsOn, FlightFits, Fits}
+use Rattle.body_check.specs.Notes.{Note, Bounds, in_caught, in_hold, in_place, rising, is_loud, no_answers, Lands, LandsOn, Flies, Fits}
 use Rattle.body_check.specs.Linked.{Held, Based, Stands, Stopped, Finished}
 
 -- paths one behind the other
@@ -179,8 +179,8 @@ module _ (p : Program) (names : Names) (numbers : Typ → ℕ) (h : Held) (b : B
     (Related : ℕ → State → code.State → Type 0)
     (stands : (rank : ℕ) (s : State) (top : Frame) → Stands p numbers h home limit rest rank s top → Related rank s (Runs top below_frames))
     (stops : (s : State) (c : code.State) → Stopped names s c → Related 0 s c)
-    (flies : (s : State) (x : Values) → AreWords x → Based home limit x → (known : List Fact) → AllHold p h.func x known → (index : ℕ) (q : Place) (e : Exception) (o : Outcome) → FlightFits p h.func b h.notes numbers h.rows known index q e o → Shows p h.func x rest o s
-        → Related 0 s (Unwinds (coded numbers (exception_of p h.func x e)) (frame_at p h.func numbers x home index q) below_frames))
+    (flies : (s : State) (x : Values) → AreWords x → Based home limit x → (known : List Fact) → AllHold p h.func x known → (index : ℕ) (q : Place) (e : Exception) (o : Outcome) → (t : Flies p h.func b h.notes numbers h.rows known index q e o) → Shows p h.func x rest o s
+        → Related t.rank s (Unwinds (coded numbers (exception_of p h.func x e)) (frame_at p h.func numbers x home index q) below_frames))
     (current : code.current below_frames ≡ option_map (coded numbers) (frames.handled rest)) where
   abbrev Moves : ℕ → State → code.State → Type 0
   Moves rank s c = Move (source p) (thread names) b.most b.longest Related rank s c
@@ -290,26 +290,26 @@ module _ (p : Program) (names : Names) (numbers : Typ → ℕ) (h : Held) (b : B
   few : (lead : ℕ) → lead ≤ b.longest → lead + 0 ≤ b.longest
   few lead h = omega (arith, h)
 
-  moves_on : (lead rank : ℕ) → (1 ≤ lead) ⊎ (1 ≤ rank) → (1 ≤ lead + 0) ⊎ (0 + 1 ≤ rank)
-  moves_on lead rank (inl h) = inl (omega (arith, h))
-  moves_on lead rank (inr h) = inr (omega (arith, h))
+  moves_on : (lead rank after : ℕ) → (1 ≤ lead) ⊎ (after + 1 ≤ rank) → (1 ≤ lead + 0) ⊎ (after + 1 ≤ rank)
+  moves_on lead rank after (inl h) = inl (omega (arith, h))
+  moves_on lead rank after (inr h) = inr h
 
   -- what a caller's handler has is thrown again
   rethrown_move : (lead rank : ℕ) (x : Values) (bounded : AreWords x) (based : Based home limit x) (known : List Fact) (holds : AllHold p h.func x known) (s t : State) (c : code.State) (ws : List Waits) (k : List Form) (index : ℕ) (q : Place)
-      → Path (source p) lead s t → lead ≤ b.longest → (1 ≤ lead) ⊎ (1 ≤ rank)
-      → FlightFits p h.func b h.notes numbers h.rows (in_facts rising known) index (in_place rising q) (unknown 0) (left (in_waitings rising ws) (throws (unknown 0)) (in_frames rising k))
+      → Path (source p) lead s t → lead ≤ b.longest
+      → (r : Flies p h.func b h.notes numbers h.rows (in_facts rising known) index (in_place rising q) (unknown 0) (left (in_waitings rising ws) (throws (unknown 0)) (in_frames rising k))) → (1 ≤ lead) ⊎ (r.rank + 1 ≤ rank)
       → (o : Option exceptions.Exception) → step_act names c ≡ if_some (option_map (coded numbers) o) (Ends (Stop Terminate)) (λ e. code.goes (Unwinds e (frame_at p h.func numbers x home index q) below_frames))
       → t ≡ rethrow (here_of p h.func x ws) o (below p h.func x k rest) → Moves rank s c
-  rethrown_move lead rank x bounded based known holds s t c ws k index q v short on fits None e g =
+  rethrown_move lead rank x bounded based known holds s t c ws k index q v short fits on None e g =
       leads short v (stop_meets p names b Related stops Terminate t c (record { here = here_of p h.func x ws; others = below p h.func x k rest; is = g }) e)
-  rethrown_move lead rank x bounded based known holds s t c ws k index q v short on fits (Some m) e g =
+  rethrown_move lead rank x bounded based known holds s t c ws k index q v short fits on (Some m) e g =
       let y = thrown_into x m in
       let shows : Shows p h.func y rest (left (in_waitings rising ws) (throws (unknown 0)) (in_frames rising k)) t =
       subst (λ z. Shows p h.func y rest (left (in_waitings rising ws) (throws (unknown 0)) (in_frames rising k)) z) (sym (g ∙ ap₂ (λ a d. leave a (frames.throws m) d) (sym (here_replaced p h.func rising y rest ws)) (sym (frames_replaced p h.func rising y rest k))))
       (left_shown p h.func y rest (in_waitings rising ws) (throws (unknown 0)) (in_frames rising k)) in
-      strode lead 0 rank 0 s t t c (Unwinds (coded numbers m) (frame_at p h.func numbers x home index q) below_frames) v here e (few lead short) (omega arith)
-      (subst (λ z. Related 0 t (Unwinds (coded numbers m) z below_frames)) (frame_replaced p h.func numbers rising y home index q)
-      (flies t y bounded based (in_facts rising known) (facts_placed p h.func rising y known holds) index (in_place rising q) (unknown 0) (left (in_waitings rising ws) (throws (unknown 0)) (in_frames rising k)) fits shows)) (moves_on lead rank on)
+      strode lead 0 rank fits.rank s t t c (Unwinds (coded numbers m) (frame_at p h.func numbers x home index q) below_frames) v here e (few lead short) fits.low
+      (subst (λ z. Related fits.rank t (Unwinds (coded numbers m) z below_frames)) (frame_replaced p h.func numbers rising y home index q)
+      (flies t y bounded based (in_facts rising known) (facts_placed p h.func rising y known holds) index (in_place rising q) (unknown 0) (left (in_waitings rising ws) (throws (unknown 0)) (in_frames rising k)) fits shows)) (moves_on lead rank fits.rank on)
 
   either_found : (o : Option ℕ) {A : Type 0} → ((n : ℕ) → o ≡ Some n → A) → (o ≡ None → A) → A
   either_found None g h = h refl
@@ -331,7 +331,7 @@ module _ (p : Program) (names : Names) (numbers : Typ → ℕ) (h : Held) (b : B
   follow_move lead rank x bounded based known holds s t c v short (starting address argument ws k index q) fits g = either_found (p.pointed (eval p h.func x address) thread_signature)
       (λ n e. let r = g.0 n e in leads short v (event_meets x based known holds t c (spawns_thread n argument) ws (Replied ∷ k) index q bounded refl fits.0 fits.1 r.0 r.1)) (λ e. let r = g.1 e in leads short v (stop_meets p names b Related stops (Trapped BadCall) t c r.1 r.0))
   follow_move lead rank x bounded based known holds s t c v short (throwing e index q o) fits g =
-      strode lead 0 rank 0 s t t c (Unwinds (coded numbers (exception_of p h.func x e)) (frame_at p h.func numbers x home index q) below_frames) v here g.0 (few lead short) (omega arith) (flies t x bounded based known holds index q e o fits.1 g.1) (moves_on lead rank fits.0)
+      strode lead 0 rank fits.0.rank s t t c (Unwinds (coded numbers (exception_of p h.func x e)) (frame_at p h.func numbers x home index q) below_frames) v here g.0 (few lead short) fits.0.low (flies t x bounded based known holds index q e o fits.0 g.1) (moves_on lead rank fits.0.rank fits.1)
   follow_move lead rank x bounded based known holds s t c v short (rethrowing ws k index q) fits g =
       rethrown_move lead rank x bounded based known holds s t c ws k index q v short fits.0 fits.1 (frames.handled rest)
       (g.0 ∙ ap (λ z. if_some z (Ends (Stop Terminate)) (λ e. code.goes (Unwinds e (frame_at p h.func numbers x home index q) below_frames))) current) g.1

@@ -49,10 +49,14 @@ call_fits safe = record {
         some = omega arith;
         short = omega arith;
       };
-      thrown = λ t is. record {
-        answers = no_answers;
-        right = λ n handler answer e. absurd cc;
-        found = record { lag = 3; temporaries = []; is = refl; some = omega arith; short = omega arith };
+      thrown = record {
+        rank = 0;
+        low = omega arith;
+        fits = λ t is. record {
+          answers = no_answers;
+          right = λ n handler answer e. absurd cc;
+          found = record { lag = 3; temporaries = []; is = refl; some = omega arith; short = omega arith };
+        };
       };
       opens = refl;
       caught = refl;

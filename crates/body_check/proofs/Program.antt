@@ -42,7 +42,7 @@ use Rattle.symbolic_source.specs.Small.{IsSmall, AreWords, AreRight, Advanced, i
 use Rattle.symbolic_source.proofs.Advance.{advance}
 use Rattle.symbolic_code.specs.Places.{Place, coded, frame_at, with_operands}
 use Rattle.symbolic_code.specs.Following.{followed}
-use Rattle.body_check.specs.Notes.{Note, Bounds, Outward, FlightFits, Fits, no_answers, variables}
+use Rattle.body_check.specs.Notes.{Note, Bounds, IsOf, Outward, TypeFits, Flies, Fits, no_answers, variables}
 use Rattle.body_check.specs.Linked.{Held, Based, Stands, Stopped, Finished}
 use Rattle.body_check.specs.Calls.{Book, taken_off, bare, Begins, Hands, covers, Behind, Calling, Found, by_pointer, by_slot, CallingFound, StepFits, NoteFits, Checked, Whole, Links}
 use Rattle.body_check.specs.Threads.{home_of, limit, Callers, nobody, RunsIn, FliesIn, Together, running, flies, stopped, finished}
@@ -101,8 +101,8 @@ module _ (p : Program) (names : Names) (b : Bounds) (book : Book) (id : ℕ) (li
     stops : (s : State) (c : code.State) → Stopped names s c → Together p names b book id 0 s c
     stops s c z = stopped z
 
-    flying_in : (s : State) (x : Values) → AreWords x → Based home (limit p names b book id) x → (known : List Fact) → AllHold p h.func x known → (index : ℕ) (q : Place) (e : Exception) (o : Outcome) → FlightFits p h.func b h.notes numbers h.rows known index q e o → Shows p h.func x r.rest o s
-        → Together p names b book id 0 s (Unwinds (coded numbers (exception_of p h.func x e)) (frame_at p h.func numbers x home index q) fs)
+    flying_in : (s : State) (x : Values) → AreWords x → Based home (limit p names b book id) x → (known : List Fact) → AllHold p h.func x known → (index : ℕ) (q : Place) (e : Exception) (o : Outcome) → (t : Flies p h.func b h.notes numbers h.rows known index q e o) → Shows p h.func x r.rest o s
+        → Together p names b book id t.rank s (Unwinds (coded numbers (exception_of p h.func x e)) (frame_at p h.func numbers x home index q) fs)
     flying_in s x bounded based known holds index q e o fits shows = flies_in p names b book id links small n safe base r.body r.there fs r.rest r.covered r.callers s x bounded based known holds index q e o fits shows
 
     current : code.current fs ≡ option_map (coded numbers) (frames.handled r.rest)
@@ -275,7 +275,7 @@ module _ (p : Program) (names : Names) (b : Bounds) (book : Book) (id : ℕ) (li
         at_instr fit.instr fit.is fit.short fit.foreseen fit.fits
 
   -- an exception is in flight
-  module _ (n : ℕ) (safe : Bool) (base : ℕ) (fs : List Frame) (s : State) (e : code.Exception) (top : Frame) (r : FliesIn p names b book id s e top fs n safe base) where
+  module _ (n : ℕ) (safe : Bool) (base : ℕ) (fs : List Frame) (rank : ℕ) (s : State) (e : code.Exception) (top : Frame) (r : FliesIn p names b book id rank s e top fs n safe base) where
     abbrev own : Held
     own = book.held n safe
 
@@ -288,8 +288,8 @@ module _ (p : Program) (names : Names) (b : Bounds) (book : Book) (id : ℕ) (li
     own_stops : (s : State) (c : code.State) → Stopped names s c → Together p names b book id 0 s c
     own_stops s c z = stopped z
 
-    own_flies : (s : State) (x : Values) → AreWords x → Based own_home (limit p names b book id) x → (known : List Fact) → AllHold p own.func x known → (index : ℕ) (q : Place) (e : Exception) (o : Outcome) → FlightFits p own.func b own.notes numbers own.rows known index q e o → Shows p own.func x r.rest o s
-        → Together p names b book id 0 s (Unwinds (coded numbers (exception_of p own.func x e)) (frame_at p own.func numbers x own_home index q) fs)
+    own_flies : (s : State) (x : Values) → AreWords x → Based own_home (limit p names b book id) x → (known : List Fact) → AllHold p own.func x known → (index : ℕ) (q : Place) (e : Exception) (o : Outcome) → (t : Flies p own.func b own.notes numbers own.rows known index q e o) → Shows p own.func x r.rest o s
+        → Together p names b book id t.rank s (Unwinds (coded numbers (exception_of p own.func x e)) (frame_at p own.func numbers x own_home index q) fs)
     own_flies s x bounded based known holds index q e o fits shows = flies_in p names b book id links small n safe base r.body r.there fs r.rest r.covered r.callers s x bounded based known holds index q e o fits shows
 
     own_current : code.current fs ≡ option_map (coded numbers) (frames.handled r.rest)
@@ -302,22 +302,22 @@ module _ (p : Program) (names : Names) (b : Bounds) (book : Book) (id : ℕ) (li
     frame_there = frame_at p own.func numbers r.values own_home r.index r.place
 
     leaves_function : (answers : Answers) → AreRight p r.values answers → Outward p own.func b own.notes answers r.form r.outcome
-        → step_act names (Unwinds (coded numbers thrown) frame_there fs) ≡ leave_act names (coded numbers thrown) frame_there fs → Makes 0 s (Unwinds (coded numbers thrown) frame_there fs)
+        → step_act names (Unwinds (coded numbers thrown) frame_there fs) ≡ leave_act names (coded numbers thrown) frame_there fs → Makes rank s (Unwinds (coded numbers thrown) frame_there fs)
     leaves_function answers right out i =
         let a = advance p own.func r.values answers r.rest small r.are_words right out.lag r.outcome s r.shows (ap is_stuck out.is) in
-        out_move p names b book id links small own_home out.lag own.func r.values thrown (here_of p own.func r.values out.temporaries) (book.gives n) own.func.stops s a.to (Unwinds (coded numbers thrown) frame_there fs) frame_there fs r.rest refl (links.stops n safe)
+        out_move p names b book id links small own_home out.lag rank own.func r.values thrown (here_of p own.func r.values out.temporaries) (book.gives n) own.func.stops s a.to (Unwinds (coded numbers thrown) frame_there fs) frame_there fs r.rest refl (links.stops n safe)
         r.callers (subst (λ z. Path (source p) z s a.to) a.long a.path) out.some out.short (subst (λ z. Shows p own.func r.values r.rest z a.to) out.is a.shows) i
 
     rows_are : rows_in names own_home ≡ own.rows
     rows_are = ap (λ z. map (renamed_row (names.numbering n)) (code.rows_of z)) r.there ∙ links.rows n safe r.body r.there
 
-    flying_move : Makes 0 s (Unwinds e top fs)
-    flying_move = subst (λ z. Makes 0 s (Unwinds z top fs)) (sym r.is) (subst (λ z. Makes 0 s (Unwinds (coded numbers thrown) z fs)) (sym r.frame)
-        (flight_move p names numbers own b own_home (limit p names b book id) r.rest fs small (Together p names b book id) own_stands own_stops own_flies own_current links.cancels r.values r.are_words r.based r.facts r.holds r.index r.place r.form r.outcome s r.shows leaves_function rows_are r.fits))
+    flying_move : Makes rank s (Unwinds e top fs)
+    flying_move = subst (λ z. Makes rank s (Unwinds z top fs)) (sym r.is) (subst (λ z. Makes rank s (Unwinds (coded numbers thrown) z fs)) (sym r.frame)
+        (flight_move p names numbers own b own_home (limit p names b book id) r.rest fs small (Together p names b book id) own_stands own_stops own_flies own_current links.cancels r.values r.are_words r.based r.facts r.holds rank r.index r.place r.form r.outcome s r.shows leaves_function rows_are (subst (λ z. (t : Typ) → IsOf r.form t → TypeFits p own.func b own.notes numbers own.rows r.facts z r.index r.place r.form r.outcome t) r.ranked r.fits.fits)))
 
   pub together_moves : (rank : ℕ) (s : State) (c : code.State) → rank ≤ b.most → Together p names b book id rank s c → Makes rank s c
   together_moves rank s c low (running {top = top} {fs = fs} n safe base r) = running_move n safe base fs rank s top r
-  together_moves rank s c low (flies {e = e} {top = top} {fs = fs} n safe base r) = flying_move n safe base fs s e top r
+  together_moves rank s c low (flies {e = e} {top = top} {fs = fs} n safe base r) = flying_move n safe base fs rank s e top r
   together_moves rank s c low (stopped z) = meets (stop_meets p names b (Together p names b book id) (λ s c y. stopped y) z.end s c (record { here = z.here; others = z.others; is = z.first }) z.second)
   together_moves rank s c low (finished z) = meets (ended_meets p names b (Together p names b book id) (λ s c y. finished y) s c z)
 

@@ -32,7 +32,7 @@ use Rattle.symbolic_source.proofs.Advance.{advance}
 use Rattle.symbolic_source.proofs.Replaced.{here_replaced, frames_replaced}
 use Rattle.symbolic_code.specs.Places.{Place, coded, all_coded, frame_at, replied, later, with_operands, place_later}
 use Rattle.symbolic_code.proofs.Later.{words_later, frame_later}
-use Rattle.body_check.specs.Notes.{Note, Bounds, FlightFits, in_place, rising, no_answers, variables}
+use Rattle.body_check.specs.Notes.{Note, Bounds, Flies, in_place, rising, no_answers, variables}
 use Rattle.body_check.specs.Linked.{Held, Based, Stands, Stopped, Finished}
 use Rattle.std.specs.Option.{option_map}
 use Rattle.tx_events.specs.Thread.{Open, no_atomic}
@@ -216,10 +216,10 @@ module _ (p : Program) (names : Names) (b : Bounds) (book : Book) (id : ℕ) (li
   stands_in n safe base body there fs rest covered callers rank s top st = running n safe base (record { body = body; there = there; rest = rest; callers = callers; covered = covered; stands = st })
 
   pub flies_in : (n : ℕ) (safe : Bool) (base : ℕ) (body : BodyView) (there : names.body n safe ≡ Some body) (fs : List Frame) (rest : List frames.Frame) (covered : Covered p names b book id safe fs) (callers : Callers p names b book id (book.gives n) (held n safe).func.stops fs rest)
-      (s : State) (x : Values) → AreWords x → Based (home_of id n safe base) end_of x → (known : List Fact) → AllHold p (held n safe).func x known → (index : ℕ) (q : Place) (e : Exception) (o : Outcome) → FlightFits p (held n safe).func b (held n safe).notes numbers (held n safe).rows known index q e o
-      → Shows p (held n safe).func x rest o s → Pairs 0 s (Unwinds (coded numbers (exception_of p (held n safe).func x e)) (frame_at p (held n safe).func numbers x (home_of id n safe base) index q) fs)
+      (s : State) (x : Values) → AreWords x → Based (home_of id n safe base) end_of x → (known : List Fact) → AllHold p (held n safe).func x known → (index : ℕ) (q : Place) (e : Exception) (o : Outcome) → (t : Flies p (held n safe).func b (held n safe).notes numbers (held n safe).rows known index q e o)
+      → Shows p (held n safe).func x rest o s → Pairs t.rank s (Unwinds (coded numbers (exception_of p (held n safe).func x e)) (frame_at p (held n safe).func numbers x (home_of id n safe base) index q) fs)
   flies_in n safe base body there fs rest covered callers s x bounded based facts holds index q e o fits shows = flies n safe base (record {
-    body = body; there = there; rest = rest; callers = callers; covered = covered; facts = facts; holds = holds; values = x; are_words = bounded; based = based; index = index; place = q; form = e; outcome = o; frame = refl; is = refl; fits = fits; shows = shows;
+    body = body; there = there; rest = rest; callers = callers; covered = covered; facts = facts; holds = holds; values = x; are_words = bounded; based = based; index = index; place = q; form = e; outcome = o; frame = refl; is = refl; fits = fits; ranked = refl; shows = shows;
   })
 
   back_with_word : (home : Home) (lead rank v : ℕ) (s t : State) (c : code.State) (n : ℕ) (safe : Bool) (base : ℕ) (w : Waits p names b book id true n safe base) (fs : List Frame) (rest : List frames.Frame) (covered : Covered p names b book id safe fs) → v < 2 ^ 64
@@ -300,37 +300,37 @@ module _ (p : Program) (names : Names) (b : Bounds) (book : Book) (id : ℕ) (li
   less lag h = omega (arith, h)
 
   -- the function lets no exception out
-  terminates : (lag : ℕ) (s t : State) (c : code.State) (hand : frames.Here) (k : List frames.Frame) → Path (thread_of p) lag s t → lag + 1 ≤ b.longest → t ≡ halt hand Terminate k → step_act names c ≡ Ends (Stop Terminate) → Moves 0 s c
-  terminates lag s t c hand k path short g e = leads (less lag short) path (stop_meets p names b Pairs (λ s c z. stopped z) Terminate t c (record { here = hand; others = k; is = g }) e)
+  terminates : (lag rank : ℕ) (s t : State) (c : code.State) (hand : frames.Here) (k : List frames.Frame) → Path (thread_of p) lag s t → lag + 1 ≤ b.longest → t ≡ halt hand Terminate k → step_act names c ≡ Ends (Stop Terminate) → Moves rank s c
+  terminates lag rank s t c hand k path short g e = leads (less lag short) path (stop_meets p names b Pairs (λ s c z. stopped z) Terminate t c (record { here = hand; others = k; is = g }) e)
 
   -- nobody is below the first function of a thread
-  thread_terminates : (lag : ℕ) (e : exceptions.Exception) (s t : State) (c : code.State) (main : Bool) → Path (thread_of p) lag s t → lag + 1 ≤ b.longest
-      → t ≡ frames.at Silent (empty_stack id) (frames.Leaves (frames.throws e) ∷ frames.Starts main ∷ []) → step_act names c ≡ Ends (Stop Terminate) → Moves 0 s c
-  thread_terminates lag e s t c main path short g i =
+  thread_terminates : (lag rank : ℕ) (e : exceptions.Exception) (s t : State) (c : code.State) (main : Bool) → Path (thread_of p) lag s t → lag + 1 ≤ b.longest
+      → t ≡ frames.at Silent (empty_stack id) (frames.Leaves (frames.throws e) ∷ frames.Starts main ∷ []) → step_act names c ≡ Ends (Stop Terminate) → Moves rank s c
+  thread_terminates lag rank e s t c main path short g i =
       leads short (joined (thread_of p) path (subst (λ z. Path (thread_of p) 1 z (halt (empty_stack id) Terminate (frames.Starts main ∷ []))) (sym g) (step {n = 0} refl here)))
       (stop_meets p names b Pairs (λ s c z. stopped z) Terminate (halt (empty_stack id) Terminate (frames.Starts main ∷ [])) c
       (record { here = empty_stack id; others = frames.Starts main ∷ []; is = refl }) i)
 
   -- the exception comes to the caller
-  caller_flies : (lag : ℕ) (e : exceptions.Exception) (s t : State) (c : code.State) (gives : Bool) (n : ℕ) (safe : Bool) (base : ℕ) (w : Waits p names b book id gives n safe base) (fs : List Frame) (rest : List frames.Frame) (covered : Covered p names b book id safe fs)
+  caller_flies : (lag rank : ℕ) (e : exceptions.Exception) (s t : State) (c : code.State) (gives : Bool) (n : ℕ) (safe : Bool) (base : ℕ) (w : Waits p names b book id gives n safe base) (fs : List Frame) (rest : List frames.Frame) (covered : Covered p names b book id safe fs)
       → Callers p names b book id (book.gives n) (held n safe).func.stops fs rest → Path (thread_of p) lag s t → 1 ≤ lag → lag + 1 ≤ b.longest
       → t ≡ frames.at Silent (here_of p (held n safe).func w.values w.temporaries) (frames.Leaves (frames.throws e) ∷ below p (held n safe).func w.values w.others rest)
-      → step_act names c ≡ code.goes (Unwinds (coded numbers e) (waiting_frame p names b book id gives n safe base w) fs) → Moves 0 s c
-  caller_flies lag e s t c gives n safe base w fs rest covered callers path some short g i =
+      → step_act names c ≡ code.goes (Unwinds (coded numbers e) (waiting_frame p names b book id gives n safe base w) fs) → Moves rank s c
+  caller_flies lag rank e s t c gives n safe base w fs rest covered callers path some short g i =
       let f = (held n safe).func in
       let y : Values = record { word = w.values.word; exception = exception_first e w.values.exception; base = w.values.base; limit = w.values.limit } in
       let shows : Shows p f y rest (goes silent (in_waitings rising w.temporaries) (Leaves (throws (unknown 0)) ∷ in_frames rising w.others)) t =
       g ∙ ap₂ (λ a d. frames.at Silent a (frames.Leaves (frames.throws e) ∷ d)) (sym (here_replaced p f rising y rest w.temporaries)) (sym (frames_replaced p f rising y rest w.others)) in
-      both_go lag 0 0 s t c (Unwinds (coded numbers e) (waiting_frame p names b book id gives n safe base w) fs) path some (less lag short) i (omega arith)
-      (subst (λ z. Pairs 0 t (Unwinds (coded numbers e) z fs)) (frame_replaced p f numbers rising y (home_of id n safe base) w.index (with_operands w.place w.under))
+      both_go lag rank w.behind.thrown.rank s t c (Unwinds (coded numbers e) (waiting_frame p names b book id gives n safe base w) fs) path some (less lag short) i w.behind.thrown.low
+      (subst (λ z. Pairs w.behind.thrown.rank t (Unwinds (coded numbers e) z fs)) (frame_replaced p f numbers rising y (home_of id n safe base) w.index (with_operands w.place w.under))
       (flies_in n safe base w.body w.there fs rest covered callers t y w.are_words w.based (in_facts rising w.facts) (facts_placed p f rising y w.facts w.holds) w.index (in_place rising (with_operands w.place w.under)) (unknown 0) (goes silent (in_waitings rising w.temporaries) (Leaves (throws (unknown 0)) ∷ in_frames rising w.others)) w.behind.thrown shows))
 
-  pub out_move : (home : Home) (lag : ℕ) (f : Func) (x : Values) (e : exceptions.Exception) (hand : frames.Here) (gives stops : Bool) (s t : State) (c : code.State) (top : Frame) (fs : List Frame) (rest : List frames.Frame) → top.home ≡ home → names.no_except home.func ≡ stops
+  pub out_move : (home : Home) (lag rank : ℕ) (f : Func) (x : Values) (e : exceptions.Exception) (hand : frames.Here) (gives stops : Bool) (s t : State) (c : code.State) (top : Frame) (fs : List Frame) (rest : List frames.Frame) → top.home ≡ home → names.no_except home.func ≡ stops
       → Callers p names b book id gives stops fs rest → Path (thread_of p) lag s t → 1 ≤ lag → lag + 1 ≤ b.longest → t ≡ leave hand (frames.throws e) rest
-      → step_act names c ≡ code.leave_act names (coded numbers e) top fs → Moves 0 s c
-  out_move home lag f x e hand gives true s t c top fs rest own stop (nobody main stopping is_main) path some short g i = terminates lag s t c hand _ path short g i
-  out_move home lag f x e hand gives false s t c top fs rest own stop (nobody main stopping is_main) path some short g i = thread_terminates lag e s t c main path short g i
-  out_move home lag f x e hand gives true s t c top fs rest own stop (waits_for {fs = gs} {rest = more} n safe base w covered callers) path some short g i =
-      terminates lag s t c hand _ path short g (i ∙ ap (λ (z : Bool). if z then Ends (Stop Terminate) else code.goes (Unwinds (coded numbers e) (waiting_frame p names b book id gives n safe base w) gs)) (ap (λ (z : Home). names.no_except z.func) own ∙ stop))
-  out_move home lag f x e hand gives false s t c top fs rest own stop (waits_for {fs = gs} {rest = more} n safe base w covered callers) path some short g i =
-      caller_flies lag e s t c gives n safe base w gs more covered callers path some short g (i ∙ ap (λ (z : Bool). if z then Ends (Stop Terminate) else code.goes (Unwinds (coded numbers e) (waiting_frame p names b book id gives n safe base w) gs)) (ap (λ (z : Home). names.no_except z.func) own ∙ stop))
+      → step_act names c ≡ code.leave_act names (coded numbers e) top fs → Moves rank s c
+  out_move home lag rank f x e hand gives true s t c top fs rest own stop (nobody main stopping is_main) path some short g i = terminates lag rank s t c hand _ path short g i
+  out_move home lag rank f x e hand gives false s t c top fs rest own stop (nobody main stopping is_main) path some short g i = thread_terminates lag rank e s t c main path short g i
+  out_move home lag rank f x e hand gives true s t c top fs rest own stop (waits_for {fs = gs} {rest = more} n safe base w covered callers) path some short g i =
+      terminates lag rank s t c hand _ path short g (i ∙ ap (λ (z : Bool). if z then Ends (Stop Terminate) else code.goes (Unwinds (coded numbers e) (waiting_frame p names b book id gives n safe base w) gs)) (ap (λ (z : Home). names.no_except z.func) own ∙ stop))
+  out_move home lag rank f x e hand gives false s t c top fs rest own stop (waits_for {fs = gs} {rest = more} n safe base w covered callers) path some short g i =
+      caller_flies lag rank e s t c gives n safe base w gs more covered callers path some short g (i ∙ ap (λ (z : Bool). if z then Ends (Stop Terminate) else code.goes (Unwinds (coded numbers e) (waiting_frame p names b book id gives n safe base w) gs)) (ap (λ (z : Home). names.no_except z.func) own ∙ stop))

@@ -22,7 +22,7 @@ use Rattle.symbolic_source.specs.Replacing.{in_terms, in_waitings, in_frames}
 use Rattle.symbolic_code.specs.Facts.{Fact, has_function, in_facts, Among}
 use Rattle.symbolic_code.specs.Places.{Place, nothing, frame_at, later, with_operands, place_later}
 use Rattle.symbolic_code.specs.Following.{followed, AreNames}
-use Rattle.body_check.specs.Notes.{Note, Bounds, Lands, Fits, FlightFits, in_place, rising, no_answers, variables}
+use Rattle.body_check.specs.Notes.{Note, Bounds, Lands, Fits, Flies, in_place, rising, no_answers, variables}
 use Rattle.body_check.specs.Linked.{Held, Based, Stands, Stopped}
 
 -- the bodies by function and by whether it is the safe one; whether a function hands back a word, and how many words it takes; types' numbers
@@ -74,7 +74,7 @@ module _ (p : Program) (b : Bounds) (book : Book) where
   -- how the caller goes on where an exception comes out of the callee
   abbrev pub ThrownWith : Held → List Fact → ℕ → Place → List Term → List Waiting → List Frame → Type 0
   ThrownWith h known i q under ws k =
-      FlightFits p h.func b h.notes book.numbers h.rows (in_facts rising known) i (in_place rising (with_operands q under)) (unknown 0) (goes silent (in_waitings rising ws) (Leaves (throws (unknown 0)) ∷ in_frames rising k))
+      Flies p h.func b h.notes book.numbers h.rows (in_facts rising known) i (in_place rising (with_operands q under)) (unknown 0) (goes silent (in_waitings rising ws) (Leaves (throws (unknown 0)) ∷ in_frames rising k))
 
   -- what a call leaves behind it: where the words of the call have been taken off
   pub record Behind (gives : Bool) (h : Held) (known : List Fact) (index : ℕ) (q : Place) (under : List Term) (ws : List Waiting) (k : List Frame) : Type 0 where

@@ -104,9 +104,9 @@ module _ (p : Program) (f : Func) (b : Bounds) (notes : List Note) where
   -- ---- exceptions in flight
 
   -- a row leads to an index
-  pub record Reaches (known : List Fact) (answers : Answers) (index : ℕ) (q : Place) (o : Outcome) : Type 0 where
+  pub record Reaches (known : List Fact) (answers : Answers) (rank : ℕ) (index : ℕ) (q : Place) (o : Outcome) : Type 0 where
     pub lands : Lands known answers index q o
-    pub some : 1 ≤ lands.lag
+    pub some : (1 ≤ lands.lag) ⊎ (lands.note.rank + 1 ≤ rank)
     pub short : lands.lag ≤ b.longest
 
   -- an exception leaves a block, and the code goes on at an index behind this event
@@ -128,29 +128,31 @@ module _ (p : Program) (f : Func) (b : Bounds) (notes : List Note) where
     pub short : lag + 1 ≤ b.longest
 
   -- what each sort of row asks
-  abbrev pub RowFits : List Fact → Answers → (what target : ℕ) → Place → Exception → Outcome → Type 0
-  RowFits known answers zero target q e o = Reaches known answers target (holding q (flying e)) o
-  RowFits known answers (suc zero) target q e o = Reaches known answers target (catching q e) o
-  RowFits known answers (suc (suc zero)) target q e o = Reaches known answers target (catching q e) o
-  RowFits known answers (suc (suc (suc zero))) target q e o = Edges known answers (Atomic NoExcept) target q e o
-  RowFits known answers (suc (suc (suc (suc zero)))) target q e o = Edges known answers (Atomic Commit) target q e o
-  RowFits known answers (suc (suc (suc (suc (suc zero))))) target q e o = Edges known answers (Atomic Cancel) target q e o
-  RowFits known answers (suc (suc (suc (suc (suc (suc zero)))))) target q e o = Edges known answers Sync target q e o
-  RowFits known answers (suc (suc (suc (suc (suc (suc (suc n))))))) target q e o = ⊥
+  abbrev pub RowFits : List Fact → Answers → (rank : ℕ) → (what target : ℕ) → Place → Exception → Outcome → Type 0
+  RowFits known answers rank zero target q e o = Reaches known answers rank target (holding q (flying e)) o
+  RowFits known answers rank (suc zero) target q e o = Reaches known answers rank target (catching q e) o
+  RowFits known answers rank (suc (suc zero)) target q e o = Reaches known answers rank target (catching q e) o
+  RowFits known answers rank (suc (suc (suc zero))) target q e o = Edges known answers (Atomic NoExcept) target q e o
+  RowFits known answers rank (suc (suc (suc (suc zero)))) target q e o = Edges known answers (Atomic Commit) target q e o
+  RowFits known answers rank (suc (suc (suc (suc (suc zero))))) target q e o = Edges known answers (Atomic Cancel) target q e o
+  RowFits known answers rank (suc (suc (suc (suc (suc (suc zero)))))) target q e o = Edges known answers Sync target q e o
+  RowFits known answers rank (suc (suc (suc (suc (suc (suc (suc n))))))) target q e o = ⊥
 
-  abbrev pub FoundFits : List Fact → Answers → Option Row → Place → Exception → Outcome → Type 0
-  FoundFits known answers None q e o = Outward answers e o
-  FoundFits known answers (Some r) q e o = RowFits known answers r.what r.target (cut_to r.depth q) e o
+  abbrev pub FoundFits : List Fact → Answers → (rank : ℕ) → Option Row → Place → Exception → Outcome → Type 0
+  FoundFits known answers rank None q e o = Outward answers e o
+  FoundFits known answers rank (Some r) q e o = RowFits known answers rank r.what r.target (cut_to r.depth q) e o
 
   -- for a type: what is answered on an unknown exception of it, and the row that takes it
-  pub record TypeFits (numbers : Typ → ℕ) (rows : List Row) (known : List Fact) (index : ℕ) (q : Place) (e : Exception) (o : Outcome) (t : Typ) : Type 0 where
+  pub record TypeFits (numbers : Typ → ℕ) (rows : List Row) (known : List Fact) (rank index : ℕ) (q : Place) (e : Exception) (o : Outcome) (t : Typ) : Type 0 where
     pub answers : Answers
     pub right : Answering p e t answers
-    pub found : FoundFits known answers (find rows index (numbers t)) q e o
+    pub found : FoundFits known answers rank (find rows index (numbers t)) q e o
 
-  -- an exception in flight at an index, of each type that it can be of
-  abbrev pub FlightFits : (numbers : Typ → ℕ) → List Row → List Fact → ℕ → Place → Exception → Outcome → Type 0
-  FlightFits numbers rows known index q e o = (t : Typ) → IsOf e t → TypeFits numbers rows known index q e o t
+  -- an exception in flight at an index, of each type that it can be of, with a rank as a note has
+  pub record Flies (numbers : Typ → ℕ) (rows : List Row) (known : List Fact) (index : ℕ) (q : Place) (e : Exception) (o : Outcome) : Type 0 where
+    pub rank : ℕ
+    pub low : rank ≤ b.most
+    pub fits : (t : Typ) → IsOf e t → TypeFits numbers rows known rank index q e o t
 
   module _ (numbers : Typ → ℕ) (rows : List Row) where
     abbrev pub Fits : (known : List Fact) → (lead rank : ℕ) → Next → Type 0
@@ -161,6 +163,6 @@ module _ (p : Program) (f : Func) (b : Bounds) (notes : List Note) where
     Fits known lead rank (finding class slot w next) = Fits (has_function class slot w ∷ known) lead rank next
     Fits known lead rank (loudly doing ws k index q) = (is_loud doing ≡ true) × (l : Lands (in_facts later known) no_answers index q (given p f no_answers (in_waitings later ws) (variable 0) (in_frames later k))) × (l.lag ≡ 0)
     Fits known lead rank (starting address argument ws k index q) = (l : Lands (in_facts later known) no_answers index q (given p f no_answers (in_waitings later ws) (variable 0) (in_frames later (Replied ∷ k)))) × (l.lag ≡ 0)
-    Fits known lead rank (throwing e index q o) = ((1 ≤ lead) ⊎ (1 ≤ rank)) × FlightFits numbers rows known index q e o
-    Fits known lead rank (rethrowing ws k index q) = ((1 ≤ lead) ⊎ (1 ≤ rank)) × FlightFits numbers rows (in_facts rising known) index (in_place rising q) (unknown 0) (left (in_waitings rising ws) (throws (unknown 0)) (in_frames rising k))
+    Fits known lead rank (throwing e index q o) = (t : Flies numbers rows known index q e o) × ((1 ≤ lead) ⊎ (t.rank + 1 ≤ rank))
+    Fits known lead rank (rethrowing ws k index q) = (t : Flies numbers rows (in_facts rising known) index (in_place rising q) (unknown 0) (left (in_waitings rising ws) (throws (unknown 0)) (in_frames rising k))) × ((1 ≤ lead) ⊎ (t.rank + 1 ≤ rank))
     Fits known lead rank (ends end) = Unit {0}

@@ -16,7 +16,7 @@ use Rattle.symbolic_source.specs.Outcomes.{Outcome, Shows}
 use Rattle.symbolic_source.specs.Small.{AreWords}
 use Rattle.symbolic_code.specs.Facts.{Fact, AllHold}
 use Rattle.symbolic_code.specs.Places.{Place, coded, frame_at, with_operands}
-use Rattle.body_check.specs.Notes.{Bounds, FlightFits}
+use Rattle.body_check.specs.Notes.{Bounds, Flies}
 use Rattle.body_check.specs.Linked.{Held, Based, Stands, Stopped, Finished}
 use Rattle.body_check.specs.Calls.{Book, Behind}
 
@@ -73,7 +73,7 @@ module _ (p : Program) (names : Names) (b : Bounds) (book : Book) (thread : ℕ)
     pub stands : Stands p book.numbers (book.held n safe) (home_of thread n safe base) limit rest rank s top
 
   -- a frame in which an exception is in flight
-  pub record FliesIn (s : State) (exception : code.Exception) (top : Frame) (fs : List Frame) (n : ℕ) (safe : Bool) (base : ℕ) : Type 0 where
+  pub record FliesIn (rank : ℕ) (s : State) (exception : code.Exception) (top : Frame) (fs : List Frame) (n : ℕ) (safe : Bool) (base : ℕ) : Type 0 where
     pub body : BodyView
     pub there : names.body n safe ≡ Some body
     pub rest : List frames.Frame
@@ -90,12 +90,13 @@ module _ (p : Program) (names : Names) (b : Bounds) (book : Book) (thread : ℕ)
     pub outcome : Outcome
     pub frame : top ≡ frame_at p (book.held n safe).func book.numbers values (home_of thread n safe base) index place
     pub is : exception ≡ coded book.numbers (exception_of p (book.held n safe).func values form)
-    pub fits : FlightFits p (book.held n safe).func b (book.held n safe).notes book.numbers (book.held n safe).rows facts index place form outcome
+    pub fits : Flies p (book.held n safe).func b (book.held n safe).notes book.numbers (book.held n safe).rows facts index place form outcome
+    pub ranked : fits.rank ≡ rank
     pub shows : Shows p (book.held n safe).func values rest outcome s
 
   -- both threads go together, or an exception is in flight in both, or both have stopped
   pub data Together : ℕ → State → code.State → Type 0 where
     running : {rank : ℕ} {s : State} {top : Frame} {fs : List Frame} (n : ℕ) (safe : Bool) (base : ℕ) → RunsIn rank s top fs n safe base → Together rank s (Runs top fs)
-    flies : {s : State} {e : code.Exception} {top : Frame} {fs : List Frame} (n : ℕ) (safe : Bool) (base : ℕ) → FliesIn s e top fs n safe base → Together 0 s (Unwinds e top fs)
+    flies : {rank : ℕ} {s : State} {e : code.Exception} {top : Frame} {fs : List Frame} (n : ℕ) (safe : Bool) (base : ℕ) → FliesIn rank s e top fs n safe base → Together rank s (Unwinds e top fs)
     stopped : {s : State} {c : code.State} → Stopped names s c → Together 0 s c
     finished : {s : State} {c : code.State} → Finished names s c → Together 0 s c
