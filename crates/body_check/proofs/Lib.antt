@@ -6,3 +6,4 @@ pub mod Threads
 pub mod Program
 pub mod Main
 pub mod Pair
+pub mod Caught

@@ -5,3 +5,4 @@ pub mod Threads
 pub mod Worked
 pub mod Main
 pub mod Pair
+pub mod Caught

@@ -16,6 +16,7 @@ ghost use Rattle.symbolic_source.specs.Small.{IsSmall};
 ghost use Rattle.body_check.specs.Notes.{Bounds};
 ghost use Rattle.body_check.specs.Calls.{Book, Links, Begins};
 ghost use Rattle.body_check.specs.Main.{main_program, main_names};
+ghost use Rattle.body_check.specs.Caught.{catch_program, catch_names};
 ghost use Rattle.body_check.specs.Pair.{pair_program, pair_names};
 ghost use Rattle.body_check.specs.Worked.{sum_func, sum_code, sum_run, outcome_at, operands_at};
 
@@ -46,6 +47,12 @@ pub fn worked_main()
 /// So is `int one() { return 1; } int main() { return one(); }`, with a call and its return.
 pub fn worked_call()
     ensures { SameEvents (source pair_program) (thread pair_names) (main_state pair_program) (starts pair_names 0 0 []) }
+{}
+
+/// So is `int main() { try { throw 1; } catch (int e) { return e; } return 0; }`: the row of its handler takes the type that
+/// is thrown, where the source comes to the handler.
+pub fn worked_catch()
+    ensures { SameEvents (source catch_program) (thread catch_names) (main_state catch_program) (starts catch_names 0 0 []) }
 {}
 
 /// `int f(int a) { return a + 1; }`: the source goes along with the code up to its last instruction, where the word on
