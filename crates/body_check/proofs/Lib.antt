@@ -7,3 +7,4 @@ pub mod Program
 pub mod Main
 pub mod Pair
 pub mod Caught
+pub mod Cases

@@ -6,3 +6,4 @@ pub mod Worked
 pub mod Main
 pub mod Pair
 pub mod Caught
+pub mod Cases

@@ -4,16 +4,21 @@ ghost use Rattle.std.specs.Prelude.{◌≡◌, ◌==◌, ℕ, ◌+◌, ℤ, fals
 ghost use Rattle.tx_code.specs.declared.instr.Instr.TheVariants.{Push, Swap, FrameAddr, Load, Store, Bin, Ret};
 ghost use Rattle.tx_ints.specs.declared.kinds.IntKind.TheVariants.{Int};
 ghost use Rattle.tx_ints.specs.declared.kinds.BinOp.TheVariants.{Add};
-ghost use Rattle.src_mean.specs.Linked.{Program};
-ghost use Rattle.symbolic_source.specs.Terms.{number, variable, converted_to, result as value_of};
+ghost use Rattle.tx_code.specs.declared.body.Row.{Row};
+ghost use Rattle.cpp_tree.specs.cpp_types.Typ.{Typ};
+ghost use Rattle.src_mean.specs.Linked.{Func, Program};
+ghost use Rattle.symbolic_source.specs.Terms.{number, variable, unknown, converted_to, result as value_of};
 ghost use Rattle.symbolic_source.specs.Frames.{returns};
-ghost use Rattle.symbolic_source.specs.Outcomes.{goes_out};
+ghost use Rattle.symbolic_source.specs.Outcomes.{Outcome, goes_out};
+ghost use Rattle.symbolic_code.specs.Facts.{Fact};
+ghost use Rattle.symbolic_code.specs.Places.{Place};
+ghost use Rattle.body_check.specs.Cases.{answers_in, find_in, cases, AreSpelled, Each};
 ghost use Rattle.tx_code.specs.Meaning.{Names, thread, starts};
 ghost use Rattle.tx_events.specs.Same.{SameEvents, StepsWithin};
 ghost use Rattle.tx_ints.specs.Words.{word_of};
 ghost use Rattle.src_mean.specs.Source.{source, main_state, begins};
 ghost use Rattle.symbolic_source.specs.Small.{IsSmall};
-ghost use Rattle.body_check.specs.Notes.{Bounds};
+ghost use Rattle.body_check.specs.Notes.{Note, Bounds, FoundFits, TypeFits};
 ghost use Rattle.body_check.specs.Calls.{Book, Links, Begins};
 ghost use Rattle.body_check.specs.Main.{main_program, main_names};
 ghost use Rattle.body_check.specs.Caught.{catch_program, catch_names};
@@ -37,6 +42,15 @@ pub fn checked_threads_keep_their_events()
     ensures within { (p : Program) (names : Names) (b : Bounds) (book : Book) → Links p names b book → IsSmall p →
         (id n : ℕ) (arg : ℤ) → (id == 0) ≡ false → Begins p names book id n (word_of arg ∷ []) →
         StepsWithin (source p) (thread names) (b.most + 1) b.most (begins p id n arg) (starts names id n (word_of arg ∷ [])) }
+{}
+
+/// An exception of which nothing is known goes where it has to if it does so in each of finitely many cases of its type:
+/// a class of the program, a spelling of a handler's or row's type, and any other.
+pub fn finitely_many_cases()
+    ensures { (p : Program) (f : Func) (b : Bounds) (notes : List Note) (known : List (List ℕ)) (numbers : Typ → ℕ) (spelling_of : ℕ → List ℕ) (rows : List Row) (facts : List Fact) (rank index : ℕ) (q : Place) (n : ℕ) (o : Outcome) →
+        AreSpelled p.classes known numbers spelling_of rows →
+        Each (λ c. FoundFits p f b notes facts (answers_in p.classes known n c) rank (find_in p.classes known spelling_of c rows index) q (unknown n) o) (cases p.classes known) →
+        (t : Typ) → TypeFits p f b notes numbers rows facts rank index q (unknown n) o t }
 {}
 
 /// `int main() { return 0; }` is such a program: its notes fit.
