@@ -1,15 +1,12 @@
 -- Moves make a simulation of any length.
-use Rattle.std.proofs.Common.{ℕ, zero, suc, ◌≡◌, ◌+◌, ◌*◌, ◌-◌, ◌<◌, ◌≤◌, inl, inr, Bool, true, false, refl, ap, sym, ◌∙◌, subst, arith}
-use Rattle.std.proofs.lemmas.Bool.{true≢false}
-use Rattle.tx_events.specs.declared.Event.{Event}
+use Rattle.std.proofs.Common.{ℕ, zero, suc, ◌≡◌, ◌+◌, ◌-◌, ◌<◌, ◌≤◌, inl, inr, refl, ap, sym, subst, arith}
 use Rattle.tx_events.specs.declared.Event.TheVariants.{Silent}
-use Rattle.tx_events.specs.declared.Reply.{Reply}
 use Rattle.tx_events.specs.declared.Reply.TheVariants.{Nothing}
-use Rattle.tx_events.specs.Thread.{Thread, Answers, is_silent}
+use Rattle.tx_events.specs.Thread.{Thread, is_silent}
 use Rattle.tx_events.specs.Same.{SameEvents, StepsWithin}
 use Rattle.tx_events.specs.Simulation.{Path, here, step, SimulationBound, SilentMatch, Stepped, Sim}
 use Rattle.tx_events.proofs.SimulationLemmas.{simulated, simulated_within}
-use Rattle.lockstep.specs.Moves.{Ranked, Meeting, Striding, Waiting, Move, meets, strides, waits, leads}
+use Rattle.lockstep.specs.Moves.{Ranked, Meeting, Striding, Move, meets, strides, waits, leads}
 
 module _ {S T : Type 0} (a : Thread S) (b : Thread T) (most longest : ℕ) (Related : ℕ → S → T → Type 0)
     (move : (rank : ℕ) (s : S) (t : T) → rank ≤ most → Related rank s t → Move a b most longest Related rank s t) where

@@ -1,9 +1,9 @@
 -- Words of the code as those of the source.
-use Rattle.std.proofs.Common.{ℕ, zero, suc, ℤ, pos, ◌≡◌, ◌≢◌, ◌⊎◌, inl, inr, ◌+◌, ◌*◌, ◌%◌, ◌^◌, ◌<◌, ◌==◌, Bool, true, false, cond, if◌then◌else◌, not, refl, ap, ap₂, sym, ◌∙◌, subst, Result, Ok, Err, arith}
+use Rattle.std.proofs.Common.{ℕ, zero, suc, ℤ, pos, ◌≡◌, ◌≢◌, ◌⊎◌, inl, inr, ◌+◌, ◌*◌, ◌%◌, ◌^◌, ◌<◌, false, refl, ap, ap₂, sym, ◌∙◌, subst, Ok, arith}
 use Rattle.std.proofs.lemmas.Int.{ints}
-use Rattle.std.specs.Prelude.{◌-◌, ◌+ℤ◌, ◌-ℤ◌, ◌*ℤ◌, unsigned_abs}
+use Rattle.std.specs.Prelude.{◌-◌, ◌-ℤ◌, unsigned_abs}
 use Rattle.std.specs.Int.{int_rem_euclid}
-use Rattle.std.proofs.lemmas.Bool.{true≢false, eqb-true}
+use Rattle.std.proofs.lemmas.Bool.{true≢false}
 use Rattle.std.proofs.Math.Pow.{mod-mod-pow}
 use Rattle.std.proofs.Math.Nat.{mod-eq_of_lt}
 use Rattle.tx_ints.specs.declared.kinds.IntKind.{IntKind}
@@ -12,7 +12,7 @@ use Rattle.tx_ints.specs.declared.kinds.BinOp.{BinOp}
 use Rattle.tx_ints.specs.declared.kinds.BinOp.TheVariants.{Add, Sub, Mul, Eq, Shl, Shr}
 use Rattle.tx_ints.specs.declared.kinds.ArithTrap.{ArithTrap}
 use Rattle.tx_ints.specs.declared.kinds.ArithTrap.TheVariants.{Overflow, DivideByZero, ShiftRange}
-use Rattle.tx_ints.specs.Integers.{width, modulus, convert_of, reduced, apply_of}
+use Rattle.tx_ints.specs.Integers.{convert_of, reduced, apply_of}
 use Rattle.tx_ints.specs.Words.{word_of, value_of_word}
 use Rattle.tx_ints.proofs.ConversionLaws.{converts_into_range, zero_or_one, convert_keeps, convert_twice, converts_modulo, convert_same}
 use Rattle.tx_ints.proofs.WordLaws.{word_converts}

@@ -1,6 +1,6 @@
 -- The bytes of exceptions, as code puts and takes them and as the source does.
 use Rattle.std.proofs.Common.{ℕ, zero, suc, ◌≡◌, ◌+◌, ◌*◌, ◌%◌, ◌/◌, ◌^◌, ◌<◌, ◌≤◌, ◌⊎◌, inl, inr, refl, ap, ap₂, sym, ◌∙◌, subst, List, [], ◌∷◌, arith}
-use Rattle.std.specs.Prelude.{slice_set, slice_index_or, length, take, drop}
+use Rattle.std.specs.Prelude.{slice_set, slice_index_or, length, take}
 use Rattle.std.proofs.lemmas.Nat.{mod-pow-add}
 use Rattle.std.proofs.Math.Nat.{mod-one}
 use Rattle.tx_code.specs.Meaning.{put_bytes, get_bytes, no_bytes}

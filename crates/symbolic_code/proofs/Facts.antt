@@ -1,5 +1,5 @@
 -- Facts under other values, and among others.
-use Rattle.std.proofs.Common.{ℕ, ◌≡◌, ◌⊎◌, inl, inr, Bool, true, false, ◌||◌, refl, ap, sym, ◌∙◌, subst, List, [], ◌∷◌, Option, Some}
+use Rattle.std.proofs.Common.{◌≡◌, ◌⊎◌, inl, inr, Bool, true, false, ◌||◌, refl, ap, sym, ◌∙◌, subst, List, [], ◌∷◌}
 use Rattle.std.proofs.lemmas.Bool.{true≢false}
 use Rattle.src_mean.specs.Linked.{Func, Program}
 use Rattle.symbolic_source.specs.Terms.{Term, Values, eval}

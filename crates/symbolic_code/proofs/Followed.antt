@@ -1,11 +1,11 @@
 -- An instruction does what is foreseen.
-use Rattle.std.proofs.Common.{ℕ, zero, suc, ℤ, pos, ◌≡◌, ◌+◌, ◌*◌, ◌%◌, ◌^◌, ◌<◌, ◌==◌, ◌&&◌, ◌||◌, ◌≤◌, inl, inr, nat_lt, Bool, true, false, not, cond, if◌then◌else◌, refl, ap, ap₂, sym, ◌∙◌, subst, List, [], ◌∷◌, Option, Some, None, Result, Ok, Err, arith}
+use Rattle.std.proofs.Common.{ℕ, ℤ, pos, ◌≡◌, ◌+◌, ◌*◌, ◌%◌, ◌^◌, ◌<◌, ◌==◌, ◌&&◌, ◌||◌, ◌≤◌, inl, inr, nat_lt, Bool, true, false, not, cond, if◌then◌else◌, refl, ap, ap₂, sym, ◌∙◌, subst, List, [], ◌∷◌, Option, Some, None, Ok, Err}
 use Rattle.std.specs.Prelude.{slice_get, nat_eq, nat_le, length}
 use Rattle.src_mean.specs.Exceptions.{bytes_of, with_bytes, read_bytes}
 use Rattle.std.proofs.lemmas.Bool.{true≢false, and_parts, eqb-true, leb-true}
 use Rattle.tx_ints.specs.declared.kinds.IntKind.{IntKind}
 use Rattle.tx_events.specs.declared.Trap.TheVariants.{BadCall, BadVirtual}
-use Rattle.tx_ints.specs.declared.kinds.IntKind.TheVariants.{Bool as BoolKind, Char, SChar, UChar, Short, UShort, Int, UInt, Long, ULong, LLong, ULLong}
+use Rattle.tx_ints.specs.declared.kinds.IntKind.TheVariants.{Bool as BoolKind, Int, Long, ULong}
 use Rattle.tx_ints.specs.declared.kinds.BinOp.{BinOp}
 use Rattle.tx_ints.specs.declared.kinds.BinOp.TheVariants.{Add, Sub, Mul, Eq}
 use Rattle.tx_ints.specs.declared.kinds.ArithTrap.{ArithTrap}
@@ -30,10 +30,10 @@ use Rattle.src_mean.specs.Frames.{State}
 use Rattle.src_mean.specs.Frames as frames
 use Rattle.src_mean.specs.Source.{applied, right_value, stored_bytes, thread_signature}
 use Rattle.src_mean.specs.Source as source
-use Rattle.symbolic_source.specs.Terms.{Term, number, variable, local, global, function, table, slot_function, sum, product, low_byte, converted_to, result, field, Exception, unknown, made, Puts, untouched, put, Values, word_or_zero, number_found, eval, exception_of, bytes_put, plus_number, one_less}
+use Rattle.symbolic_source.specs.Terms.{Term, number, variable, local, global, function, table, sum, product, low_byte, converted_to, result, Exception, unknown, made, Puts, untouched, put, Values, word_or_zero, number_found, eval, exception_of, bytes_put, plus_number, one_less}
 use Rattle.symbolic_source.specs.Frames.{Waiting, Exit, throws, returns, breaks, continues, words_of, below, here_of}
 use Rattle.symbolic_source.specs.Frames as symbolic
-use Rattle.symbolic_source.specs.Outcomes.{Doing, reads, writes, puts_out, takes_in, joins, spawns_thread, begins_atomic, begins_sync, ends_block, leaves_block, Outcome, goes, chooses, results, finds, spawns, rethrows, halts, Stops, Shows, event_of}
+use Rattle.symbolic_source.specs.Outcomes.{Doing, reads, writes, puts_out, takes_in, joins, begins_atomic, begins_sync, ends_block, leaves_block, Outcome, goes, chooses, results, finds, spawns, rethrows, halts, Shows, event_of}
 use Rattle.symbolic_source.specs.Small.{IsSmall, AreWords}
 use Rattle.symbolic_source.specs.Replacing.{in_terms}
 use Rattle.symbolic_source.proofs.TermLemmas.{term_below, plus_number_is, one_less_is, word_kept}
@@ -41,8 +41,8 @@ use Rattle.std.proofs.Math.Nat.{mod-eq_of_lt, add-mod-mod}
 use Rattle.symbolic_code.specs.Same.{same_term, same_number, same_operator}
 use Rattle.symbolic_code.specs.Facts.{Fact, AllHold, is_not_zero}
 use Rattle.symbolic_code.proofs.Facts.{known_not_zero}
-use Rattle.symbolic_code.specs.Places.{Place, Hold, nothing, making, flying, all_coded, hold_of, holding, frame_at, replied, later, with_operands, place_later, opened_later}
-use Rattle.symbolic_code.specs.Following.{Table, Next, refused, quietly, either_way, unless_trap, loudly, throwing, finding, starting, rethrowing, ends, one_of, two_of, if_found, pushes, same_flag, is_bool, kept, stored_term, loads, stores, outputs, inputs, joining, begins, begins_locked, ends_atomic, ends_locked, aborts, addresses, operates, jumps_zero, puts_in, throws_made, resumes, rethrows_caught, was_put, put_in, read_as, taken_word, gets_caught, handler_ends, bare_address, slots_follow, spawning, followed, Loud, Follows, AreNames}
+use Rattle.symbolic_code.specs.Places.{Place, Hold, making, flying, all_coded, hold_of, frame_at, replied, later, place_later, opened_later}
+use Rattle.symbolic_code.specs.Following.{Table, Next, refused, unless_trap, loudly, one_of, two_of, if_found, pushes, same_flag, is_bool, kept, stored_term, loads, stores, outputs, inputs, joining, begins, begins_locked, ends_atomic, ends_locked, aborts, addresses, operates, jumps_zero, puts_in, throws_made, resumes, rethrows_caught, was_put, put_in, read_as, taken_word, gets_caught, handler_ends, bare_address, slots_follow, spawning, followed, Follows, AreNames}
 use Rattle.symbolic_code.proofs.SameTerms.{term_same, number_same, operator_same}
 use Rattle.symbolic_code.proofs.Bytes.{put_same, get_same, no_bytes_same, bytes_low, with_length, put_read, read_apart}
 use Rattle.symbolic_code.proofs.Arithmetic.{size_same, bits_same, stored_converted, bool_same, short_number, low_number, right_same, trap_same, sum_same, product_same, less_same, value_plain, equal_same, conversion_same}
@@ -454,10 +454,12 @@ module _ (p : Program) (f : Func) (numbers : Typ → ℕ) (x : Values) (home : H
       let g = and_parts ((class == c) && (slot == d)) (same_term (bare_address a) v) e in
       let l = and_parts (class == c) (slot == d) g.0 in
       let at_address : word a ≡ word v = sym (bare_is a) ∙ ap (λ z. word z) (term_same (bare_address a) v g.1) in
-      let key : names.slot_of own (word a) slot ≡ p.slot (word v) c d = same (word a) slot ∙ (ap₂ (λ (m n : ℕ). p.slot m n slot) at_address (eqb-true class c l.0) ∙ ap (λ z. p.slot (word v) c z) (eqb-true slot d l.1)) in
-      (
-        λ n m. (ap (λ z. if_some z (traps BadVirtual) (λ k. stands (i + 1) q (names.func_address k ∷ words ws))) (key ∙ m)
-            ∙ ap (λ z. stands (i + 1) q (z ∷ words ws)) (address n ∙ (sym (mod-eq_of_lt (small.slots (word v) c d n m)) ∙ ap (λ (z : Option ℕ). function_address (number_found z) % 2 ^ 64) (sym m))), h.0 n m),
+      let key : names.slot_of own (word a) slot ≡ p.slot (word v) c d = same (word a) slot ∙ (ap₂ (λ (m n : ℕ). p.slot m n slot) at_address (eqb-true class c l.0) ∙ ap (λ z. p.slot (word v) c z) (eqb-true slot d l.1)) in (
+        λ n m. (
+          ap (λ z. if_some z (traps BadVirtual) (λ k. stands (i + 1) q (names.func_address k ∷ words ws))) (key ∙ m)
+              ∙ ap (λ z. stands (i + 1) q (z ∷ words ws)) (address n ∙ (sym (mod-eq_of_lt (small.slots (word v) c d n m)) ∙ ap (λ (z : Option ℕ). function_address (number_found z) % 2 ^ 64) (sym m))),
+          h.0 n m,
+        ),
         λ m. (ap (λ z. if_some z (traps BadVirtual) (λ k. stands (i + 1) q (names.func_address k ∷ words ws))) (key ∙ m), h.1 m),
       ))
   slot_follows names own i class slot q a ws o s same address h = tt
@@ -476,16 +478,20 @@ module _ (p : Program) (f : Func) (numbers : Typ → ℕ) (x : Values) (home : H
       → Foreseen o s → Is (spawning i q a v ws o) (spawn_step names i q (word a) (word v) (words ws)) s
   spawning_follows names i q a v ws (spawns b u temporaries m) s same h = test_follows (same_term a b && same_term v u) _ _ s (λ e.
       let g = and_parts (same_term a b) (same_term v u) e in
-      let key : names.spawned (word a) ≡ p.pointed (word b) thread_signature = same (word a) ∙ ap (λ z. p.pointed (word z) thread_signature) (term_same a b g.0) in
-      (
-        λ n l. (record {
-          on = λ r. Runs (code.on_with (frame i q) (word_of (code.answered r) ∷ words ws)) below_frames;
-          does = ap (λ z. if_some z (traps BadCall) (λ k. Does (SpawnOf k (value_of_word Long (word v))) (λ r. Runs (code.on_with (frame i q) (word_of (code.answered r) ∷ words ws)) below_frames))) (key ∙ l)
-              ∙ ap (λ z. Does (SpawnOf n (value_of_word Long (word z))) (λ r. Runs (code.on_with (frame i q) (word_of (code.answered r) ∷ words ws)) below_frames)) (term_same v u g.1);
-          then_at = λ reply fits. started_at i q ws n (value_of_word Long (word u)) reply fits;
-        }, h ∙ ap (λ z. source.spawn (here_of p f x temporaries) z (word u) (below p f x m rest)) l),
-        λ l. (ap (λ z. if_some z (traps BadCall) (λ k. Does (SpawnOf k (value_of_word Long (word v))) (λ r. Runs (code.on_with (frame i q) (word_of (code.answered r) ∷ words ws)) below_frames))) (key ∙ l),
-            record { here = here_of p f x temporaries; others = below p f x m rest; is = h ∙ ap (λ z. source.spawn (here_of p f x temporaries) z (word u) (below p f x m rest)) l }),
+      let key : names.spawned (word a) ≡ p.pointed (word b) thread_signature = same (word a) ∙ ap (λ z. p.pointed (word z) thread_signature) (term_same a b g.0) in (
+        λ n l. (
+          record {
+            on = λ r. Runs (code.on_with (frame i q) (word_of (code.answered r) ∷ words ws)) below_frames;
+            does = ap (λ z. if_some z (traps BadCall) (λ k. Does (SpawnOf k (value_of_word Long (word v))) (λ r. Runs (code.on_with (frame i q) (word_of (code.answered r) ∷ words ws)) below_frames))) (key ∙ l)
+                ∙ ap (λ z. Does (SpawnOf n (value_of_word Long (word z))) (λ r. Runs (code.on_with (frame i q) (word_of (code.answered r) ∷ words ws)) below_frames)) (term_same v u g.1);
+            then_at = λ reply fits. started_at i q ws n (value_of_word Long (word u)) reply fits;
+          },
+          h ∙ ap (λ z. source.spawn (here_of p f x temporaries) z (word u) (below p f x m rest)) l,
+        ),
+        λ l. (
+          ap (λ z. if_some z (traps BadCall) (λ k. Does (SpawnOf k (value_of_word Long (word v))) (λ r. Runs (code.on_with (frame i q) (word_of (code.answered r) ∷ words ws)) below_frames))) (key ∙ l),
+          record { here = here_of p f x temporaries; others = below p f x m rest; is = h ∙ ap (λ z. source.spawn (here_of p f x temporaries) z (word u) (below p f x m rest)) l },
+        ),
       ))
   spawning_follows names i q a v ws o s same h = tt
 

@@ -11,7 +11,7 @@ use Rattle.symbolic_source.specs.Terms.{Term, Exception, made, Values}
 use Rattle.symbolic_source.specs.Frames.{words_of}
 use Rattle.symbolic_source.specs.Replacing.{in_terms}
 use Rattle.symbolic_source.proofs.Replaced.{terms_replaced, exception_replaced}
-use Rattle.symbolic_code.specs.Places.{Place, Hold, nothing, making, flying, coded, all_coded, hold_of, nest_of, frame_at, replied, later, all_later, hold_later, place_later, opened_later}
+use Rattle.symbolic_code.specs.Places.{Place, Hold, nothing, making, flying, coded, all_coded, hold_of, frame_at, replied, later, all_later, hold_later}
 
 module _ (p : Program) (f : Func) (numbers : Typ → ℕ) (x : Values) (reply : Reply) where
   abbrev y : Values

@@ -1,5 +1,5 @@
 -- Terms that are found to be the same are.
-use Rattle.std.proofs.Common.{ℕ, ◌≡◌, ◌==◌, Bool, true, false, ◌&&◌, refl, ap, ap₂, sym, ◌∙◌, Option, Some, List}
+use Rattle.std.proofs.Common.{◌≡◌, ◌==◌, true, ◌&&◌, refl, ap, ap₂, sym, ◌∙◌, Option, Some}
 use Rattle.std.specs.Prelude.{slice_get}
 use Rattle.std.proofs.lemmas.Bool.{and_parts, eqb-true, true≢false}
 use Rattle.tx_ints.specs.declared.kinds.IntKind.{IntKind}
@@ -7,7 +7,7 @@ use Rattle.tx_ints.specs.declared.kinds.IntKind.TheVariants.{Bool as BoolKind, C
 use Rattle.tx_ints.specs.declared.kinds.BinOp.{BinOp}
 use Rattle.tx_ints.specs.declared.kinds.BinOp.TheVariants.{Add, Sub, Mul, Div, Rem, Shl, Shr, And, Xor, Or, Lt, Gt, Le, Ge, Eq, Ne}
 use Rattle.tx_code.specs.Meaning.{kinds, operators}
-use Rattle.symbolic_source.specs.Terms.{Term, number, variable, local, global, function, table, slot_function, sum, product, before, low_byte, converted_to, result, field, Exception, unknown, made}
+use Rattle.symbolic_source.specs.Terms.{Term, number, variable, local, global, function, table, slot_function, sum, product, before, low_byte, converted_to, result, field, Exception, unknown}
 use Rattle.symbolic_code.specs.Same.{kind_place, operator_place, same_number, same_operator, same_exception, same_term}
 
 pub kind_found : (k : IntKind) → slice_get kinds (kind_place k) ≡ Some k

@@ -1,5 +1,5 @@
 -- What is known of the words at an index.
-use Rattle.std.specs.Prelude.{ℕ, ◌≡◌, ◌⊎◌, Bool, true, false, ◌||◌, List, [], ◌∷◌, Option, Some}
+use Rattle.std.specs.Prelude.{ℕ, ◌≡◌, ◌⊎◌, Bool, false, ◌||◌, List, [], ◌∷◌, Some}
 use Rattle.src_mean.specs.Linked.{Func, Program}
 use Rattle.symbolic_source.specs.Terms.{Term, Values, eval}
 use Rattle.symbolic_source.specs.Replacing.{Replacing, in_term}

@@ -1,5 +1,5 @@
 -- What an instruction does, with terms as operands, where the source does this next.
-use Rattle.std.specs.Prelude.{ℕ, ◌+◌, ◌==◌, ◌^◌, ℤ, ◌≡◌, Bool, true, false, not, cond, nat_lt, nat_le, ◌&&◌, ◌||◌, List, [], ◌∷◌, Option, Some, None, Result, Ok, Err, slice_get}
+use Rattle.std.specs.Prelude.{ℕ, ◌+◌, ◌==◌, ◌^◌, ℤ, ◌≡◌, Bool, true, false, not, cond, nat_lt, nat_le, ◌&&◌, ◌||◌, List, [], ◌∷◌, Option, Some, None, Ok, Err, slice_get}
 use Rattle.tx_ints.specs.declared.kinds.IntKind.{IntKind}
 use Rattle.tx_ints.specs.declared.kinds.IntKind.TheVariants.{Bool as BoolKind, ULong}
 use Rattle.tx_ints.specs.declared.kinds.BinOp.{BinOp}
@@ -9,10 +9,9 @@ use Rattle.tx_events.specs.declared.BlockKind.{BlockKind}
 use Rattle.tx_events.specs.declared.End.{End as Ending}
 use Rattle.tx_events.specs.declared.End.TheVariants.{Abort as Aborts, Terminate, Trapped}
 use Rattle.tx_events.specs.declared.Trap.TheVariants.{BadCall, BadVirtual}
-use Rattle.tx_events.specs.declared.Event.{Event}
 use Rattle.tx_events.specs.declared.Event.TheVariants.{Stop}
 use Rattle.tx_events.specs.declared.Reply.{Reply}
-use Rattle.tx_events.specs.Thread.{Open, Atomic, Sync, Answers, same_kind, rest_of}
+use Rattle.tx_events.specs.Thread.{Atomic, Sync, Answers, same_kind, rest_of}
 use Rattle.tx_code.specs.declared.instr.Instr.{Instr}
 use Rattle.tx_code.specs.declared.instr.Instr.TheVariants.{Push, Dup, Pop, Swap, FrameAddr, GlobalAddr, FuncAddr, ClassAddr, Load, Store, TLoad, TStore, VLoad, VStore, Bin, Conv, Jump, JumpZero, Begin, End, BeginSync, EndSync, Out, Inp, Spawn, Join, Abort, Slot, NewException, PutException, Throw, Rethrow, GetException, EndHandler, Resume, Over}
 use Rattle.tx_code.specs.Meaning.{kinds, operators, block_kinds, size_of, Frame, Home, Runs, Unwinds, Act, Does, Ends, if_some, current, goes as acts, traps}
@@ -27,10 +26,10 @@ use Rattle.src_mean.specs.Source.{applied, trap_of, rethrow, thread_signature}
 use Rattle.symbolic_source.specs.Terms.{Term, number, variable, local, global, function, table, slot_function, sum, product, low_byte, converted_to, result, field, Exception, unknown, made, Puts, untouched, put, Values, eval, exception_of, plus_number, one_less}
 use Rattle.symbolic_source.specs.Frames.{Waiting, Exit, throws, returns, breaks, continues, Replied, below, here_of}
 use Rattle.symbolic_source.specs.Frames as symbolic
-use Rattle.symbolic_source.specs.Outcomes.{Doing, silent, reads, writes, puts_out, takes_in, joins, spawns_thread, begins_atomic, begins_sync, ends_block, leaves_block, Outcome, stuck, goes, chooses, results, finds, spawns, rethrows, halts, Shows, Stops, event_of}
+use Rattle.symbolic_source.specs.Outcomes.{Doing, reads, writes, puts_out, takes_in, joins, spawns_thread, begins_atomic, begins_sync, ends_block, leaves_block, Outcome, goes, chooses, results, finds, spawns, rethrows, halts, Shows, Stops, event_of}
 use Rattle.symbolic_source.specs.Replacing.{in_terms}
 use Rattle.symbolic_code.specs.Same.{kind_place, same_term, same_number, same_operator}
-use Rattle.symbolic_code.specs.Facts.{Fact, AllHold, is_not_zero}
+use Rattle.symbolic_code.specs.Facts.{Fact, is_not_zero}
 use Rattle.symbolic_code.specs.Places.{Place, Hold, nothing, making, flying, coded, frame_at, replied, later, with_operands, holding, place_later, opened_later}
 
 -- what names stand for in a function of the source: globals, functions and classes by their places; and types
@@ -285,7 +284,7 @@ module _ (p : Program) (f : Func) (numbers : Typ → ℕ) (x : Values) (home : H
   Follows (finding class slot w next) act s = ((n : ℕ) → p.slot (eval p f x w) class slot ≡ Some n → Follows next act s)
       × (p.slot (eval p f x w) class slot ≡ None → (act ≡ Ends (Stop (Trapped BadVirtual))) × Stops (Trapped BadVirtual) s)
   Follows (starting address argument ws k index q) act s = ((n : ℕ) → p.pointed (eval p f x address) thread_signature ≡ Some n
-          → Loud (spawns_thread n argument) index q act × (s ≡ frames.at (event_of p f x (spawns_thread n argument)) (here_of p f x ws) (below p f x (Replied ∷ k) rest)))
+      → Loud (spawns_thread n argument) index q act × (s ≡ frames.at (event_of p f x (spawns_thread n argument)) (here_of p f x ws) (below p f x (Replied ∷ k) rest)))
       × (p.pointed (eval p f x address) thread_signature ≡ None → (act ≡ Ends (Stop (Trapped BadCall))) × Stops (Trapped BadCall) s)
   Follows (rethrowing ws k index q) act s = (act ≡ if_some (current below_frames) (Ends (Stop Terminate)) (λ e. acts (Unwinds e (frame_at p f numbers x home index q) below_frames)))
       × (s ≡ rethrow (here_of p f x ws) (frames.handled rest) (below p f x k rest))

@@ -1,5 +1,5 @@
 -- A frame of code with terms as operands.
-use Rattle.std.specs.Prelude.{ℕ, zero, suc, List, [], ◌∷◌, Option}
+use Rattle.std.specs.Prelude.{ℕ, zero, suc, List, [], ◌∷◌}
 use Rattle.tx_events.specs.declared.Reply.{Reply}
 use Rattle.tx_events.specs.Thread.{Open}
 use Rattle.tx_code.specs.Meaning.{Frame, Home, Free, Building, Flying}

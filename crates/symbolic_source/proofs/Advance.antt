@@ -1,17 +1,17 @@
 -- So many silent steps are a path of the thread, and a reply is a value that is given.
-use Rattle.std.proofs.Common.{ℕ, zero, suc, ◌≡◌, ◌+◌, Bool, true, false, refl, ap, sym, ◌∙◌, subst, List, arith}
+use Rattle.std.proofs.Common.{ℕ, zero, suc, ◌≡◌, ◌+◌, true, false, refl, sym, ◌∙◌, subst, List, arith}
 use Rattle.std.proofs.lemmas.Bool.{true≢false}
 use Rattle.cpp_tree.specs.tx_events.declared.Event.TheVariants.{Silent}
 use Rattle.cpp_tree.specs.tx_events.declared.Reply.{Reply}
-use Rattle.cpp_tree.specs.tx_events.Simulation.{Path, here, step}
+use Rattle.cpp_tree.specs.tx_events.Simulation.{here, step}
 use Rattle.src_mean.specs.Linked.{Func, Program}
 use Rattle.src_mean.specs.Frames.{State}
 use Rattle.src_mean.specs.Frames as frames
 use Rattle.src_mean.specs.Source.{source, give, reply_word}
 use Rattle.symbolic_source.specs.Terms.{Term, number, Values, eval}
 use Rattle.symbolic_source.specs.Frames.{Waiting, Frame, below, here_of}
-use Rattle.symbolic_source.specs.Outcomes.{Doing, silent, Outcome, stuck, goes, Shows, event_of}
-use Rattle.symbolic_source.specs.Steps.{Answers, given, step_of, advanced}
+use Rattle.symbolic_source.specs.Outcomes.{Doing, silent, Outcome, stuck, goes, Shows}
+use Rattle.symbolic_source.specs.Steps.{Answers, given, advanced}
 use Rattle.symbolic_source.specs.Small.{IsSmall, AreWords, AreRight, is_stuck, Advanced}
 use Rattle.symbolic_source.proofs.Given.{given_shown}
 

@@ -1,5 +1,5 @@
 -- What the frames of a function and of its callers have in sight: open blocks and handlers.
-use Rattle.std.proofs.Common.{ℕ, ◌≡◌, ◌++◌, refl, ap, sym, ◌∙◌, List, [], ◌∷◌, Option, Some, None}
+use Rattle.std.proofs.Common.{◌≡◌, ◌++◌, refl, ap, List, [], ◌∷◌, Option, Some, None}
 use Rattle.cpp_tree.specs.tx_events.Thread.{Open}
 use Rattle.src_mean.specs.Linked.{Func, Program}
 use Rattle.src_mean.specs.Exceptions as exceptions

@@ -1,18 +1,14 @@
 -- A value that is given to symbolic frames, as it is given to those of the thread.
-use Rattle.std.proofs.Common.{ℕ, zero, suc, ℤ, ◌≡◌, ◌+◌, ◌-◌, ◌*◌, ◌%◌, ◌^◌, ◌==◌, ◌<◌, ◌++◌, nat_lt, Bool, true, false, cond, refl, ap, ap₂, sym, ◌∙◌, subst, List, [], ◌∷◌, Option, Some, None, Result, Ok, Err, arith}
+use Rattle.std.proofs.Common.{ℕ, zero, suc, ℤ, ◌≡◌, ◌-◌, ◌==◌, ◌++◌, Bool, true, false, cond, refl, ap, ap₂, sym, ◌∙◌, subst, List, [], ◌∷◌, Option, Some, None, Ok, arith}
 use Rattle.std.proofs.Math.Nat.{mod-eq_of_lt}
-use Rattle.std.proofs.lemmas.Bool.{true≢false, eqb-true}
 use Rattle.cpp_tree.specs.tx_ints.declared.kinds.IntKind.{IntKind}
-use Rattle.cpp_tree.specs.tx_ints.declared.kinds.IntKind.TheVariants.{ULong}
 use Rattle.cpp_tree.specs.tx_ints.declared.kinds.BinOp.{BinOp}
-use Rattle.cpp_tree.specs.tx_ints.declared.kinds.BinOp.TheVariants.{Eq}
-use Rattle.cpp_tree.specs.tx_ints.declared.kinds.ArithTrap.{ArithTrap}
 use Rattle.cpp_tree.specs.tx_ints.Words.{word_of}
 use Rattle.cpp_tree.specs.tx_events.declared.End.TheVariants.{Trapped}
 use Rattle.cpp_tree.specs.tx_events.declared.Event.TheVariants.{Silent, Load as Reads, Store as Writes}
 use Rattle.cpp_tree.specs.tx_events.declared.Trap.TheVariants.{BadVirtual}
 use Rattle.cpp_tree.specs.cpp_types.Typ.{Typ}
-use Rattle.cpp_tree.specs.cpp_layout.Layout.{kind_size, function_address}
+use Rattle.cpp_tree.specs.cpp_layout.Layout.{kind_size}
 use Rattle.cpp_tree.specs.declared.kinds.TKind.{TKind}
 use Rattle.cpp_tree.specs.declared.kinds.TKind.TheVariants.{Literal, Local, Global, Function, ClassTable, Load, Convert, Retype, Binary, Conditional, Comma, Assign, Update, CopyAssign, Materialize, FullExpression, Call, VirtualCall, PointerCall, Builtin as CallBuiltin, Throw, Rethrow, Store, CopyScalar, Construct, CopyConstruct, CopyFrom, Pieces, Piece, Elements, Block, Init, Defer, Loop, Switch, Case, Default, Break, Continue, Return, Try, Handler, Atomic, Synchronized, Destroy, Field}
 use Rattle.cpp_tree.specs.Trees.{Tree, node, Trees, none, more, literal, kind_of, typ_in, first, rest as others_of}
@@ -22,10 +18,10 @@ use Rattle.src_mean.specs.Frames.{Owner, State, Change}
 use Rattle.src_mean.specs.Frames as frames
 use Rattle.src_mean.specs.Source.{plus, applied, case_word, from_label, is_case, is_default}
 use Rattle.src_mean.specs.Source as source
-use Rattle.symbolic_source.specs.Terms.{Term, Exception, unknown, made, Puts, put, exception_of, bytes_put, number, global, function, table, result, field, converted_to, Values, word_or_zero, number_found, eval, plus_number, one_less}
-use Rattle.symbolic_source.specs.Frames.{Spot, at_word, at_tree, Waiting, Way, value, into, Exit, throws, returns, breaks, continues, Callee, known, virtual, pointer, builtin, Frame, Run, Address, Then, Gives, Leaves, Loads, Loaded, Replied, StoreTo, Converts, Right, Apply, Choose, AssignTo, UpdateAt, UpdateOld, UpdateBy, CopyTo, CopyBy, From, Words, Object, Slot, Pointer, Passes, Full, Keeps, Scope, Waits, InitAt, Cleans, Due, Destroys, Parts, Each, Items, Test, Body, Step, Picks, Compares, Switches, Returning, Opens, Within, Closes, Throws, Fills, Filled, Tries, Trying, Takes, Taking, Handling, waitings_of, words_of, way_of, exit_of, callee_of, frame_of, below, here_of, spot_of, spot_frame, puts_some, handled}
-use Rattle.symbolic_source.specs.Outcomes.{Outcome, stuck, goes, silent, writes, either, Shows, Stops}
-use Rattle.symbolic_source.specs.Steps.{Answers, if_word, left, result_words, target_of, source_of, called, element_at, destroys_next, each_next, same_word, run_items, compared, caught, taken, handling, tried, take_field, take_bytes, fill_field, rethrown, destroyed, return_value, first_part, ran, updated, given}
+use Rattle.symbolic_source.specs.Terms.{Term, Exception, unknown, made, Puts, exception_of, bytes_put, number, global, function, table, result, converted_to, Values, word_or_zero, number_found, eval, one_less}
+use Rattle.symbolic_source.specs.Frames.{Spot, at_word, at_tree, Waiting, Way, value, into, throws, returns, breaks, continues, known, virtual, pointer, builtin, Frame, Run, Address, Then, Gives, Leaves, Loads, Loaded, Replied, StoreTo, Converts, Right, Apply, Choose, AssignTo, UpdateAt, UpdateOld, UpdateBy, CopyTo, CopyBy, From, Words, Object, Slot, Pointer, Passes, Full, Keeps, Scope, Waits, InitAt, Cleans, Due, Destroys, Parts, Each, Items, Test, Body, Step, Picks, Compares, Switches, Returning, Opens, Within, Closes, Throws, Fills, Filled, Tries, Trying, Takes, Taking, Handling, waitings_of, words_of, way_of, callee_of, frame_of, spot_of, spot_frame, puts_some, handled}
+use Rattle.symbolic_source.specs.Outcomes.{Outcome, goes, writes, either, Stops}
+use Rattle.symbolic_source.specs.Steps.{Answers, left, result_words, target_of, source_of, called, destroys_next, each_next, same_word, run_items, compared, caught, taken, handling, tried, take_field, take_bytes, fill_field, rethrown, destroyed, return_value, first_part, ran, updated, given}
 use Rattle.symbolic_source.specs.Small.{IsSmall, AreWords, AreRight}
 use Rattle.symbolic_source.proofs.TermLemmas.{term_below, plus_number_is, one_less_is, element_is, word_kept, stored_kept}
 use Rattle.symbolic_source.proofs.Equals.{same_zero, same_not_zero}

@@ -1,9 +1,7 @@
 -- What stands for a form with terms in the place of its variables.
-use Rattle.std.proofs.Common.{ℕ, ℤ, ◌≡◌, ◌+◌, ◌%◌, ◌*◌, ◌-◌, ◌^◌, Bool, refl, ap, ap₂, sym, ◌∙◌, subst, List, [], ◌∷◌, Option, Some, None, Ok, Err}
-use Rattle.cpp_tree.specs.tx_ints.declared.kinds.ArithTrap.{ArithTrap}
+use Rattle.std.proofs.Common.{ℕ, ◌≡◌, ◌+◌, ◌%◌, ◌*◌, ◌-◌, ◌^◌, refl, ap, ap₂, sym, ◌∙◌, List, [], ◌∷◌}
 use Rattle.cpp_tree.specs.tx_ints.declared.kinds.IntKind.TheVariants.{Int, Long}
 use Rattle.cpp_tree.specs.tx_ints.Words.{value_of_word}
-use Rattle.cpp_tree.specs.tx_events.declared.End.TheVariants.{Trapped}
 use Rattle.cpp_tree.specs.tx_events.declared.Event.TheVariants.{Load as Reads, Store as Writes, Out, Spawn as Spawns, Join as Joins}
 use Rattle.cpp_tree.specs.cpp_layout.Layout.{kind_size, function_address}
 use Rattle.cpp_tree.specs.Trees.{literal}
@@ -12,11 +10,11 @@ use Rattle.src_mean.specs.Exceptions.{read_bytes, bytes_of, with_bytes}
 use Rattle.src_mean.specs.Exceptions as exceptions
 use Rattle.src_mean.specs.Frames.{State}
 use Rattle.src_mean.specs.Frames as frames
-use Rattle.src_mean.specs.Source.{plus, converted, applied, stored_bytes, trap_of, closing, give, leave, invoke, spawn, rethrow, thread_signature}
+use Rattle.src_mean.specs.Source.{plus, converted, applied, stored_bytes, closing, give, leave, invoke, spawn, rethrow, thread_signature}
 use Rattle.symbolic_source.specs.Terms.{Term, number, variable, local, global, function, table, slot_function, sum, product, before, low_byte, converted_to, result, field, Exception, unknown, made, Puts, untouched, put, Values, word_or_zero, number_found, eval, exception_of, bytes_put}
-use Rattle.symbolic_source.specs.Frames.{Spot, at_word, at_tree, Waiting, Way, value, into, Exit, throws, returns, breaks, continues, Callee, known, virtual, pointer, builtin, Frame, Run, Address, Then, Gives, Leaves, StoreTo, Apply, Choose, UpdateOld, UpdateBy, CopyBy, From, Words, Object, Slot, Pointer, Passes, Full, Keeps, Scope, Waits, Cleans, Destroys, Parts, Each, Compares, Fills, Filled, Trying, Takes, Taking, Handling, spot_of, waiting_of, waitings_of, words_of, way_of, exit_of, callee_of, frame_of, below, here_of}
-use Rattle.symbolic_source.specs.Outcomes.{Doing, silent, reads, writes, puts_out, takes_in, joins, spawns_thread, begins_atomic, begins_sync, ends_block, leaves_block, Outcome, stuck, goes, hands, goes_out, chooses, results, finds, calls, spawns, rethrows, halts, Shows, Stops, event_of}
-use Rattle.symbolic_source.specs.Replacing.{Replacing, seen_by, in_term, in_exception, in_puts, in_terms, in_spot, in_waiting, in_waitings, in_way, in_exit, in_callee, in_frame, in_frames, in_doing, in_outcome}
+use Rattle.symbolic_source.specs.Frames.{Spot, at_word, at_tree, Waiting, Way, value, into, Exit, throws, returns, breaks, continues, Callee, known, virtual, pointer, builtin, Frame, Run, Address, Then, Gives, Leaves, StoreTo, Apply, Choose, UpdateOld, UpdateBy, CopyBy, From, Words, Object, Slot, Pointer, Passes, Full, Keeps, Scope, Waits, Cleans, Destroys, Parts, Each, Compares, Fills, Filled, Trying, Takes, Taking, Handling, spot_of, waitings_of, words_of, way_of, exit_of, callee_of, frame_of, below, here_of}
+use Rattle.symbolic_source.specs.Outcomes.{Doing, reads, writes, puts_out, joins, spawns_thread, leaves_block, Outcome, stuck, goes, hands, goes_out, chooses, results, finds, calls, spawns, rethrows, halts, Shows, event_of}
+use Rattle.symbolic_source.specs.Replacing.{Replacing, seen_by, in_term, in_exception, in_puts, in_terms, in_spot, in_waitings, in_way, in_exit, in_callee, in_frame, in_frames, in_doing, in_outcome}
 
 module _ (p : Program) (f : Func) (r : Replacing) (x : Values) where
   abbrev y : Values

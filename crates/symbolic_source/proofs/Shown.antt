@@ -1,24 +1,22 @@
 -- Symbolic decisions, waiting objects, ways out and calls, as those of the thread.
-use Rattle.std.proofs.Common.{ℕ, zero, suc, ℤ, ◌≡◌, ◌+◌, ◌-◌, ◌*◌, ◌%◌, ◌^◌, ◌==◌, ◌||◌, ◌++◌, nat_lt, Bool, true, false, cond, refl, ap, ap₂, sym, ◌∙◌, subst, List, [], ◌∷◌, Option, Some, None, Result, Ok, Err, arith}
+use Rattle.std.proofs.Common.{ℕ, ℤ, ◌≡◌, ◌%◌, ◌^◌, ◌==◌, ◌||◌, ◌++◌, nat_lt, Bool, true, false, cond, refl, ap, ap₂, sym, ◌∙◌, List, [], ◌∷◌, Option, Some, None, Result, Ok, Err}
 use Rattle.std.proofs.lemmas.Bool.{true≢false, eqb-true}
 use Rattle.cpp_tree.specs.tx_ints.declared.kinds.ArithTrap.{ArithTrap}
 use Rattle.cpp_tree.specs.tx_ints.declared.kinds.IntKind.TheVariants.{Int}
 use Rattle.cpp_tree.specs.tx_ints.Words.{value_of_word}
-use Rattle.cpp_tree.specs.tx_events.declared.End.{End}
 use Rattle.cpp_tree.specs.tx_events.declared.End.TheVariants.{Trapped}
 use Rattle.cpp_tree.specs.tx_events.declared.Event.TheVariants.{Silent, Out, Join as Joins}
-use Rattle.cpp_tree.specs.tx_events.declared.Trap.TheVariants.{BadVirtual}
 use Rattle.cpp_tree.specs.declared.kinds.Builtin.{Builtin}
 use Rattle.cpp_tree.specs.declared.kinds.Builtin.TheVariants.{PutChar, GetChar, Spawn as SpawnThread, Join as JoinThread, Abort as AbortProgram}
-use Rattle.cpp_tree.specs.Trees.{Tree, Trees, none, more}
+use Rattle.cpp_tree.specs.Trees.{Trees, none, more}
 use Rattle.src_mean.specs.Linked.{Func, Program}
 use Rattle.src_mean.specs.Frames.{Owner, same_owner, State}
 use Rattle.src_mean.specs.Frames as frames
 use Rattle.src_mean.specs.Source as source
 use Rattle.symbolic_source.specs.Terms.{Term, number, Exception, Values, eval, exception_of}
-use Rattle.symbolic_source.specs.Frames.{Spot, Waiting, Way, value, into, Exit, throws, returns, breaks, continues, Callee, known, virtual, pointer, builtin, Frame, Scope, Full, Within, Tries, Body, Switches, Gives, spot_of, waiting_of, waitings_of, words_of, way_of, exit_of, callee_of, frame_of, below, here_of, put_into, behind, puts, puts_some, waiting}
-use Rattle.symbolic_source.specs.Outcomes.{Outcome, stuck, goes, silent, either, Shows, Stops}
-use Rattle.symbolic_source.specs.Steps.{if_word, goes_if, is_throw, try_first, left, result_words, first_word, second_word, target_of, source_of, built_in, invoked, next_word, called}
+use Rattle.symbolic_source.specs.Frames.{Spot, Waiting, Way, value, into, Exit, throws, returns, breaks, continues, Callee, known, virtual, pointer, builtin, Frame, Scope, Full, Within, Tries, Body, Switches, spot_of, waiting_of, waitings_of, words_of, way_of, exit_of, callee_of, frame_of, below, here_of, put_into, behind, puts, puts_some, waiting}
+use Rattle.symbolic_source.specs.Outcomes.{Outcome, stuck, either, Shows, Stops}
+use Rattle.symbolic_source.specs.Steps.{if_word, goes_if, try_first, left, result_words, first_word, second_word, target_of, source_of, built_in, invoked, next_word, called}
 
 module _ (p : Program) (f : Func) (x : Values) (rest : List frames.Frame) where
   abbrev pub Shown : Outcome → State → Type 0

@@ -1,5 +1,5 @@
 -- Terms: each stands for a word, and sums with numbers.
-use Rattle.std.proofs.Common.{ℕ, zero, suc, ℤ, ◌≡◌, ◌+◌, ◌-◌, ◌*◌, ◌%◌, ◌^◌, ◌<◌, ◌≤◌, nat_lt, Bool, true, false, cond, refl, ap, sym, ◌∙◌, subst, Result, Ok, Err, arith}
+use Rattle.std.proofs.Common.{ℕ, zero, ℤ, ◌≡◌, ◌+◌, ◌-◌, ◌*◌, ◌%◌, ◌^◌, ◌<◌, nat_lt, Bool, true, false, cond, refl, ap, sym, ◌∙◌, Result, Ok, Err, arith}
 use Rattle.std.proofs.Math.Nat.{mod-lt, add-mod-mod, mod-add-mod, mod-eq_of_lt}
 use Rattle.std.proofs.Math.Pow.{mod-mod-pow}
 use Rattle.std.proofs.lemmas.Nat.{pow_pos, mul-mod_second}

@@ -1,5 +1,5 @@
 -- What can come of a step: a state, or what it depends on.
-use Rattle.std.specs.Prelude.{ℕ, ℤ, ◌≡◌, ◌%◌, ◌^◌, ◌==◌, Bool, true, false, cond, List, [], ◌∷◌, Option, Some, None, Result, Ok, Err}
+use Rattle.std.specs.Prelude.{ℕ, ℤ, ◌≡◌, ◌%◌, ◌^◌, ◌==◌, Bool, cond, List, ◌∷◌, Some, None, Ok, Err}
 use Rattle.cpp_tree.specs.tx_ints.declared.kinds.IntKind.{IntKind}
 use Rattle.cpp_tree.specs.tx_ints.declared.kinds.IntKind.TheVariants.{Int, Long}
 use Rattle.cpp_tree.specs.tx_ints.declared.kinds.BinOp.{BinOp}
@@ -10,7 +10,7 @@ use Rattle.cpp_tree.specs.tx_events.declared.Trap.TheVariants.{BadVirtual}
 use Rattle.cpp_tree.specs.tx_events.declared.End.{End}
 use Rattle.cpp_tree.specs.tx_events.declared.End.TheVariants.{Trapped}
 use Rattle.cpp_tree.specs.tx_events.declared.Event.{Event}
-use Rattle.cpp_tree.specs.tx_events.declared.Event.TheVariants.{Silent, Load as Reads, Store as Writes, Out, Inp, Spawn as Spawns, Join as Joins, BeginAtomic, EndAtomic, BeginSync, EndSync, Stop}
+use Rattle.cpp_tree.specs.tx_events.declared.Event.TheVariants.{Silent, Load as Reads, Store as Writes, Out, Inp, Spawn as Spawns, Join as Joins, BeginAtomic, BeginSync, Stop}
 use Rattle.cpp_tree.specs.tx_events.Thread.{Open}
 use Rattle.cpp_tree.specs.cpp_layout.Layout.{kind_size}
 use Rattle.src_mean.specs.Linked.{Func, Program}

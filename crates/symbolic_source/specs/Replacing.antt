@@ -1,9 +1,9 @@
 -- Terms in the place of variables.
 use Rattle.std.specs.Prelude.{ℕ, List, [], ◌∷◌}
 use Rattle.src_mean.specs.Linked.{Func, Program}
-use Rattle.symbolic_source.specs.Terms.{Term, number, variable, local, global, function, table, slot_function, sum, product, before, low_byte, converted_to, result, field, Exception, unknown, made, Puts, untouched, put, Values, eval, exception_of}
-use Rattle.symbolic_source.specs.Frames.{Spot, at_word, at_tree, Waiting, Way, value, into, Exit, throws, returns, breaks, continues, Callee, known, virtual, pointer, builtin, Frame, Run, Address, Then, Gives, Leaves, Loads, Loaded, Replied, StoreTo, Converts, Right, Apply, Choose, AssignTo, UpdateAt, UpdateOld, UpdateBy, CopyTo, CopyBy, From, Words, Object, Slot, Pointer, Passes, Full, Keeps, Scope, Waits, InitAt, Cleans, Due, Destroys, Parts, Each, Items, Test, Body, Step, Picks, Compares, Switches, Returning, Opens, Within, Closes, Throws, Fills, Filled, Tries, Trying, Takes, Taking, Handling}
-use Rattle.symbolic_source.specs.Outcomes.{Doing, silent, reads, writes, puts_out, takes_in, joins, spawns_thread, begins_atomic, begins_sync, ends_block, leaves_block, Outcome, stuck, goes, hands, goes_out, chooses, results, finds, calls, spawns, rethrows, halts}
+use Rattle.symbolic_source.specs.Terms.{Term, variable, slot_function, sum, product, before, low_byte, converted_to, result, field, Exception, unknown, made, Puts, untouched, put, Values, eval, exception_of}
+use Rattle.symbolic_source.specs.Frames.{Spot, at_word, at_tree, Waiting, Way, value, into, Exit, throws, returns, breaks, continues, Callee, known, virtual, pointer, builtin, Frame, Run, Address, Then, Gives, Leaves, StoreTo, Apply, Choose, UpdateOld, UpdateBy, CopyBy, From, Words, Object, Slot, Pointer, Passes, Full, Keeps, Scope, Waits, Cleans, Destroys, Parts, Each, Compares, Fills, Filled, Trying, Takes, Taking, Handling}
+use Rattle.symbolic_source.specs.Outcomes.{Doing, reads, writes, puts_out, joins, spawns_thread, leaves_block, Outcome, stuck, goes, hands, goes_out, chooses, results, finds, calls, spawns, rethrows, halts}
 
 -- what comes in the place of each variable
 pub record Replacing : Type 0 where

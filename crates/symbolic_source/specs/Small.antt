@@ -1,10 +1,10 @@
 -- What symbolic steps rest on.
-use Rattle.std.specs.Prelude.{◌≡◌, ◌<◌, ℕ, ◌^◌, Bool, true, false, List, Option, Some}
+use Rattle.std.specs.Prelude.{◌≡◌, ◌<◌, ℕ, ◌^◌, Bool, true, false, List, Some}
 use Rattle.cpp_tree.specs.cpp_layout.Layout.{function_address}
 use Rattle.cpp_tree.specs.Trees.{Tree, typ_in}
 use Rattle.cpp_tree.specs.tx_events.Simulation.{Path}
 use Rattle.src_mean.specs.Linked.{Func, Program}
-use Rattle.src_mean.specs.Exceptions.{Exception, catches}
+use Rattle.src_mean.specs.Exceptions.{catches}
 use Rattle.src_mean.specs.Frames.{State}
 use Rattle.src_mean.specs.Frames as frames
 use Rattle.src_mean.specs.Source.{source}

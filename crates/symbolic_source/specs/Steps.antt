@@ -1,25 +1,24 @@
 -- What a function does next, as the source thread does it, with terms in the place of numbers.
-use Rattle.std.specs.Prelude.{ℕ, zero, suc, ◌+◌, ◌^◌, ◌%◌, ◌==◌, Bool, true, false, not, cond, nat_lt, ◌||◌, List, [], ◌∷◌, ◌++◌, Option, Some, None, slice_get, unwrap_or}
+use Rattle.std.specs.Prelude.{ℕ, zero, suc, ◌^◌, Bool, true, false, not, cond, nat_lt, ◌||◌, List, [], ◌∷◌, ◌++◌, Option, Some, None, slice_get, unwrap_or}
 use Rattle.cpp_tree.specs.tx_ints.declared.kinds.IntKind.{IntKind}
 use Rattle.cpp_tree.specs.tx_ints.declared.kinds.IntKind.TheVariants.{ULong}
-use Rattle.cpp_tree.specs.tx_ints.declared.kinds.BinOp.{BinOp}
 use Rattle.cpp_tree.specs.tx_ints.declared.kinds.BinOp.TheVariants.{Eq}
 use Rattle.cpp_tree.specs.tx_events.declared.End.TheVariants.{Abort as Aborts}
-use Rattle.cpp_tree.specs.tx_events.Thread.{Open, Atomic as AtomicBlock, Sync}
-use Rattle.cpp_tree.specs.cpp_types.Typ.{Typ, Signature}
+use Rattle.cpp_tree.specs.tx_events.Thread.{Atomic as AtomicBlock, Sync}
+use Rattle.cpp_tree.specs.cpp_types.Typ.{Typ}
 use Rattle.cpp_tree.specs.cpp_layout.Layout.{kind_size}
 use Rattle.cpp_tree.specs.declared.kinds.Builtin.{Builtin}
 use Rattle.cpp_tree.specs.declared.kinds.Builtin.TheVariants.{PutChar, GetChar, Spawn as SpawnThread, Join as JoinThread, Abort as AbortProgram}
 use Rattle.cpp_tree.specs.declared.kinds.TKind.{TKind}
 use Rattle.cpp_tree.specs.declared.kinds.TKind.TheVariants.{Literal, Local, Global, Function, ClassTable, Load, Convert, Retype, Binary, Conditional, Comma, Assign, Update, CopyAssign, Materialize, FullExpression, Call, VirtualCall, PointerCall, Builtin as CallBuiltin, Throw, Rethrow, Store, CopyScalar, Construct, CopyConstruct, CopyFrom, Pieces, Piece, Elements, Block, Init, Defer, Loop, Switch, Case, Default, Break, Continue, Return, Try, Handler, Atomic, Synchronized, Destroy, Field}
 use Rattle.cpp_tree.specs.Trees.{Tree, node, Trees, none, more, kind_of, typ_in, first, rest, second, third}
-use Rattle.src_mean.specs.Linked.{Func, Program, WordPlace}
+use Rattle.src_mean.specs.Linked.{Func, Program}
 use Rattle.src_mean.specs.Exceptions.{is_object_typ, catches, thrown_typ}
-use Rattle.src_mean.specs.Frames.{Owner, of_block, of_call, of_pieces, Change}
+use Rattle.src_mean.specs.Frames.{of_block, of_call, of_pieces, Change}
 use Rattle.src_mean.specs.Source.{called_signature, from_label, is_case, is_default, case_word}
 use Rattle.symbolic_source.specs.Terms.{Term, Exception, unknown, made, Puts, untouched, put, number, local, global, function, table, sum, product, low_byte, converted_to, result, field, plus_number, one_less}
-use Rattle.symbolic_source.specs.Frames.{Spot, at_word, at_tree, Waiting, Way, value, into, Exit, throws, returns, breaks, continues, Callee, known, virtual, pointer, builtin, Frame, Run, Address, Then, Gives, Leaves, Loads, Loaded, Replied, StoreTo, Converts, Right, Apply, Choose, AssignTo, UpdateAt, UpdateOld, UpdateBy, CopyTo, CopyBy, From, Words, Object, Slot, Pointer, Passes, Full, Keeps, Scope, Waits, InitAt, Cleans, Due, Destroys, Parts, Each, Items, Test, Body, Step, Picks, Compares, Switches, Returning, Opens, Within, Closes, Throws, Fills, Filled, Tries, Trying, Takes, Taking, Handling, spot_frame, puts_some, waiting, behind, handled}
-use Rattle.symbolic_source.specs.Outcomes.{Doing, silent, reads, writes, puts_out, takes_in, joins, begins_atomic, begins_sync, ends_block, leaves_block, Outcome, stuck, goes, hands, goes_out, chooses, results, finds, calls, spawns, rethrows, halts, either}
+use Rattle.symbolic_source.specs.Frames.{at_word, at_tree, Waiting, Way, value, into, Exit, throws, returns, breaks, continues, Callee, known, virtual, pointer, builtin, Frame, Run, Address, Then, Gives, Leaves, Loads, Loaded, Replied, StoreTo, Converts, Right, Apply, Choose, AssignTo, UpdateAt, UpdateOld, UpdateBy, CopyTo, CopyBy, From, Words, Object, Slot, Pointer, Passes, Full, Keeps, Scope, Waits, InitAt, Cleans, Due, Destroys, Parts, Each, Items, Test, Body, Step, Picks, Compares, Switches, Returning, Opens, Within, Closes, Throws, Fills, Filled, Tries, Trying, Takes, Taking, Handling, spot_frame, puts_some, waiting, behind, handled}
+use Rattle.symbolic_source.specs.Outcomes.{silent, reads, writes, puts_out, takes_in, joins, begins_atomic, begins_sync, ends_block, leaves_block, Outcome, stuck, goes, hands, goes_out, results, finds, calls, spawns, rethrows, halts, either}
 
 -- whether a handler catches an unknown exception, where that is known
 abbrev pub Answers : Type 0
