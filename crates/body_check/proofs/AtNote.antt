@@ -41,16 +41,16 @@ module _ (p : Program) (names : Names) (numbers : Typ → ℕ) (h : Held) (b : B
       → step_act names (Runs (frame_at p h.func numbers x home i q) below_frames) ≡ act names (renamed (names.numbering home.func) a) (frame_at p h.func numbers x home i q) below_frames
   step_is x i q a e = ap (λ z. if_some z Lost (λ j. act names j (frame_at p h.func numbers x home i q) below_frames)) (fetched i a e)
 
-  pub note_move : (rank : ℕ) (s : State) (top : Frame) (t : Stands p numbers h home limit rest rank s top) (a : Instr) → slice_get h.body.code t.index ≡ Some a
+  pub note_move : (rank : ℕ) (s : State) (top : Frame) (t : Stands p numbers h home limit rest rank s top) (a : Instr) → slice_get h.body.code t.note.index ≡ Some a
       → is_stuck (advanced p h.func no_answers t.note.lead t.note.outcome) ≡ false → t.note.lead ≤ b.longest
-      → Fits p h.func b h.notes numbers h.rows t.note.facts t.note.lead rank (followed h.table t.note.facts t.index a t.note.place (advanced p h.func no_answers t.note.lead t.note.outcome))
+      → Fits p h.func b h.notes numbers h.rows t.note.facts t.note.lead rank (followed h.table t.note.facts t.note.index a t.note.place (advanced p h.func no_answers t.note.lead t.note.outcome))
       → Move (source p) (thread names) b.most b.longest Related rank s (Runs top below_frames)
   note_move rank s top t a is foreseen short fits =
       let v = advance p h.func t.values no_answers rest small t.are_words (none_right p t.values) t.note.lead t.note.outcome s t.shows foreseen in
-      let follows = followed_follows p h.func numbers t.values home rest below_frames small t.are_words t.based.0 names (names.numbering home.func) h.table right t.note.facts t.index a t.note.place (advanced p h.func no_answers t.note.lead t.note.outcome) v.to t.holds v.shows in
-      let stepped = ap (λ z. if_some z Lost (λ i. act names i (frame_at p h.func numbers t.values home t.index t.note.place) below_frames)) (fetched t.index a is) in
+      let follows = followed_follows p h.func numbers t.values home rest below_frames small t.are_words t.based.0 names (names.numbering home.func) h.table right t.note.facts t.note.index a t.note.place (advanced p h.func no_answers t.note.lead t.note.outcome) v.to t.holds v.shows in
+      let stepped = ap (λ z. if_some z Lost (λ i. act names i (frame_at p h.func numbers t.values home t.note.index t.note.place) below_frames)) (fetched t.note.index a is) in
       subst (λ z. Move (source p) (thread names) b.most b.longest Related rank s (Runs z below_frames)) (sym t.frame)
-      (follow_move p names numbers h b home limit rest below_frames small Related stands stops flies current t.note.lead rank t.values t.are_words t.based t.note.facts t.holds s v.to (Runs (frame_at p h.func numbers t.values home t.index t.note.place) below_frames)
+      (follow_move p names numbers h b home limit rest below_frames small Related stands stops flies current t.note.lead rank t.values t.are_words t.based t.note.facts t.holds s v.to (Runs (frame_at p h.func numbers t.values home t.note.index t.note.place) below_frames)
       (subst (λ z. Path (source p) z s v.to) v.long v.path) short
-      (followed h.table t.note.facts t.index a t.note.place (advanced p h.func no_answers t.note.lead t.note.outcome)) fits
-      (subst (λ z. Follows p h.func numbers t.values home rest below_frames (followed h.table t.note.facts t.index a t.note.place (advanced p h.func no_answers t.note.lead t.note.outcome)) z v.to) (sym stepped) follows))
+      (followed h.table t.note.facts t.note.index a t.note.place (advanced p h.func no_answers t.note.lead t.note.outcome)) fits
+      (subst (λ z. Follows p h.func numbers t.values home rest below_frames (followed h.table t.note.facts t.note.index a t.note.place (advanced p h.func no_answers t.note.lead t.note.outcome)) z v.to) (sym stepped) follows))

@@ -37,7 +37,7 @@ note_same : (a b : Note) → ◌≡◌ {A = Option Note} (Some a) (Some b) → a
 note_same a b e = cc
 
 abbrev Fit : ℕ → Bool → ℕ → Note → Type 0
-Fit n safe index note = NoteFits catch_program bounds catch_book (catch_book.held n safe) index note
+Fit n safe at note = NoteFits catch_program bounds catch_book (catch_book.held n safe) note
 
 push_fits : (n : ℕ) (safe : Bool) → Fit n safe 0 push_note
 unfolding bounds same
@@ -47,7 +47,7 @@ push_fits n safe = record {
   short = omega arith;
   foreseen = refl;
   fits = record {
-    lands = record { note = new_note; is = refl; lag = 0; terms = same; same_place = refl; same_facts = tt; same_outcome = refl; foreseen = refl; low = omega arith };
+    lands = record { at = 1; note = new_note; is = refl; there = refl; lag = 0; terms = same; same_place = refl; same_facts = tt; same_outcome = refl; foreseen = refl; low = omega arith };
     short = omega arith;
     goes_on = inl (omega arith);
   };
@@ -61,7 +61,7 @@ new_fits n safe = record {
   short = omega arith;
   foreseen = refl;
   fits = record {
-    lands = record { note = put_note; is = refl; lag = 0; terms = same; same_place = refl; same_facts = tt; same_outcome = refl; foreseen = refl; low = omega arith };
+    lands = record { at = 2; note = put_note; is = refl; there = refl; lag = 0; terms = same; same_place = refl; same_facts = tt; same_outcome = refl; foreseen = refl; low = omega arith };
     short = omega arith;
     goes_on = inr (omega arith);
   };
@@ -75,7 +75,7 @@ put_fits n safe = record {
   short = omega arith;
   foreseen = refl;
   fits = record {
-    lands = record { note = throw_note; is = refl; lag = 0; terms = same; same_place = refl; same_facts = tt; same_outcome = refl; foreseen = refl; low = omega arith };
+    lands = record { at = 3; note = throw_note; is = refl; there = refl; lag = 0; terms = same; same_place = refl; same_facts = tt; same_outcome = refl; foreseen = refl; low = omega arith };
     short = omega arith;
     goes_on = inr (omega arith);
   };
@@ -89,7 +89,7 @@ take_fits n safe = record {
   short = omega arith;
   foreseen = refl;
   fits = record {
-    lands = record { note = get_note; is = refl; lag = 0; terms = same; same_place = refl; same_facts = tt; same_outcome = refl; foreseen = refl; low = omega arith };
+    lands = record { at = 5; note = get_note; is = refl; there = refl; lag = 0; terms = same; same_place = refl; same_facts = tt; same_outcome = refl; foreseen = refl; low = omega arith };
     short = omega arith;
     goes_on = inl (omega arith);
   };
@@ -103,7 +103,7 @@ get_fits n safe = record {
   short = omega arith;
   foreseen = refl;
   fits = record {
-    lands = record { note = store_note; is = refl; lag = 0; terms = same; same_place = refl; same_facts = tt; same_outcome = refl; foreseen = refl; low = omega arith };
+    lands = record { at = 6; note = store_note; is = refl; there = refl; lag = 0; terms = same; same_place = refl; same_facts = tt; same_outcome = refl; foreseen = refl; low = omega arith };
     short = omega arith;
     goes_on = inr (omega arith);
   };
@@ -117,7 +117,7 @@ address_fits n safe = record {
   short = omega arith;
   foreseen = refl;
   fits = record {
-    lands = record { note = load_note; is = refl; lag = 0; terms = same; same_place = refl; same_facts = tt; same_outcome = refl; foreseen = refl; low = omega arith };
+    lands = record { at = 8; note = load_note; is = refl; there = refl; lag = 0; terms = same; same_place = refl; same_facts = tt; same_outcome = refl; foreseen = refl; low = omega arith };
     short = omega arith;
     goes_on = inl (omega arith);
   };
@@ -131,7 +131,7 @@ end_fits n safe = record {
   short = omega arith;
   foreseen = refl;
   fits = record {
-    lands = record { note = ret_note; is = refl; lag = 0; terms = same; same_place = refl; same_facts = tt; same_outcome = refl; foreseen = refl; low = omega arith };
+    lands = record { at = 10; note = ret_note; is = refl; there = refl; lag = 0; terms = same; same_place = refl; same_facts = tt; same_outcome = refl; foreseen = refl; low = omega arith };
     short = omega arith;
     goes_on = inl (omega arith);
   };
@@ -144,7 +144,7 @@ store_fits n safe = record {
   is = refl;
   short = omega arith;
   foreseen = refl;
-  fits = (refl, record { note = address_note; is = refl; lag = 0; terms = same; same_place = refl; same_facts = tt; same_outcome = refl; foreseen = refl; low = omega arith }, refl);
+  fits = (refl, record { at = 7; note = address_note; is = refl; there = refl; lag = 0; terms = same; same_place = refl; same_facts = tt; same_outcome = refl; foreseen = refl; low = omega arith }, refl);
 }
 
 load_fits : (n : ℕ) (safe : Bool) → Fit n safe 8 load_note
@@ -154,7 +154,7 @@ load_fits n safe = record {
   is = refl;
   short = omega arith;
   foreseen = refl;
-  fits = (refl, record { note = end_note; is = refl; lag = 0; terms = same; same_place = refl; same_facts = tt; same_outcome = refl; foreseen = refl; low = omega arith }, refl);
+  fits = (refl, record { at = 9; note = end_note; is = refl; there = refl; lag = 0; terms = same; same_place = refl; same_facts = tt; same_outcome = refl; foreseen = refl; low = omega arith }, refl);
 }
 
 -- the row takes the type, and the source comes to the handler
@@ -164,7 +164,7 @@ int_lands n safe = record {
   answers = no_answers;
   right = λ m handler answer e. absurd cc;
   found = record {
-    lands = record { note = take_note; is = refl; lag = 1; terms = caught; same_place = refl; same_facts = tt; same_outcome = refl; foreseen = refl; low = omega arith };
+    lands = record { at = 4; note = take_note; is = refl; there = refl; lag = 1; terms = caught; same_place = refl; same_facts = tt; same_outcome = refl; foreseen = refl; low = omega arith };
     some = inl (omega arith);
     short = omega arith;
   };
@@ -201,7 +201,7 @@ all_fit n safe (suc (suc (suc (suc (suc (suc (suc (suc (suc (suc (suc k)))))))))
 catch_checked : (n : ℕ) (safe : Bool) → Checked catch_program bounds catch_book (catch_book.held n safe)
 unfolding bounds
 catch_checked n safe = record {
-  entry = record { facts_are = refl; note = push_note; is = refl; place_is = refl; outcome_is = refl; foreseen = refl; low = omega arith };
+  entry = record { facts_are = refl; first = refl; note = push_note; is = refl; place_is = refl; outcome_is = refl; foreseen = refl; low = omega arith };
   notes = λ index note e. all_fit n safe index note e;
 }
 

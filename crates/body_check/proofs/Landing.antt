@@ -201,12 +201,12 @@ module _ (p : Program) (names : Names) (numbers : Typ → ℕ) (h : Held) (b : B
           values = seen_by p h.func l.terms x;
           are_words = λ n. term_below p h.func x bounded (l.terms.word n);
           based = based;
-          index = index;
+          at = l.at;
           note = l.note;
           is = l.is;
           ranked = refl;
           holds = facts_replaced p h.func l.terms x l.note.facts (all_among p h.func x (in_facts l.terms l.note.facts) known l.same_facts holds);
-          frame = ap (λ (z : Place). frame_at p h.func numbers x home index z) (sym l.same_place) ∙ frame_replaced p h.func numbers l.terms x home index l.note.place;
+          frame = ap₂ (λ (y : ℕ) (z : Place). frame_at p h.func numbers x home y z) (sym l.there) (sym l.same_place) ∙ frame_replaced p h.func numbers l.terms x home l.note.index l.note.place;
           shows = outcome_replaced p h.func l.terms x rest l.note.outcome a.to (subst (λ z. Shows p h.func x rest z a.to) (sym l.same_outcome) a.shows);
         });
       }

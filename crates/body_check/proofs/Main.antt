@@ -20,7 +20,7 @@ bounds = record { half = 8; longest = 16; both = omega arith; most = 1 }
 same : Replacing
 same = record { word = λ n. variable n; exception = λ n. unknown n }
 
-first_fits : (n : ℕ) (safe : Bool) → NoteFits main_program bounds main_book (main_book.held n safe) 0 first_note
+first_fits : (n : ℕ) (safe : Bool) → NoteFits main_program bounds main_book (main_book.held n safe) first_note
 unfolding bounds same
 first_fits n safe = record {
   instr = Push 0;
@@ -28,28 +28,28 @@ first_fits n safe = record {
   short = omega arith;
   foreseen = refl;
   fits = record {
-    lands = record { note = second_note; is = refl; lag = 0; terms = same; same_place = refl; same_facts = tt; same_outcome = refl; foreseen = refl; low = omega arith };
+    lands = record { at = 1; note = second_note; is = refl; there = refl; lag = 0; terms = same; same_place = refl; same_facts = tt; same_outcome = refl; foreseen = refl; low = omega arith };
     short = omega arith;
     goes_on = inl (omega arith);
   };
 }
 
-second_fits : (n : ℕ) (safe : Bool) → NoteFits main_program bounds main_book (main_book.held n safe) 1 second_note
+second_fits : (n : ℕ) (safe : Bool) → NoteFits main_program bounds main_book (main_book.held n safe) second_note
 unfolding bounds
 second_fits n safe = record { instr = Ret 1; is = refl; short = omega arith; foreseen = refl; fits = (refl, (number 0, [], refl, by_return)) }
 
 note_same : (a b : Note) → ◌≡◌ {A = Option Note} (Some a) (Some b) → a ≡ b
 note_same a b e = cc
 
-all_fit : (n : ℕ) (safe : Bool) (index : ℕ) (note : Note) → slice_get (first_note ∷ second_note ∷ []) index ≡ Some note → NoteFits main_program bounds main_book (main_book.held n safe) index note
-all_fit n safe zero note e = subst (λ z. NoteFits main_program bounds main_book (main_book.held n safe) 0 z) (note_same first_note note e) (first_fits n safe)
-all_fit n safe (suc zero) note e = subst (λ z. NoteFits main_program bounds main_book (main_book.held n safe) 1 z) (note_same second_note note e) (second_fits n safe)
+all_fit : (n : ℕ) (safe : Bool) (index : ℕ) (note : Note) → slice_get (first_note ∷ second_note ∷ []) index ≡ Some note → NoteFits main_program bounds main_book (main_book.held n safe) note
+all_fit n safe zero note e = subst (λ z. NoteFits main_program bounds main_book (main_book.held n safe) z) (note_same first_note note e) (first_fits n safe)
+all_fit n safe (suc zero) note e = subst (λ z. NoteFits main_program bounds main_book (main_book.held n safe) z) (note_same second_note note e) (second_fits n safe)
 all_fit n safe (suc (suc k)) note e = absurd cc
 
 main_checked : (n : ℕ) (safe : Bool) → Checked main_program bounds main_book (main_book.held n safe)
 unfolding bounds
 main_checked n safe = record {
-  entry = record { facts_are = refl; note = first_note; is = refl; place_is = refl; outcome_is = refl; foreseen = refl; low = omega arith };
+  entry = record { facts_are = refl; first = refl; note = first_note; is = refl; place_is = refl; outcome_is = refl; foreseen = refl; low = omega arith };
   notes = λ index note e. all_fit n safe index note e;
 }
 

@@ -24,7 +24,7 @@ note_same : (a b : Note) → ◌≡◌ {A = Option Note} (Some a) (Some b) → a
 note_same a b e = cc
 
 abbrev Fit : ℕ → Bool → ℕ → Note → Type 0
-Fit n safe index note = NoteFits pair_program bounds pair_book (pair_book.held n safe) index note
+Fit n safe at note = NoteFits pair_program bounds pair_book (pair_book.held n safe) note
 
 call_fits : (safe : Bool) → Fit 0 safe 0 call_note
 unfolding bounds same
@@ -45,7 +45,7 @@ call_fits safe = record {
     taken = refl;
     behind = record {
       back = record {
-        lands = record { note = back_note; is = refl; lag = 1; terms = same; same_place = refl; same_facts = tt; same_outcome = refl; foreseen = refl; low = omega arith };
+        lands = record { at = 1; note = back_note; is = refl; there = refl; lag = 1; terms = same; same_place = refl; same_facts = tt; same_outcome = refl; foreseen = refl; low = omega arith };
         some = omega arith;
         short = omega arith;
       };
@@ -76,7 +76,7 @@ push_fits n safe = record {
   short = omega arith;
   foreseen = refl;
   fits = record {
-    lands = record { note = ret_note; is = refl; lag = 0; terms = same; same_place = refl; same_facts = tt; same_outcome = refl; foreseen = refl; low = omega arith };
+    lands = record { at = 1; note = ret_note; is = refl; there = refl; lag = 0; terms = same; same_place = refl; same_facts = tt; same_outcome = refl; foreseen = refl; low = omega arith };
     short = omega arith;
     goes_on = inl (omega arith);
   };
@@ -100,11 +100,11 @@ fit_one n safe (suc (suc k)) note e = absurd cc
 pub pair_checked : (n : ℕ) (safe : Bool) → Checked pair_program bounds pair_book (pair_book.held n safe)
 unfolding bounds
 pair_checked zero safe = record {
-  entry = record { facts_are = refl; note = call_note; is = refl; place_is = refl; outcome_is = refl; foreseen = refl; low = omega arith };
+  entry = record { facts_are = refl; first = refl; note = call_note; is = refl; place_is = refl; outcome_is = refl; foreseen = refl; low = omega arith };
   notes = λ index note e. fit_main safe index note e;
 }
 pair_checked (suc n) safe = record {
-  entry = record { facts_are = refl; note = push_note; is = refl; place_is = refl; outcome_is = refl; foreseen = refl; low = omega arith };
+  entry = record { facts_are = refl; first = refl; note = push_note; is = refl; place_is = refl; outcome_is = refl; foreseen = refl; low = omega arith };
   notes = λ index note e. fit_one n safe index note e;
 }
 

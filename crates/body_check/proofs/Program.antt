@@ -90,7 +90,7 @@ module _ (p : Program) (names : Names) (b : Bounds) (book : Book) (id : ℕ) (li
     x = r.stands.values
 
     abbrev frame : Frame
-    frame = frame_at p h.func numbers x home r.stands.index note.place
+    frame = frame_at p h.func numbers x home note.index note.place
 
     is_body : names.body n safe ≡ Some h.body
     is_body = r.there ∙ ap Some (sym (links.bodies n safe r.body r.there))
@@ -108,8 +108,8 @@ module _ (p : Program) (names : Names) (b : Bounds) (book : Book) (id : ℕ) (li
     current : code.current fs ≡ option_map (coded numbers) (frames.handled r.rest)
     current = callers_current p names b book id links small (book.gives n) h.func.stops fs r.rest r.callers
 
-    stepped : (a : Instr) → slice_get h.body.code r.stands.index ≡ Some a → step_act names (Runs frame fs) ≡ code.act names (renamed (names.numbering n) a) frame fs
-    stepped a is = step_is p names numbers h b home (limit p names b book id) r.rest fs small (Together p names b book id) stands stops flying_in current is_body (links.names n safe) x r.stands.index note.place a is
+    stepped : (a : Instr) → slice_get h.body.code note.index ≡ Some a → step_act names (Runs frame fs) ≡ code.act names (renamed (names.numbering n) a) frame fs
+    stepped a is = step_is p names numbers h b home (limit p names b book id) r.rest fs small (Together p names b book id) stands stops flying_in current is_body (links.names n safe) x note.index note.place a is
 
     ahead : is_stuck (advanced p h.func no_answers note.lead note.outcome) ≡ false → Advanced p h.func x no_answers r.rest note.lead note.outcome s
     ahead foreseen = advance p h.func x no_answers r.rest small r.stands.are_words (none_right p x) note.lead note.outcome s r.stands.shows foreseen
@@ -122,7 +122,7 @@ module _ (p : Program) (names : Names) (b : Bounds) (book : Book) (id : ℕ) (li
     covers_callee e = covered_by h.safe note.place.opens (code.blocks_in fs) (λ i. r.covered (sym (links.safes n safe) ∙ i)) e
 
     abbrev under_frame : List Term → Frame
-    under_frame under = frame_at p h.func numbers x home r.stands.index (with_operands note.place under)
+    under_frame under = frame_at p h.func numbers x home note.index (with_operands note.place under)
 
     counted : (count : ℕ) (words under : List Term) → taken_off count note.place.operands [] ≡ Some (words, under) → count_of words ≡ count
     counted count words under e = taken_count count note.place.operands [] words under e ∙ none count
@@ -130,15 +130,15 @@ module _ (p : Program) (names : Names) (b : Bounds) (book : Book) (id : ℕ) (li
         none : (n : ℕ) → n + 0 ≡ n
         none n = omega arith
 
-    enter_at : (into : Bool) (m : ℕ) (body : BodyView) → names.body m into ≡ Some body → (words under : List Term) (ws : List Waiting) (k : List Form) → count_of words ≡ book.takes m → Behind p b book (book.gives m) h note.facts r.stands.index note.place under ws k
+    enter_at : (into : Bool) (m : ℕ) (body : BodyView) → names.body m into ≡ Some body → (words under : List Term) (ws : List Waiting) (k : List Form) → count_of words ≡ book.takes m → Behind p b book (book.gives m) h note.facts note.index note.place under ws k
         → (into ≡ true → no_atomic (note.place.opens ++ code.blocks_in fs) ≡ false) → (t : State) → Path (source p) note.lead s t → note.lead + 1 ≤ b.half → t ≡ enter (here_of p h.func x ws) (words_of p h.func x words) (p.func m) (below p h.func x k r.rest)
         → step_act names (Runs frame fs) ≡ code.enter_act names m into (words_of p h.func x words) (under_frame under) fs → Makes rank s (Runs frame fs)
     enter_at into m body there words under ws k count behind cover t path short g e =
-        call_move p names b book id links small n safe base x r.stands.are_words r.stands.based r.stands.index note.place fs r.rest m into body there r.body r.there words under ws k count note.facts r.stands.holds behind r.covered cover r.callers
+        call_move p names b book id links small n safe base x r.stands.are_words r.stands.based note.index note.place fs r.rest m into body there r.body r.there words under ws k count note.facts r.stands.holds behind r.covered cover r.callers
         note.lead rank s t (Runs frame fs) path short e g
 
     call_at : (into : Bool) (name count : ℕ) → (into ≡ true → no_atomic (note.place.opens ++ code.blocks_in fs) ≡ false) → note.lead + 1 ≤ b.half → (foreseen : is_stuck (advanced p h.func no_answers note.lead note.outcome) ≡ false)
-        → (c : Calling p b book h note.facts r.stands.index note.place (advanced p h.func no_answers note.lead note.outcome) name count) → (body : BodyView) × (names.body (p.number h.func.unit c.callee) into ≡ Some body)
+        → (c : Calling p b book h note.facts note.index note.place (advanced p h.func no_answers note.lead note.outcome) name count) → (body : BodyView) × (names.body (p.number h.func.unit c.callee) into ≡ Some body)
         → step_act names (Runs frame fs) ≡ code.call_act names ((names.numbering n).func name) into count frame fs → Makes rank s (Runs frame fs)
     call_at into name count cover short foreseen c found e =
         let m = p.number h.func.unit c.callee in
@@ -146,11 +146,11 @@ module _ (p : Program) (names : Names) (b : Bounds) (book : Book) (id : ℕ) (li
         enter_at into m found.0 found.1 c.words c.under c.temporaries c.others (counted count c.words c.under c.operands_are ∙ sym c.taken) c.behind cover v.to (subst (λ z. Path (source p) z s v.to) v.long v.path) short
         (subst (λ z. Shows p h.func x r.rest z v.to) c.outcome_is v.shows)
         (e ∙ (ap (λ y. code.call_act names y into count frame fs) (links.called n safe name c.callee c.named)
-        ∙ (moved_is p h.func x count note.place.operands [] c.words c.under (λ args vs. code.entered_act names m into args (code.at frame r.stands.index vs) fs) c.operands_are
+        ∙ (moved_is p h.func x count note.place.operands [] c.words c.under (λ args vs. code.entered_act names m into args (code.at frame note.index vs) fs) c.operands_are
         ∙ ap (λ o. code.if_some o code.Lost (λ y. code.enter_act names m into (words_of p h.func x c.words) (under_frame c.under) fs)) found.1)))
 
     -- a function that was found
-    module _ (into : Bool) (m count : ℕ) (gives : Bool) (whole : Whole names book m count gives) (words under : List Term) (ws : List Waiting) (k : List Form) (counts : count_of words ≡ count) (behind : Behind p b book gives h note.facts r.stands.index note.place under ws k)
+    module _ (into : Bool) (m count : ℕ) (gives : Bool) (whole : Whole names book m count gives) (words under : List Term) (ws : List Waiting) (k : List Form) (counts : count_of words ≡ count) (behind : Behind p b book gives h note.facts note.index note.place under ws k)
         (cover : into ≡ true → no_atomic (note.place.opens ++ code.blocks_in fs) ≡ false) (t : State) (path : Path (source p) note.lead s t) (short : note.lead + 1 ≤ b.half) where
       abbrev on : List frames.Frame
       on = below p h.func x k r.rest
@@ -165,7 +165,7 @@ module _ (p : Program) (names : Names) (b : Bounds) (book : Book) (id : ℕ) (li
       blocks_are = blocks_below p h.func x r.rest k ∙ ap₂ (λ (u v : List Open). u ++ v) (sym behind.opens) (sym (callers_blocks p names b book id links small (book.gives n) h.func.stops fs r.rest r.callers))
 
       found_enters : (body : BodyView) → names.body m into ≡ Some body → t ≡ enter (here_of p h.func x ws) (words_of p h.func x words) (p.func m) on → step_act names (Runs frame fs) ≡ enters → Makes rank s (Runs frame fs)
-      found_enters body there g e = enter_at into m body there words under ws k (counts ∙ sym whole.takes) (subst (λ z. Behind p b book z h note.facts r.stands.index note.place under ws k) (sym whole.gives_so) behind) cover t path short g
+      found_enters body there g e = enter_at into m body there words under ws k (counts ∙ sym whole.takes) (subst (λ z. Behind p b book z h note.facts note.index note.place under ws k) (sym whole.gives_so) behind) cover t path short g
           (e ∙ ap (λ o. code.if_some o code.Lost (λ y. code.enter_act names m into (words_of p h.func x words) (under_frame under) fs)) there)
 
       abbrev finding : Bool → State
@@ -200,15 +200,15 @@ module _ (p : Program) (names : Names) (b : Bounds) (book : Book) (id : ℕ) (li
     calls_found into o words under = code.if_some o (code.traps BadCall) (λ m. code.checked_act names m (code.in_transaction frame fs) (code.entered_act names m into (words_of p h.func x words) (under_frame under) fs))
 
     pointer_at : (into : Bool) (count : ℕ) (gives : Bool) (a : ℕ) (sig : Signature) → count ≡ book.takes_as sig → gives ≡ book.gives_as sig → (words under : List Term) (ws : List Waiting) (k : List Form) → count_of words ≡ count
-        → Behind p b book gives h note.facts r.stands.index note.place under ws k → (into ≡ true → no_atomic (note.place.opens ++ code.blocks_in fs) ≡ false) → (t : State) → Path (source p) note.lead s t → note.lead + 1 ≤ b.half
+        → Behind p b book gives h note.facts note.index note.place under ws k → (into ≡ true → no_atomic (note.place.opens ++ code.blocks_in fs) ≡ false) → (t : State) → Path (source p) note.lead s t → note.lead + 1 ≤ b.half
         → (o : Option ℕ) → p.pointed a sig ≡ o → t ≡ enter_pointed p (here_of p h.func x ws) (words_of p h.func x words) o (below p h.func x k r.rest) → step_act names (Runs frame fs) ≡ calls_found into o words under → Makes rank s (Runs frame fs)
     pointer_at into count gives a sig i j words under ws k counts behind cover t path short None is g e =
         leads (room short) path (stop_meets p names b (Together p names b book id) (λ s c y. stopped y) (Trapped BadCall) t (Runs frame fs) (record { here = here_of p h.func x ws; others = below p h.func x k r.rest; is = g }) e)
     pointer_at into count gives a sig i j words under ws k counts behind cover t path short (Some m) is g e =
-        found_at into m (book.takes_as sig) (book.gives_as sig) (links.pointed a m sig is) words under ws k (counts ∙ i) (subst (λ z. Behind p b book z h note.facts r.stands.index note.place under ws k) j behind) cover t path short g e
+        found_at into m (book.takes_as sig) (book.gives_as sig) (links.pointed a m sig is) words under ws k (counts ∙ i) (subst (λ z. Behind p b book z h note.facts note.index note.place under ws k) j behind) cover t path short g e
 
     found_call : (into : Bool) (name count : ℕ) (address : Term) (callee : Callee) (gives : Bool) → Found p b book h note.facts name address callee count gives → (words under : List Term) (ws : List Waiting) (k : List Form) → count_of words ≡ count
-        → Behind p b book gives h note.facts r.stands.index note.place under ws k → (into ≡ true → no_atomic (note.place.opens ++ code.blocks_in fs) ≡ false) → (t : State) → Path (source p) note.lead s t → note.lead + 1 ≤ b.half
+        → Behind p b book gives h note.facts note.index note.place under ws k → (into ≡ true → no_atomic (note.place.opens ++ code.blocks_in fs) ≡ false) → (t : State) → Path (source p) note.lead s t → note.lead + 1 ≤ b.half
         → t ≡ invoke p (here_of p h.func x ws) (callee_of p h.func x callee) (words_of p h.func x words) (below p h.func x k r.rest)
         → step_act names (Runs frame fs) ≡ calls_found into (names.called ((names.numbering n).ty name) (eval p h.func x address)) words under → Makes rank s (Runs frame fs)
     found_call into name count address callee gives (by_pointer a sig named) words under ws k counts behind cover t path short g e =
@@ -223,14 +223,14 @@ module _ (p : Program) (names : Names) (b : Bounds) (book : Book) (id : ℕ) (li
         ∙ (ap (λ z. names.called ((names.numbering n).ty name) z) (mod-eq_of_lt (small.slots (eval p h.func x a) class slot m fact.1)) ∙ (links.names n safe).methods name class slot (eval p h.func x a) m named fact.1)))
 
     found_call_at : (into : Bool) (name count : ℕ) → (into ≡ true → no_atomic (note.place.opens ++ code.blocks_in fs) ≡ false) → note.lead + 1 ≤ b.half → (foreseen : is_stuck (advanced p h.func no_answers note.lead note.outcome) ≡ false)
-        → CallingFound p b book h note.facts r.stands.index note.place (advanced p h.func no_answers note.lead note.outcome) name count
+        → CallingFound p b book h note.facts note.index note.place (advanced p h.func no_answers note.lead note.outcome) name count
         → step_act names (Runs frame fs) ≡ code.call_indirect_act names ((names.numbering n).ty name) into count frame fs → Makes rank s (Runs frame fs)
     found_call_at into name count cover short foreseen c e =
         let v = ahead foreseen in
         found_call into name count c.address c.callee c.gives c.found c.words c.under c.temporaries c.others (counted count c.words (c.address ∷ c.under) c.operands_are) c.behind cover v.to (subst (λ z. Path (source p) z s v.to) v.long v.path) short
         (subst (λ z. Shows p h.func x r.rest z v.to) c.outcome_is v.shows)
         (e ∙ moved_is p h.func x count note.place.operands [] c.words (c.address ∷ c.under) (λ args vs. code.one vs (λ a others. code.if_some (names.called ((names.numbering n).ty name) a) (code.traps BadCall)
-            (λ m. code.checked_act names m (code.in_transaction frame fs) (code.entered_act names m into args (code.at frame r.stands.index others) fs)))) c.operands_are)
+            (λ m. code.checked_act names m (code.in_transaction frame fs) (code.entered_act names m into args (code.at frame note.index others) fs)))) c.operands_are)
 
     word_at_return : (w : Term) (under : List Term) → note.lead + 1 ≤ b.half → (foreseen : is_stuck (advanced p h.func no_answers note.lead note.outcome) ≡ false) → book.gives n ≡ true
         → note.place.operands ≡ w ∷ under → Hands w (advanced p h.func no_answers note.lead note.outcome) → step_act names (Runs frame fs) ≡ code.ret_act 1 frame fs → Makes rank s (Runs frame fs)
@@ -253,15 +253,15 @@ module _ (p : Program) (names : Names) (b : Bounds) (book : Book) (id : ℕ) (li
     on_top : Makes rank s (Runs frame fs) → Makes rank s (Runs top fs)
     on_top m = subst (λ z. Makes rank s (Runs z fs)) (sym r.stands.frame) m
 
-    plain_move : (a : Instr) → slice_get h.body.code r.stands.index ≡ Some a → note.lead + 1 ≤ b.half → is_stuck (advanced p h.func no_answers note.lead note.outcome) ≡ false
-        → Fits p h.func b h.notes numbers h.rows note.facts note.lead note.rank (followed h.table note.facts r.stands.index a note.place (advanced p h.func no_answers note.lead note.outcome)) → Makes rank s (Runs top fs)
+    plain_move : (a : Instr) → slice_get h.body.code note.index ≡ Some a → note.lead + 1 ≤ b.half → is_stuck (advanced p h.func no_answers note.lead note.outcome) ≡ false
+        → Fits p h.func b h.notes numbers h.rows note.facts note.lead note.rank (followed h.table note.facts note.index a note.place (advanced p h.func no_answers note.lead note.outcome)) → Makes rank s (Runs top fs)
     plain_move a is short foreseen fits = note_move p names numbers h b home (limit p names b book id) r.rest fs small (Together p names b book id) stands stops flying_in current is_body (links.names n safe) rank s top r.stands a is foreseen (room short)
-        (subst (λ z. Fits p h.func b h.notes numbers h.rows note.facts note.lead z (followed h.table note.facts r.stands.index a note.place (advanced p h.func no_answers note.lead note.outcome))) r.stands.ranked fits)
+        (subst (λ z. Fits p h.func b h.notes numbers h.rows note.facts note.lead z (followed h.table note.facts note.index a note.place (advanced p h.func no_answers note.lead note.outcome))) r.stands.ranked fits)
 
-    at_instr : (a : Instr) → slice_get h.body.code r.stands.index ≡ Some a → note.lead + 1 ≤ b.half → is_stuck (advanced p h.func no_answers note.lead note.outcome) ≡ false
-        → StepFits p b book h note.facts note.lead note.rank r.stands.index a note.place (advanced p h.func no_answers note.lead note.outcome) → Makes rank s (Runs top fs)
-    at_instr (Call name k) is short foreseen fits = on_top (call_at false name k (λ i. absurd (true≢false (sym i))) short foreseen fits (links.plain_there n safe r.stands.index name k fits.callee is fits.named) (stepped (Call name k) is))
-    at_instr (TCall name k) is short foreseen fits = on_top (call_at true name k (λ i. covers_callee fits.0) short foreseen fits.1 (links.safe_there n safe r.stands.index name k fits.1.callee is fits.1.named) (stepped (TCall name k) is))
+    at_instr : (a : Instr) → slice_get h.body.code note.index ≡ Some a → note.lead + 1 ≤ b.half → is_stuck (advanced p h.func no_answers note.lead note.outcome) ≡ false
+        → StepFits p b book h note.facts note.lead note.rank note.index a note.place (advanced p h.func no_answers note.lead note.outcome) → Makes rank s (Runs top fs)
+    at_instr (Call name k) is short foreseen fits = on_top (call_at false name k (λ i. absurd (true≢false (sym i))) short foreseen fits (links.plain_there n safe note.index name k fits.callee is fits.named) (stepped (Call name k) is))
+    at_instr (TCall name k) is short foreseen fits = on_top (call_at true name k (λ i. covers_callee fits.0) short foreseen fits.1 (links.safe_there n safe note.index name k fits.1.callee is fits.1.named) (stepped (TCall name k) is))
     at_instr (CallIndirect name k) is short foreseen fits = on_top (found_call_at false name k (λ i. absurd (true≢false (sym i))) short foreseen fits (stepped (CallIndirect name k) is))
     at_instr (TCallIndirect name k) is short foreseen fits = on_top (found_call_at true name k (λ i. covers_callee fits.0) short foreseen fits.1 (stepped (TCallIndirect name k) is))
     at_instr (Ret zero) is short foreseen fits = on_top (none_at_return short foreseen (ap book.gives (sym numbered) ∙ fits.0) fits.1 (stepped (Ret zero) is))
@@ -271,7 +271,7 @@ module _ (p : Program) (names : Names) (b : Bounds) (book : Book) (id : ℕ) (li
 
     running_move : Makes rank s (Runs top fs)
     running_move =
-        let fit = (links.checked n safe r.body r.there).notes r.stands.index note r.stands.is in
+        let fit = (links.checked n safe r.body r.there).notes r.stands.at note r.stands.is in
         at_instr fit.instr fit.is fit.short fit.foreseen fit.fits
 
   -- an exception is in flight
@@ -427,12 +427,12 @@ module _ (p : Program) (names : Names) (b : Bounds) (book : Book) (id : ℕ) (li
       values = values;
       are_words = bounded;
       based = (begins.starts, sym begins.ends);
-      index = 0;
+      at = 0;
       note = checked.entry.note;
       is = checked.entry.is;
       ranked = refl;
       holds = subst (λ z. AllHold p g.func values z) (sym checked.entry.facts_are) tt;
-      frame = ap (λ (z : List ℕ). first_frame first_home z) (sym own_words) ∙ ap (λ (z : Place). frame_at p g.func book.numbers values first_home 0 z) (sym (checked.entry.place_is ∙ ap (λ z. bare z) takes));
+      frame = ap (λ (z : List ℕ). first_frame first_home z) (sym own_words) ∙ ap (λ (z : Place). frame_at p g.func book.numbers values first_home 0 z) (sym (checked.entry.place_is ∙ ap (λ z. bare z) takes)) ∙ ap (λ z. frame_at p g.func book.numbers values first_home z checked.entry.note.place) (sym checked.entry.first);
       shows = subst (λ z. Shows p g.func values called z begun.to) (sym foreseen) begun.shows;
     };
   })

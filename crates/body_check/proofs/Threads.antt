@@ -126,13 +126,13 @@ module _ (p : Program) (names : Names) (b : Bounds) (book : Book) (id : ℕ) (li
       values = new;
       are_words = new_words p small f g x bounded ws k rest words;
       based = (ap₂ (λ u v. u + v) based.0 (links.frames n safe), based.1);
-      index = 0;
+      at = 0;
       note = entry.note;
       is = entry.is;
       ranked = refl;
       holds = subst (λ z. AllHold p g new z) (sym entry.facts_are) tt;
       frame = ap (λ (z : List ℕ). code.first_frame (home_of id m into (base + names.frame n)) z) (sym (new_variables p small f g x bounded ws k rest words (book.takes m) counted))
-          ∙ (ap (λ z. frame_at p g numbers new (home_of id m into (base + names.frame n)) 0 (bare (book.takes z))) (sym (links.numbers m into)) ∙ ap (λ (z : Place). frame_at p g numbers new (home_of id m into (base + names.frame n)) 0 z) (sym entry.place_is));
+          ∙ (ap (λ z. frame_at p g numbers new (home_of id m into (base + names.frame n)) 0 (bare (book.takes z))) (sym (links.numbers m into)) ∙ ap (λ (z : Place). frame_at p g numbers new (home_of id m into (base + names.frame n)) 0 z) (sym entry.place_is) ∙ ap (λ z. frame_at p g numbers new (home_of id m into (base + names.frame n)) z entry.note.place) (sym entry.first));
       shows = subst (λ z. Shows p g new called z begun.to) (sym foreseen_at_entry) begun.shows;
     }
 

@@ -130,18 +130,19 @@ module _ (p : Program) (b : Bounds) (book : Book) where
   StepFits h known lead rank index (Ret (suc (suc n))) q o = ⊥
   StepFits h known lead rank index a q o = Fits p h.func b h.notes book.numbers h.rows known lead rank (followed h.table known index a q o)
 
-  -- the note of an index fits
-  pub record NoteFits (h : Held) (index : ℕ) (note : Note) : Type 0 where
+  -- a note fits
+  pub record NoteFits (h : Held) (note : Note) : Type 0 where
     pub instr : Instr
-    pub is : slice_get h.body.code index ≡ Some instr
+    pub is : slice_get h.body.code note.index ≡ Some instr
     pub short : note.lead + 1 ≤ b.half
     pub foreseen : is_stuck (advanced p h.func no_answers note.lead note.outcome) ≡ false
-    pub fits : StepFits h note.facts note.lead note.rank index instr note.place (advanced p h.func no_answers note.lead note.outcome)
+    pub fits : StepFits h note.facts note.lead note.rank note.index instr note.place (advanced p h.func no_answers note.lead note.outcome)
 
   -- the first note: the function is entered, and the source has taken one silent step
   pub record Entry (h : Held) : Type 0 where
     pub note : Note
     pub is : slice_get h.notes 0 ≡ Some note
+    pub first : note.index ≡ 0
     pub facts_are : note.facts ≡ []
     pub place_is : note.place ≡ bare (book.takes h.number)
     pub outcome_is : note.outcome ≡ advanced p h.func no_answers 1 (goes silent [] (Passes (variables 0 (book.takes h.number)) h.func.words ∷ Then value h.func.body ∷ []))
@@ -151,7 +152,7 @@ module _ (p : Program) (b : Bounds) (book : Book) where
   -- a body is checked: each note fits
   pub record Checked (h : Held) : Type 0 where
     pub entry : Entry h
-    pub notes : (index : ℕ) (note : Note) → slice_get h.notes index ≡ Some note → NoteFits h index note
+    pub notes : (at : ℕ) (note : Note) → slice_get h.notes at ≡ Some note → NoteFits h note
 
 -- a function is there, takes so many words, and hands back a word or none
 pub record Whole (x : Names) (book : Book) (n count : ℕ) (gives : Bool) : Type 0 where

@@ -125,37 +125,37 @@ abbrev pub in_handler : List Term → Place
 in_handler ws = record { operands = ws; opens = []; caught = unknown 0 ∷ []; hold = nothing }
 
 abbrev pub push_note : Note
-push_note = record { place = bare 0; facts = []; outcome = catch_begun; lead = 8; rank = 3 }
+push_note = record { index = 0; place = bare 0; facts = []; outcome = catch_begun; lead = 8; rank = 3 }
 
 abbrev pub new_note : Note
-new_note = record { place = with_operands (bare 0) (number 1 ∷ []); facts = []; outcome = after 8 catch_begun; lead = 0; rank = 3 }
+new_note = record { index = 1; place = with_operands (bare 0) (number 1 ∷ []); facts = []; outcome = after 8 catch_begun; lead = 0; rank = 3 }
 
 abbrev pub put_note : Note
-put_note = record { place = holding (with_operands (bare 0) (number 1 ∷ [])) (making number_typ untouched); facts = []; outcome = after 8 catch_begun; lead = 0; rank = 2 }
+put_note = record { index = 2; place = holding (with_operands (bare 0) (number 1 ∷ [])) (making number_typ untouched); facts = []; outcome = after 8 catch_begun; lead = 0; rank = 2 }
 
 abbrev pub throw_note : Note
-throw_note = record { place = holding (bare 0) (making number_typ (put 0 4 (number 1) untouched)); facts = []; outcome = after 8 catch_begun; lead = 2; rank = 1 }
+throw_note = record { index = 3; place = holding (bare 0) (making number_typ (put 0 4 (number 1) untouched)); facts = []; outcome = after 8 catch_begun; lead = 2; rank = 1 }
 
 abbrev pub take_note : Note
-take_note = record { place = in_handler []; facts = []; outcome = taking; lead = 2; rank = 3 }
+take_note = record { index = 4; place = in_handler []; facts = []; outcome = taking; lead = 2; rank = 3 }
 
 abbrev pub get_note : Note
-get_note = record { place = in_handler (local 0 ∷ []); facts = []; outcome = after 2 taking; lead = 0; rank = 2 }
+get_note = record { index = 5; place = in_handler (local 0 ∷ []); facts = []; outcome = after 2 taking; lead = 0; rank = 2 }
 
 abbrev pub store_note : Note
-store_note = record { place = in_handler (converted_to Int (field (unknown 0) 0 4) ∷ local 0 ∷ []); facts = []; outcome = after 2 taking; lead = 0; rank = 1 }
+store_note = record { index = 6; place = in_handler (converted_to Int (field (unknown 0) 0 4) ∷ local 0 ∷ []); facts = []; outcome = after 2 taking; lead = 0; rank = 1 }
 
 abbrev pub address_note : Note
-address_note = record { place = in_handler []; facts = []; outcome = handling; lead = 5; rank = 3 }
+address_note = record { index = 7; place = in_handler []; facts = []; outcome = handling; lead = 5; rank = 3 }
 
 abbrev pub load_note : Note
-load_note = record { place = in_handler (local 0 ∷ []); facts = []; outcome = after 5 handling; lead = 0; rank = 2 }
+load_note = record { index = 8; place = in_handler (local 0 ∷ []); facts = []; outcome = after 5 handling; lead = 0; rank = 2 }
 
 abbrev pub end_note : Note
-end_note = record { place = in_handler (converted_to Int (variable 0) ∷ []); facts = []; outcome = returning; lead = 1; rank = 1 }
+end_note = record { index = 9; place = in_handler (converted_to Int (variable 0) ∷ []); facts = []; outcome = returning; lead = 1; rank = 1 }
 
 abbrev pub ret_note : Note
-ret_note = record { place = with_operands (bare 0) (converted_to Int (variable 0) ∷ []); facts = []; outcome = after 1 returning; lead = 1; rank = 0 }
+ret_note = record { index = 10; place = with_operands (bare 0) (converted_to Int (variable 0) ∷ []); facts = []; outcome = after 1 returning; lead = 1; rank = 0 }
 
 abbrev pub catch_notes : List Note
 catch_notes = push_note ∷ new_note ∷ put_note ∷ throw_note ∷ take_note ∷ get_note ∷ store_note ∷ address_note ∷ load_note ∷ end_note ∷ ret_note ∷ []

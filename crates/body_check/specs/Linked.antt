@@ -37,12 +37,12 @@ pub record Stands (p : Program) (numbers : Typ → ℕ) (h : Held) (home : Home)
   pub values : Values
   pub are_words : AreWords values
   pub based : Based home limit values
-  pub index : ℕ
+  pub at : ℕ
   pub note : Note
-  pub is : slice_get h.notes index ≡ Some note
+  pub is : slice_get h.notes at ≡ Some note
   pub ranked : note.rank ≡ rank
   pub holds : AllHold p h.func values note.facts
-  pub frame : top ≡ frame_at p h.func numbers values home index note.place
+  pub frame : top ≡ frame_at p h.func numbers values home note.index note.place
   pub shows : Shows p h.func values rest note.outcome s
 
 -- both have stopped

@@ -1,4 +1,4 @@
--- A body with a note at each index: what the source has left to do there, and where the operands are; and when the notes fit.
+-- A body with notes at its indexes: what the source has left to do there, and where the operands are; and when the notes fit.
 use Rattle.std.specs.Prelude.{ℕ, zero, suc, ◌+◌, ◌-◌, ◌≡◌, ◌≤◌, ◌⊎◌, Bool, true, false, List, [], ◌∷◌, length, drop, Option, Some, None, slice_get, nat_le}
 use Rattle.tx_events.specs.declared.BlockKind.TheVariants.{NoExcept, Commit, Cancel}
 use Rattle.tx_events.specs.Thread.{Open, Atomic, Sync, rest_of}
@@ -18,9 +18,10 @@ use Rattle.symbolic_code.specs.Facts.{Fact, not_zero, has_function, in_facts, Al
 use Rattle.symbolic_code.specs.Places.{Place, Hold, nothing, making, flying, later, with_operands, holding, opened_later}
 use Rattle.symbolic_code.specs.Following.{Next, refused, quietly, either_way, unless_trap, loudly, throwing, finding, starting, rethrowing, ends}
 
--- at an index: the place, what is known of its words, what comes of the source, how many silent steps the source takes before the instruction, and a rank that falls
+-- at an index, of which there may be several, as one for each round of a loop: the place, what is known of its words, what comes of the source, how many silent steps the source takes before the instruction, and a rank that falls
 -- where the code goes on and the source does not
 pub record Note : Type 0 where
+  pub index : ℕ
   pub place : Place
   pub facts : List Fact
   pub outcome : Outcome
@@ -85,8 +86,10 @@ module _ (p : Program) (f : Func) (b : Bounds) (notes : List Note) where
   -- a way on leads to an index, with the terms of the way in the place of the note's variables, after some silent steps of the source,
   -- with these answers on unknown exceptions; what the note knows is among what is known
   pub record Lands (known : List Fact) (answers : Answers) (index : ℕ) (q : Place) (o : Outcome) : Type 0 where
+    pub at : ℕ
     pub note : Note
-    pub is : slice_get notes index ≡ Some note
+    pub is : slice_get notes at ≡ Some note
+    pub there : note.index ≡ index
     pub lag : ℕ
     pub terms : Replacing
     pub same_place : in_place terms note.place ≡ q

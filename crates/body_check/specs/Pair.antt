@@ -97,16 +97,16 @@ abbrev pub behind_call : List symbolic.Frame
 behind_call = Scope of_call true [] ∷ Returning ∷ Items none ∷ Scope of_block true [] ∷ []
 
 abbrev pub call_note : Note
-call_note = record { place = bare 0; facts = []; outcome = begun calling_func; lead = 4; rank = 1 }
+call_note = record { index = 0; place = bare 0; facts = []; outcome = begun calling_func; lead = 4; rank = 1 }
 
 abbrev pub back_note : Note
-back_note = record { place = with_operands (bare 0) (variable 0 ∷ []); facts = []; outcome = advanced pair_program calling_func no_answers 1 (goes silent [] (Gives (variable 0) ∷ behind_call)); lead = 2; rank = 0 }
+back_note = record { index = 1; place = with_operands (bare 0) (variable 0 ∷ []); facts = []; outcome = advanced pair_program calling_func no_answers 1 (goes silent [] (Gives (variable 0) ∷ behind_call)); lead = 2; rank = 0 }
 
 abbrev pub push_note : Note
-push_note = record { place = bare 0; facts = []; outcome = begun one_func; lead = 4; rank = 1 }
+push_note = record { index = 0; place = bare 0; facts = []; outcome = begun one_func; lead = 4; rank = 1 }
 
 abbrev pub ret_note : Note
-ret_note = record { place = with_operands (bare 0) (number 1 ∷ []); facts = []; outcome = advanced pair_program one_func no_answers 4 (begun one_func); lead = 1; rank = 0 }
+ret_note = record { index = 1; place = with_operands (bare 0) (number 1 ∷ []); facts = []; outcome = advanced pair_program one_func no_answers 4 (begun one_func); lead = 1; rank = 0 }
 
 abbrev pub notes_of : ℕ → List Note
 notes_of zero = call_note ∷ back_note ∷ []

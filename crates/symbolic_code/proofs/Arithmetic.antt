@@ -16,6 +16,7 @@ use Rattle.tx_ints.specs.Integers.{convert_of, reduced, apply_of}
 use Rattle.tx_ints.specs.Words.{word_of, value_of_word}
 use Rattle.tx_ints.proofs.ConversionLaws.{converts_into_range, zero_or_one, convert_keeps, convert_twice, converts_modulo, convert_same}
 use Rattle.tx_ints.proofs.WordLaws.{word_converts}
+use Rattle.tx_ints.proofs.Modulo.{Turns, rem_same}
 use Rattle.tx_code.specs.Meaning.{size_of, bits_of, right_kind}
 use Rattle.tx_code.specs.Meaning as code
 use Rattle.cpp_tree.specs.cpp_layout.Layout.{kind_size}
@@ -135,16 +136,20 @@ pub product_same : (a b : ℕ) → a < 2 ^ 64 → b < 2 ^ 64 → (z : ℤ) × (a
 unfolding apply_of
 product_same a b h g = (reduced ULong (pos (a * b)), ap₂ (λ u v. apply_of Mul ULong u v) (value_plain a h) (value_plain b g), address_word (a * b))
 
-pub less_same : (a : ℕ) → a < 2 ^ 64 → (a ≡ 0 → ⊥) → (z : ℤ) × (apply_of Sub ULong (value_of_word ULong a) (value_of_word ULong 1) ≡ Ok z) × (word_of z ≡ a - 1)
+-- a difference is taken modulo 2^64
+pub difference_same : (a n : ℕ) → a < 2 ^ 64 → n < 2 ^ 64 → (z : ℤ) × (apply_of Sub ULong (value_of_word ULong a) (value_of_word ULong n) ≡ Ok z) × (word_of z ≡ (a + (2 ^ 64 - n)) % 2 ^ 64)
 unfolding apply_of
-less_same a h g = (reduced ULong (pos (a - 1)), ap₂ (λ u v. apply_of Sub ULong u v) (value_plain a h) (value_plain 1 (omega arith)) ∙ ap (λ z. Ok (reduced ULong z)) (lower a g), address_word (a - 1) ∙ mod-eq_of_lt (less a h))
+difference_same a n h g = (reduced ULong (pos (a + (2 ^ 64 - n))), ap₂ (λ u v. apply_of Sub ULong u v) (value_plain a h) (value_plain n g) ∙ ap (λ z. Ok z) (turned a n g), address_word (a + (2 ^ 64 - n)))
   where
-    lower : (a : ℕ) → (a ≡ 0 → ⊥) → pos a -ℤ pos 1 ≡ pos (a - 1)
-    lower zero g = absurd (g refl)
-    lower (suc n) g = omega (arith, ints)
+    around : (a n : ℕ) → n < 2 ^ 64 → Turns (2 ^ 64) (pos a -ℤ pos n) (pos (a + (2 ^ 64 - n)))
+    around a n g = record { up = 1; down = 0; meet = omega (arith, ints, g) }
 
-    less : (a : ℕ) → a < 2 ^ 64 → a - 1 < 2 ^ 64
-    less a h = omega (arith, h)
+    turned : (a n : ℕ) → n < 2 ^ 64 → reduced ULong (pos a -ℤ pos n) ≡ reduced ULong (pos (a + (2 ^ 64 - n)))
+    turned a n g = convert_same ULong (pos a -ℤ pos n) (pos (a + (2 ^ 64 - n))) (λ e. cc) (rem_same (2 ^ 64) (pos a -ℤ pos n) (pos (a + (2 ^ 64 - n))) (omega arith) (around a n g))
+
+pub one_from : (a : ℕ) → a < 2 ^ 64 → (a ≡ 0 → ⊥) → (a + (2 ^ 64 - 1)) % 2 ^ 64 ≡ a - 1
+one_from zero h g = absurd (g refl)
+one_from (suc n) h g = omega (arith, h)
 
 pub equal_same : (a b : ℕ) → (z : ℤ) × (apply_of Eq ULong (value_of_word ULong a) (value_of_word ULong b) ≡ Ok z)
 unfolding apply_of

@@ -1,8 +1,8 @@
 -- An instruction does what is foreseen.
-use Rattle.std.proofs.Common.{ℕ, ℤ, pos, ◌≡◌, ◌+◌, ◌*◌, ◌%◌, ◌^◌, ◌<◌, ◌==◌, ◌&&◌, ◌||◌, ◌≤◌, inl, inr, nat_lt, Bool, true, false, not, cond, if◌then◌else◌, refl, ap, ap₂, sym, ◌∙◌, subst, List, [], ◌∷◌, Option, Some, None, Ok, Err}
-use Rattle.std.specs.Prelude.{slice_get, nat_eq, nat_le, length}
+use Rattle.std.proofs.Common.{ℕ, ℤ, pos, ◌≡◌, ◌+◌, ◌*◌, ◌%◌, ◌^◌, ◌<◌, ◌==◌, ◌&&◌, ◌||◌, ◌≤◌, inl, inr, nat_lt, Bool, true, false, not, cond, if◌then◌else◌, refl, ap, ap₂, sym, ◌∙◌, subst, List, [], ◌∷◌, Option, Some, None, Ok, Err, arith}
+use Rattle.std.specs.Prelude.{slice_get, ◌-◌, nat_eq, nat_le, length}
 use Rattle.src_mean.specs.Exceptions.{bytes_of, with_bytes, read_bytes}
-use Rattle.std.proofs.lemmas.Bool.{true≢false, and_parts, eqb-true, leb-true}
+use Rattle.std.proofs.lemmas.Bool.{true≢false, and_parts, eqb-true, eq-eqb, leb-true}
 use Rattle.tx_ints.specs.declared.kinds.IntKind.{IntKind}
 use Rattle.tx_events.specs.declared.Trap.TheVariants.{BadCall, BadVirtual}
 use Rattle.tx_ints.specs.declared.kinds.IntKind.TheVariants.{Bool as BoolKind, Int, Long, ULong}
@@ -41,11 +41,11 @@ use Rattle.std.proofs.Math.Nat.{mod-eq_of_lt, add-mod-mod}
 use Rattle.symbolic_code.specs.Same.{same_term, same_number, same_operator}
 use Rattle.symbolic_code.specs.Facts.{Fact, AllHold, is_not_zero}
 use Rattle.symbolic_code.proofs.Facts.{known_not_zero}
-use Rattle.symbolic_code.specs.Places.{Place, Hold, making, flying, all_coded, hold_of, frame_at, replied, later, place_later, opened_later}
-use Rattle.symbolic_code.specs.Following.{Table, Next, refused, unless_trap, loudly, one_of, two_of, if_found, pushes, same_flag, is_bool, kept, stored_term, loads, stores, outputs, inputs, joining, begins, begins_locked, ends_atomic, ends_locked, aborts, addresses, operates, jumps_zero, puts_in, throws_made, resumes, rethrows_caught, was_put, put_in, read_as, taken_word, gets_caught, handler_ends, bare_address, slots_follow, spawning, followed, Follows, AreNames}
+use Rattle.symbolic_code.specs.Places.{with_operands, Place, Hold, making, flying, all_coded, hold_of, frame_at, replied, later, place_later, opened_later}
+use Rattle.symbolic_code.specs.Following.{quietly, Table, Next, refused, unless_trap, loudly, one_of, two_of, if_found, pushes, same_flag, is_bool, kept, stored_term, loads, stores, outputs, inputs, joining, begins, begins_locked, ends_atomic, ends_locked, aborts, minus_number, less_one, or_less_one, addresses, operates, jumps_zero, puts_in, throws_made, resumes, rethrows_caught, was_put, put_in, read_as, taken_word, gets_caught, handler_ends, bare_address, slots_follow, spawning, followed, Follows, AreNames}
 use Rattle.symbolic_code.proofs.SameTerms.{term_same, number_same, operator_same}
 use Rattle.symbolic_code.proofs.Bytes.{put_same, get_same, no_bytes_same, bytes_low, with_length, put_read, read_apart}
-use Rattle.symbolic_code.proofs.Arithmetic.{size_same, bits_same, stored_converted, bool_same, short_number, low_number, right_same, trap_same, sum_same, product_same, less_same, value_plain, equal_same, conversion_same}
+use Rattle.symbolic_code.proofs.Arithmetic.{size_same, bits_same, stored_converted, bool_same, short_number, low_number, right_same, trap_same, sum_same, product_same, difference_same, one_from, value_plain, equal_same, conversion_same}
 use Rattle.symbolic_code.proofs.Later.{words_later, frame_later}
 
 flag_same : (a b : Bool) → same_flag a b ≡ true → a ≡ b
@@ -267,6 +267,43 @@ module _ (p : Program) (f : Func) (numbers : Typ → ℕ) (x : Values) (home : H
   if_less true w go a s h = h refl
   if_less false w go a s h = tt
 
+  if_term : (t : Bool) (w : Option Term) (go : Term → Next) (a : Act) (s : State) → (t ≡ true → Is (if_found w go) a s) → Is (if_found (cond t w None) go) a s
+  if_term true w go a s h = h refl
+  if_term false w go a s h = tt
+
+  less_by : (t : Bool) (m n : ℕ) (w : Term) (to : ℕ → Term) → nat_le n m ≡ t → (n ≤ m → (word (to m) + (2 ^ 64 - n)) % 2 ^ 64 ≡ word (to (m - n))) → cond t (Some (to (m - n))) None ≡ Some w → (word (to m) + (2 ^ 64 - n)) % 2 ^ 64 ≡ word w
+  less_by true m n w to is h e =
+      let same : to (m - n) ≡ w = cc in
+      h (leb-true n m is) ∙ ap (λ z. word z) same
+  less_by false m n w to is h e = absurd cc
+
+  minus_is : (a : Term) (n : ℕ) (w : Term) → n < 2 ^ 64 → minus_number a n ≡ Some w → (word a + (2 ^ 64 - n)) % 2 ^ 64 ≡ word w
+  unfolding source.plus
+  minus_is (number m) n w g e = less_by (nat_le n m) m n w (λ z. number z) refl (λ h. lower m n h g) e
+    where
+      lower : (m n : ℕ) → n ≤ m → n < 2 ^ 64 → (m % 2 ^ 64 + (2 ^ 64 - n)) % 2 ^ 64 ≡ (m - n) % 2 ^ 64
+      lower m n h g = omega (arith, h, g)
+  minus_is (local m) n w g e = less_by (nat_le n m) m n w (λ z. local z) refl (λ h. lower x.base m n h g) e
+    where
+      lower : (b m n : ℕ) → n ≤ m → n < 2 ^ 64 → ((b + m) % 2 ^ 64 + (2 ^ 64 - n)) % 2 ^ 64 ≡ (b + (m - n)) % 2 ^ 64
+      lower b m n h g = omega (arith, h, g)
+  minus_is (sum a (number m)) n w g e = less_by (nat_le n m) m n w (λ z. sum a (number z)) refl (λ h. lower (word a) m n h g) e
+    where
+      lower : (b m n : ℕ) → n ≤ m → n < 2 ^ 64 → ((b + m % 2 ^ 64) % 2 ^ 64 + (2 ^ 64 - n)) % 2 ^ 64 ≡ (b + (m - n) % 2 ^ 64) % 2 ^ 64
+      lower b m n h g = omega (arith, h, g)
+  minus_is a n w g e = absurd cc
+
+  less_follows : (ks : List Fact) (i : ℕ) (q : Place) (o : Outcome) (s : State) (a : Term) (n : ℕ) (ws : List Term) → word (number n) ≡ n → (z : Option Term) → minus_number a n ≡ z → AllHold p f x ks → Foreseen o s
+      → Is (if_found (or_less_one ks a n z) (λ w. pushes i q o w ws)) (operating i q Sub ULong a (number n) ws) s
+  less_follows ks i q o s a n ws kept_so (Some w) is known h =
+      let r = difference_same (word a) (word (number n)) (term_below p f x bounded a) (term_below p f x bounded (number n)) in
+      address_same i q o s Sub ULong a (number n) ws w r.0 r.1 (r.2 ∙ (ap (λ z. (word a + (2 ^ 64 - z)) % 2 ^ 64) kept_so ∙ minus_is a n w (subst (λ z. z < 2 ^ 64) kept_so (term_below p f x bounded (number n))) is)) h
+  less_follows ks i q o s a n ws kept_so None is known h = if_less ((n == 1) && is_not_zero ks a) (one_less a) (λ w. pushes i q o w ws) _ s (λ e.
+      let c = and_parts (n == 1) (is_not_zero ks a) e in
+      let r = difference_same (word a) (word (number n)) (term_below p f x bounded a) (term_below p f x bounded (number n)) in
+      address_same i q o s Sub ULong a (number n) ws (one_less a) r.0 r.1 (r.2 ∙ (ap (λ z. (word a + (2 ^ 64 - z)) % 2 ^ 64) (kept_so ∙ eqb-true n 1 c.0)
+      ∙ (one_from (word a) (term_below p f x bounded a) (known_not_zero p f x ks a c.1 known) ∙ sym (one_less_is p f x a)))) h)
+
   addresses_follow : (ks : List Fact) (i : ℕ) (q : Place) (o : Outcome) (s : State) (op : BinOp) (k : IntKind) (a b : Term) (ws : List Term) → AllHold p f x ks → Foreseen o s
       → Is (if_found (addresses ks op k a b) (λ w. pushes i q o w ws)) (operating i q op k a b ws) s
   addresses_follow ks i q o s Add ULong a (number n) ws known h =
@@ -275,11 +312,8 @@ module _ (p : Program) (f : Func) (numbers : Typ → ℕ) (x : Values) (home : H
   addresses_follow ks i q o s Add ULong a b ws known h =
       let r = sum_same (word a) (word b) (term_below p f x bounded a) (term_below p f x bounded b) in
       address_same i q o s Add ULong a b ws (sum a b) r.0 r.1 r.2 h
-  addresses_follow ks i q o s Sub ULong a (number n) ws known h = if_less ((n == 1) && is_not_zero ks a) (one_less a) (λ w. pushes i q o w ws) _ s (λ e.
-      let c = and_parts (n == 1) (is_not_zero ks a) e in
-      let r = less_same (word a) (term_below p f x bounded a) (known_not_zero p f x ks a c.1 known) in
-      let one : word (number n) ≡ 1 = ap (λ z. z % 2 ^ 64) (eqb-true n 1 c.0) in
-      address_same i q o s Sub ULong a (number n) ws (one_less a) r.0 (ap (λ z. apply_of Sub ULong (value_of_word ULong (word a)) (value_of_word ULong z)) one ∙ r.1) (r.2 ∙ sym (one_less_is p f x a)) h)
+  addresses_follow ks i q o s Sub ULong a (number n) ws known h = if_term (nat_lt n (2 ^ 64)) (or_less_one ks a n (minus_number a n)) (λ w. pushes i q o w ws) _ s (λ e.
+      less_follows ks i q o s a n ws (word_kept p f x n e) (minus_number a n) refl known h)
   addresses_follow ks i q o s Mul ULong a b ws known h =
       let r = product_same (word a) (word b) (term_below p f x bounded a) (term_below p f x bounded b) in
       address_same i q o s Mul ULong a b ws (product a b) r.0 r.1 r.2 h
@@ -328,10 +362,16 @@ module _ (p : Program) (f : Func) (numbers : Typ → ℕ) (x : Values) (home : H
       by_test true h = absurd (e (eqb-true (word a) 0 h))
       by_test false h = ap (λ (z : Bool). code.goes (Runs (code.at (frame i q) (if z then n else i + 1) (words ws)) below_frames)) h
 
+  by_number : (t : Bool) (i n : ℕ) (q : Place) (m : ℕ) (ws : List Term) (o : Outcome) (s : State) → (m % 2 ^ 64 == 0) ≡ t → Foreseen o s
+      → Is (cond t (quietly n (with_operands q ws) o) (quietly (i + 1) (with_operands q ws) o)) (jumping i n q (number m) ws) s
+  by_number true i n q m ws o s e h = (jump_zero i n q (number m) ws (eqb-true (m % 2 ^ 64) 0 e), h)
+  by_number false i n q m ws o s e h = (jump_other i n q (number m) ws (λ g. true≢false (sym (eq-eqb (m % 2 ^ 64) 0 g) ∙ e)), h)
+
   jumps_follow : (i n : ℕ) (q : Place) (a : Term) (ws : List Term) (o : Outcome) (s : State) → Foreseen o s → Is (jumps_zero i n q a ws o) (jumping i n q a ws) s
   jumps_follow i n q a ws (chooses w first other) s h = test_follows (same_term a w) _ _ s (λ e.
       let same = ap (λ z. word z) (term_same a w e) in
       (λ g. (jump_zero i n q a ws g, h.0 (sym same ∙ g)), λ g. (jump_other i n q a ws g, h.1 (λ l. g (same ∙ l)))))
+  jumps_follow i n q (number m) ws o s h = by_number (m % 2 ^ 64 == 0) i n q m ws o s refl h
   jumps_follow i n q a ws o s h = (λ g. (jump_zero i n q a ws g, h), λ g. (jump_other i n q a ws g, h))
 
   conversion_follows : (i n : ℕ) (q : Place) (o : Outcome) (s : State) → Foreseen o s → Is (if_found (slice_get code.kinds n) (λ k. one_of q.operands (λ a ws. pushes i q o (converted_to k a) ws))) (code.conv_act 9 n (frame i q) below_frames) s

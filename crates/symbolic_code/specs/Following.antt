@@ -1,5 +1,5 @@
 -- What an instruction does, with terms as operands, where the source does this next.
-use Rattle.std.specs.Prelude.{ℕ, ◌+◌, ◌==◌, ◌^◌, ℤ, ◌≡◌, Bool, true, false, not, cond, nat_lt, nat_le, ◌&&◌, ◌||◌, List, [], ◌∷◌, Option, Some, None, Ok, Err, slice_get}
+use Rattle.std.specs.Prelude.{ℕ, ◌+◌, ◌-◌, ◌%◌, ◌==◌, ◌^◌, ℤ, ◌≡◌, Bool, true, false, not, cond, nat_lt, nat_le, ◌&&◌, ◌||◌, List, [], ◌∷◌, Option, Some, None, Ok, Err, slice_get}
 use Rattle.tx_ints.specs.declared.kinds.IntKind.{IntKind}
 use Rattle.tx_ints.specs.declared.kinds.IntKind.TheVariants.{Bool as BoolKind, ULong}
 use Rattle.tx_ints.specs.declared.kinds.BinOp.{BinOp}
@@ -142,11 +142,25 @@ aborts o = refused
 
 -- ---- operators and jumps
 
--- sums and products of addresses, one less of what is not 0, and the test of a label: they do not trap
+-- a number less, where it is seen that none is borrowed
+abbrev pub minus_number : Term → ℕ → Option Term
+minus_number (number m) n = cond (nat_le n m) (Some (number (m - n))) None
+minus_number (local m) n = cond (nat_le n m) (Some (local (m - n))) None
+minus_number (sum a (number m)) n = cond (nat_le n m) (Some (sum a (number (m - n)))) None
+minus_number a n = None
+
+abbrev pub less_one : List Fact → Term → ℕ → Option Term
+less_one ks a n = cond ((n == 1) && is_not_zero ks a) (Some (one_less a)) None
+
+abbrev pub or_less_one : List Fact → Term → ℕ → Option Term → Option Term
+or_less_one ks a n None = less_one ks a n
+or_less_one ks a n (Some w) = Some w
+
+-- sums, products and differences of addresses, one less of what is not 0, and the test of a label: they do not trap
 abbrev pub addresses : List Fact → BinOp → IntKind → Term → Term → Option Term
 addresses ks Add ULong a (number n) = Some (plus_number a n)
 addresses ks Add ULong a b = Some (sum a b)
-addresses ks Sub ULong a (number n) = cond ((n == 1) && is_not_zero ks a) (Some (one_less a)) None
+addresses ks Sub ULong a (number n) = cond (nat_lt n (2 ^ 64)) (or_less_one ks a n (minus_number a n)) None
 addresses ks Mul ULong a b = Some (product a b)
 addresses ks Eq ULong a b = Some (result Eq ULong a b)
 addresses ks op k a b = None
@@ -159,6 +173,7 @@ operates ks i q op k a b ws o = if_found (addresses ks op k a b) (λ w. pushes i
 
 abbrev pub jumps_zero : ℕ → ℕ → Place → Term → List Term → Outcome → Next
 jumps_zero i n q a ws (chooses w first other) = cond (same_term a w) (either_way a (quietly n (with_operands q ws) first) (quietly (i + 1) (with_operands q ws) other)) refused
+jumps_zero i n q (number m) ws o = cond (m % 2 ^ 64 == 0) (quietly n (with_operands q ws) o) (quietly (i + 1) (with_operands q ws) o)
 jumps_zero i n q a ws o = either_way a (quietly n (with_operands q ws) o) (quietly (i + 1) (with_operands q ws) o)
 
 -- ---- exceptions
