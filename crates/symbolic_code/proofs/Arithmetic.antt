@@ -5,7 +5,6 @@ use Rattle.std.specs.Prelude.{◌-◌, ◌-ℤ◌, unsigned_abs}
 use Rattle.std.specs.Int.{int_rem_euclid}
 use Rattle.std.proofs.lemmas.Bool.{true≢false}
 use Rattle.std.proofs.Math.Pow.{mod-mod-pow}
-use Rattle.std.proofs.Math.Nat.{mod-eq_of_lt}
 use Rattle.tx_ints.specs.declared.kinds.IntKind.{IntKind}
 use Rattle.tx_ints.specs.declared.kinds.IntKind.TheVariants.{Bool as BoolKind, Char, SChar, UChar, Short, UShort, Int, UInt, Long, ULong, LLong, ULLong}
 use Rattle.tx_ints.specs.declared.kinds.BinOp.{BinOp}

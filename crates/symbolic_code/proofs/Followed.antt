@@ -42,7 +42,7 @@ use Rattle.symbolic_code.specs.Same.{same_term, same_number, same_operator}
 use Rattle.symbolic_code.specs.Facts.{Fact, AllHold, is_not_zero}
 use Rattle.symbolic_code.proofs.Facts.{known_not_zero}
 use Rattle.symbolic_code.specs.Places.{with_operands, Place, Hold, making, flying, all_coded, hold_of, frame_at, replied, later, place_later, opened_later}
-use Rattle.symbolic_code.specs.Following.{quietly, Table, Next, refused, unless_trap, loudly, one_of, two_of, if_found, pushes, same_flag, is_bool, kept, stored_term, loads, stores, outputs, inputs, joining, begins, begins_locked, ends_atomic, ends_locked, aborts, minus_number, less_one, or_less_one, addresses, operates, jumps_zero, puts_in, throws_made, resumes, rethrows_caught, was_put, put_in, read_as, taken_word, gets_caught, handler_ends, bare_address, slots_follow, spawning, followed, Follows, AreNames}
+use Rattle.symbolic_code.specs.Following.{times, quietly, Table, Next, refused, unless_trap, loudly, one_of, two_of, if_found, pushes, same_flag, is_bool, kept, stored_term, loads, stores, outputs, inputs, joining, begins, begins_locked, ends_atomic, ends_locked, aborts, minus_number, or_less_one, addresses, operates, jumps_zero, puts_in, throws_made, resumes, rethrows_caught, was_put, put_in, read_as, taken_word, gets_caught, handler_ends, bare_address, slots_follow, spawning, followed, Follows, AreNames}
 use Rattle.symbolic_code.proofs.SameTerms.{term_same, number_same, operator_same}
 use Rattle.symbolic_code.proofs.Bytes.{put_same, get_same, no_bytes_same, bytes_low, with_length, put_read, read_apart}
 use Rattle.symbolic_code.proofs.Arithmetic.{size_same, bits_same, stored_converted, bool_same, short_number, low_number, right_same, trap_same, sum_same, product_same, difference_same, one_from, value_plain, equal_same, conversion_same}
@@ -261,7 +261,7 @@ module _ (p : Program) (f : Func) (numbers : Typ → ℕ) (x : Values) (home : H
 
   number_sum : (a : Term) (n : ℕ) → source.plus (word a) (word (number n)) ≡ word (plus_number a n)
   unfolding source.plus
-  number_sum a n = add-mod-mod (word a) n (2 ^ 64) ∙ sym (plus_number_is p f x a n)
+  number_sum a n = add-mod-mod (word a) n (2 ^ 64) ∙ sym (plus_number_is p f x bounded a n)
 
   if_less : (t : Bool) (w : Term) (go : Term → Next) (a : Act) (s : State) → (t ≡ true → Is (go w) a s) → Is (if_found (cond t (Some w) None) go) a s
   if_less true w go a s h = h refl
@@ -304,6 +304,13 @@ module _ (p : Program) (f : Func) (numbers : Typ → ℕ) (x : Values) (home : H
       address_same i q o s Sub ULong a (number n) ws (one_less a) r.0 r.1 (r.2 ∙ (ap (λ z. (word a + (2 ^ 64 - z)) % 2 ^ 64) (kept_so ∙ eqb-true n 1 c.0)
       ∙ (one_from (word a) (term_below p f x bounded a) (known_not_zero p f x ks a c.1 known) ∙ sym (one_less_is p f x a)))) h)
 
+  times_is : (t : Bool) (m : ℕ) (b : Term) → (m == 0) ≡ t → (word (number m) * word b) % 2 ^ 64 ≡ word (times t m b)
+  times_is true m b e = ap (λ z. (z % 2 ^ 64 * word b) % 2 ^ 64) (eqb-true m 0 e) ∙ nothing (word b)
+    where
+      nothing : (n : ℕ) → (0 * n) % 2 ^ 64 ≡ 0
+      nothing n = omega arith
+  times_is false m b e = refl
+
   addresses_follow : (ks : List Fact) (i : ℕ) (q : Place) (o : Outcome) (s : State) (op : BinOp) (k : IntKind) (a b : Term) (ws : List Term) → AllHold p f x ks → Foreseen o s
       → Is (if_found (addresses ks op k a b) (λ w. pushes i q o w ws)) (operating i q op k a b ws) s
   addresses_follow ks i q o s Add ULong a (number n) ws known h =
@@ -314,6 +321,9 @@ module _ (p : Program) (f : Func) (numbers : Typ → ℕ) (x : Values) (home : H
       address_same i q o s Add ULong a b ws (sum a b) r.0 r.1 r.2 h
   addresses_follow ks i q o s Sub ULong a (number n) ws known h = if_term (nat_lt n (2 ^ 64)) (or_less_one ks a n (minus_number a n)) (λ w. pushes i q o w ws) _ s (λ e.
       less_follows ks i q o s a n ws (word_kept p f x n e) (minus_number a n) refl known h)
+  addresses_follow ks i q o s Mul ULong (number m) b ws known h =
+      let r = product_same (word (number m)) (word b) (term_below p f x bounded (number m)) (term_below p f x bounded b) in
+      address_same i q o s Mul ULong (number m) b ws (times (m == 0) m b) r.0 r.1 (r.2 ∙ times_is (m == 0) m b refl) h
   addresses_follow ks i q o s Mul ULong a b ws known h =
       let r = product_same (word a) (word b) (term_below p f x bounded a) (term_below p f x bounded b) in
       address_same i q o s Mul ULong a b ws (product a b) r.0 r.1 r.2 h

@@ -156,11 +156,17 @@ abbrev pub or_less_one : List Fact → Term → ℕ → Option Term → Option T
 or_less_one ks a n None = less_one ks a n
 or_less_one ks a n (Some w) = Some w
 
+-- a number times a word, where it is told whether it is 0
+abbrev pub times : (zero : Bool) → ℕ → Term → Term
+times true m b = number 0
+times false m b = product (number m) b
+
 -- sums, products and differences of addresses, one less of what is not 0, and the test of a label: they do not trap
 abbrev pub addresses : List Fact → BinOp → IntKind → Term → Term → Option Term
 addresses ks Add ULong a (number n) = Some (plus_number a n)
 addresses ks Add ULong a b = Some (sum a b)
 addresses ks Sub ULong a (number n) = cond (nat_lt n (2 ^ 64)) (or_less_one ks a n (minus_number a n)) None
+addresses ks Mul ULong (number m) b = Some (times (m == 0) m b)
 addresses ks Mul ULong a b = Some (product a b)
 addresses ks Eq ULong a b = Some (result Eq ULong a b)
 addresses ks op k a b = None

@@ -69,11 +69,11 @@ module _ (p : Program) (f : Func) (x : Values) (answers : Answers) (rest : List 
 
   take_bytes_shown : (ws : List Waiting) (e : Exception) (base : Term) (offset : ℕ) (kind : IntKind) (k : List Frame)
       → Is (take_bytes p f answers ws e base offset kind k) (source.write (h_of ws) (plus (word base) offset) kind false (read_bytes (exception_of p f x e).bytes offset (kind_size kind)) (frames.Gives 0 ∷ k_of k))
-  take_bytes_shown ws e base offset kind k = ap₂ (λ a b. frames.at (Writes a (kind_size kind) b false) (h_of ws) (frames.Gives 0 ∷ k_of k)) (sym (plus_number_is p f x base offset)) (sym (stored_kept p f x kind (read_bytes (exception_of p f x e).bytes offset (kind_size kind))))
+  take_bytes_shown ws e base offset kind k = ap₂ (λ a b. frames.at (Writes a (kind_size kind) b false) (h_of ws) (frames.Gives 0 ∷ k_of k)) (sym (plus_number_is p f x bounded base offset)) (sym (stored_kept p f x kind (read_bytes (exception_of p f x e).bytes offset (kind_size kind))))
 
   fill_field_shown : (ws : List Waiting) (t : Typ) (from : Term) (kind : TKind) (others : Trees) (puts : Puts) (k : List Frame)
       → Is (fill_field p f answers ws t from kind others puts k) (source.fill_field (h_of ws) t (word from) kind others (bytes_put p f x puts) (k_of k))
-  fill_field_shown ws t from (Field offset kind) others puts k = cond_shown p f x rest (is_object_typ t) _ _ _ _ (ap (λ z. frames.at (Reads z (kind_size kind) false) (h_of ws) (frames.Loaded kind ∷ frames.Filled t (word from) offset kind others (bytes_put p f x puts) ∷ k_of k)) (sym (plus_number_is p f x from offset))) refl
+  fill_field_shown ws t from (Field offset kind) others puts k = cond_shown p f x rest (is_object_typ t) _ _ _ _ (ap (λ z. frames.at (Reads z (kind_size kind) false) (h_of ws) (frames.Loaded kind ∷ frames.Filled t (word from) offset kind others (bytes_put p f x puts) ∷ k_of k)) (sym (plus_number_is p f x bounded from offset))) refl
   fill_field_shown ws t from kind others puts k = refl
 
   rethrown_shown : (ws : List Waiting) (k j : List Frame) → Is (rethrown p f answers ws (handled k) j) (source.rethrow (h_of ws) (frames.handled (k_of k)) (k_of j))
@@ -85,7 +85,7 @@ module _ (p : Program) (f : Func) (x : Values) (answers : Answers) (rest : List 
 
   destroyed_shown : (ws : List Waiting) (address : Term) (kind : TKind) (others : Trees) (k : List Frame) → Is (destroyed p f answers ws address kind others k) (source.destroy p (h_of ws) (word address) kind others (k_of k))
   destroyed_shown ws address (Destroy g offset count stride) others k = if_word_shown p f x rest count _ _ (λ e.
-      ap₂ (λ a b. frames.at Silent (h_of ws) (frames.Destroys (p.number f.unit g) a stride b ∷ frames.Gives (word address) ∷ frames.Due others ∷ k_of k)) (sym (plus_number_is p f x address offset)) (sym (word_kept p f x count e)))
+      ap₂ (λ a b. frames.at Silent (h_of ws) (frames.Destroys (p.number f.unit g) a stride b ∷ frames.Gives (word address) ∷ frames.Due others ∷ k_of k)) (sym (plus_number_is p f x bounded address offset)) (sym (word_kept p f x count e)))
   destroyed_shown ws address kind others k = refl
 
   one_more : (c : ℕ) → (c ≡ 0 → ⊥) → c ≡ suc (c - 1)
@@ -106,7 +106,7 @@ module _ (p : Program) (f : Func) (x : Values) (answers : Answers) (rest : List 
   next_each ws v init destroys stride count target from k h =
       ap (λ z. source.give p (h_of ws) v (frames.Each init destroys stride z (word target) (word from) ∷ k_of k)) (counted count h)
       ∙ ap₂ (λ a b. frames.at Silent (h_of ws) (frames.Run (frames.into (word target) (word from)) init ∷ frames.Waits frames.of_pieces (literal (word target)) destroys ∷ frames.Each init destroys stride (word (one_less count)) a b ∷ k_of k))
-      (sym (plus_number_is p f x target stride)) (sym (plus_number_is p f x from stride))
+      (sym (plus_number_is p f x bounded target stride)) (sym (plus_number_is p f x bounded from stride))
 
   -- Switches
 
@@ -165,7 +165,7 @@ module _ (p : Program) (f : Func) (x : Values) (answers : Answers) (rest : List 
   ran_shown ws (into target from) Pieces kids done go k g = refl
   ran_shown ws way (Piece offset) kids done go k g =
       ap₂ (λ a b. frames.at Silent (h_of ws) (frames.Run (frames.into a b) (first kids) ∷ frames.Waits frames.of_pieces (literal a) (others_of kids) ∷ k_of k))
-      (ap (λ z. plus z offset) (sym (target_is p f x rest way)) ∙ sym (plus_number_is p f x (target_of way) offset)) (ap (λ z. plus z offset) (sym (source_is p f x rest way)) ∙ sym (plus_number_is p f x (source_of way) offset))
+      (ap (λ z. plus z offset) (sym (target_is p f x rest way)) ∙ sym (plus_number_is p f x bounded (target_of way) offset)) (ap (λ z. plus z offset) (sym (source_is p f x rest way)) ∙ sym (plus_number_is p f x bounded (source_of way) offset))
   ran_shown ws way (Elements count stride) kids done go k g = if_word_shown p f x rest count _ _ (λ e.
       ap (λ z. frames.at Silent (h_of ws) (frames.Each (first kids) (others_of kids) stride z (source.target_of (way_of p f x way)) (source.source_of (way_of p f x way)) ∷ frames.Scope frames.of_pieces false [] ∷ k_of k)) (sym (word_kept p f x count e))
       ∙ ap₂ (λ a b. frames.at Silent (h_of ws) (frames.Each (first kids) (others_of kids) stride (word (number count)) a b ∷ frames.Scope frames.of_pieces false [] ∷ k_of k)) (sym (target_is p f x rest way)) (sym (source_is p f x rest way)))
@@ -238,7 +238,7 @@ module _ (p : Program) (f : Func) (x : Values) (answers : Answers) (rest : List 
   given_shown ws v (CopyBy target init ∷ k) = refl
   given_shown ws v (From target init ∷ k) = refl
   given_shown ws v (Words callee before others ∷ k) = subst (λ z. Is (given p f answers ws v (Words callee before others ∷ k)) (source.next_word p (h_of ws) (callee_of p f x callee) z others (k_of k))) (words_join p f x rest before v) (next_shown p f x rest ws callee (before ++ v ∷ []) others k)
-  given_shown ws v (Object before class slot offset words ∷ k) = ap₂ (λ a b. frames.at (Reads a 8 false) (h_of ws) (frames.Slot b class slot words ∷ k_of k)) (sym (plus_number_is p f x v offset)) (sym (words_join p f x rest before v))
+  given_shown ws v (Object before class slot offset words ∷ k) = ap₂ (λ a b. frames.at (Reads a 8 false) (h_of ws) (frames.Slot b class slot words ∷ k_of k)) (sym (plus_number_is p f x bounded v offset)) (sym (words_join p f x rest before v))
   given_shown ws v (Slot before class slot words ∷ k) = found_shown ws class slot v before words k (p.slot (word v) class slot) refl
   given_shown ws v (Pointer before sig words ∷ k) = called_shown p f x rest ws (pointer v sig) before words k
   given_shown ws v (Passes [] places ∷ k) = given_shown ws (number 0) k

@@ -1,9 +1,9 @@
 -- Terms: each stands for a word, and sums with numbers.
-use Rattle.std.proofs.Common.{ℕ, zero, ℤ, ◌≡◌, ◌+◌, ◌-◌, ◌*◌, ◌%◌, ◌^◌, ◌<◌, nat_lt, Bool, true, false, cond, refl, ap, sym, ◌∙◌, Result, Ok, Err, arith}
+use Rattle.std.proofs.Common.{ℕ, zero, ℤ, ◌≡◌, ◌+◌, ◌-◌, ◌*◌, ◌%◌, ◌^◌, ◌<◌, ◌==◌, nat_lt, Bool, true, false, cond, refl, ap, sym, ◌∙◌, Result, Ok, Err, arith}
 use Rattle.std.proofs.Math.Nat.{mod-lt, add-mod-mod, mod-add-mod, mod-eq_of_lt}
 use Rattle.std.proofs.Math.Pow.{mod-mod-pow}
 use Rattle.std.proofs.lemmas.Nat.{pow_pos, mul-mod_second}
-use Rattle.std.proofs.lemmas.Bool.{ltb-true}
+use Rattle.std.proofs.lemmas.Bool.{ltb-true, eqb-true}
 use Rattle.cpp_tree.specs.tx_ints.declared.kinds.IntKind.{IntKind}
 use Rattle.cpp_tree.specs.tx_ints.declared.kinds.IntKind.TheVariants.{Bool as BoolKind, Char, SChar, UChar, Short, UShort, Int, UInt, Long, ULong, LLong, ULLong}
 use Rattle.cpp_tree.specs.tx_ints.declared.kinds.ArithTrap.{ArithTrap}
@@ -46,13 +46,6 @@ module _ (p : Program) (f : Func) (x : Values) where
 
       second : (a m n : ℕ) → a + n + m ≡ a + m + n
       second a m n = omega arith
-
-  pub plus_number_is : (t : Term) (n : ℕ) → eval p f x (plus_number t n) ≡ plus (eval p f x t) n
-  unfolding plus
-  plus_number_is (number m) n = sym (mod-add-mod m (2 ^ 64) n)
-  plus_number_is (local offset) n = further x.base offset n
-  plus_number_is (sum a (number m)) n = numbers (eval p f x a) m n
-  plus_number_is a n = sum_number (eval p f x a) n
 
   pub one_less_is : (t : Term) → eval p f x (one_less t) ≡ eval p f x t - 1
   one_less_is (number n) = by_test (nat_lt n (2 ^ 64)) refl
@@ -109,6 +102,18 @@ module _ (p : Program) (f : Func) (x : Values) (bounded : AreWords x) where
     where
       nothing : (n : ℕ) → n + 0 ≡ n
       nothing n = omega arith
+
+  offset_is : (b : Bool) (a : Term) (n : ℕ) → (n == 0) ≡ b → eval p f x (cond b a (sum a (number n))) ≡ plus (eval p f x a) n
+  unfolding plus
+  offset_is true a n e = sym (plus_zero a) ∙ ap (λ z. plus (eval p f x a) z) (sym (eqb-true n 0 e))
+  offset_is false a n e = sum_number p f x (eval p f x a) n
+
+  pub plus_number_is : (t : Term) (n : ℕ) → eval p f x (plus_number t n) ≡ plus (eval p f x t) n
+  unfolding plus
+  plus_number_is (number m) n = sym (mod-add-mod m (2 ^ 64) n)
+  plus_number_is (local offset) n = further p f x x.base offset n
+  plus_number_is (sum a (number m)) n = numbers p f x (eval p f x a) m n
+  plus_number_is a n = offset_is (n == 0) a n refl
 
   element_word : (a m stride : ℕ) → plus a ((m * (stride % 2 ^ 64)) % 2 ^ 64) ≡ plus a (m * stride)
   unfolding plus

@@ -1,5 +1,5 @@
 -- Words as terms over variables.
-use Rattle.std.specs.Prelude.{ℕ, ℤ, ◌+◌, ◌-◌, ◌*◌, ◌%◌, ◌^◌, nat_lt, cond, List, Option, Some, None, Result, Ok, Err}
+use Rattle.std.specs.Prelude.{ℕ, ℤ, ◌+◌, ◌-◌, ◌*◌, ◌%◌, ◌^◌, nat_lt, cond, List, Option, Some, None, Result, Ok, Err, ◌==◌}
 use Rattle.cpp_tree.specs.tx_ints.declared.kinds.IntKind.{IntKind}
 use Rattle.cpp_tree.specs.tx_ints.declared.kinds.BinOp.{BinOp}
 use Rattle.cpp_tree.specs.tx_ints.declared.kinds.ArithTrap.{ArithTrap}
@@ -82,12 +82,15 @@ abbrev mutual
   bytes_put p f x untouched = no_bytes
   bytes_put p f x (put offset size w puts) = with_bytes offset (bytes_of size (eval p f x w)) (bytes_put p f x puts)
 
--- a sum with a number, as it is written: numbers are added at once
+abbrev pub at_offset : Term → ℕ → Term
+at_offset a n = cond (n == 0) a (sum a (number n))
+
+-- a sum with a number, as it is written: numbers are added at once, and 0 is not
 abbrev pub plus_number : Term → ℕ → Term
 plus_number (number m) n = number (m + n)
 plus_number (local offset) n = local (offset + n)
 plus_number (sum a (number m)) n = sum a (number (m + n))
-plus_number a n = sum a (number n)
+plus_number a n = at_offset a n
 
 abbrev pub one_less : Term → Term
 one_less (number n) = cond (nat_lt n (2 ^ 64)) (number (n - 1)) (before (number n))
