@@ -75,6 +75,7 @@ main_links = record {
   frames = λ n safe. refl;
   rows = λ n safe body e. rows_there body e;
   stops = λ n safe. refl;
+  stops_so = λ n safe. refl;
   cancels = λ t. cancels_same t;
   checked = λ n safe body e. main_checked n safe;
   names = λ n safe. record { globals = λ s m e. absurd cc; functions = λ s m e. absurd cc; classes = λ s m e. absurd cc; types = λ s t e. absurd cc; addresses = λ n. refl; slots = λ s class e a slot. absurd cc; spawned = λ a. refl; signatures = λ s sig e a. absurd cc; methods = λ s class slot a n e. absurd cc };

@@ -49,7 +49,7 @@ call_fits safe = record {
         some = omega arith;
         short = omega arith;
       };
-      thrown = record {
+      thrown = λ may. record {
         rank = 0;
         low = omega arith;
         fits = λ t is. record {
@@ -129,6 +129,7 @@ pair_links = record {
   frames = λ n safe. size_of n;
   rows = λ n safe body e. ap (λ (z : BodyView). map (renamed_row itself) z.rows) (sym (body_there n body e)) ∙ no_rows n;
   stops = λ n safe. no_stops n;
+  stops_so = λ n safe. sym (no_stops n);
   cancels = λ t. cancels_same t;
   checked = λ n safe body e. pair_checked n safe;
   names = λ n safe. record { globals = λ s m e. absurd cc; functions = λ s m e. ap function_address (called_right s m e); classes = λ s m e. absurd cc; types = λ s t e. absurd cc; addresses = λ n. refl; slots = λ s class e a slot. absurd cc; spawned = λ a. refl; signatures = λ s sig e a. absurd cc; methods = λ s class slot a n e. absurd cc };

@@ -130,11 +130,15 @@ module _ (p : Program) (names : Names) (b : Bounds) (book : Book) (id : ℕ) (li
         none : (n : ℕ) → n + 0 ≡ n
         none n = omega arith
 
-    enter_at : (into : Bool) (m : ℕ) (body : BodyView) → names.body m into ≡ Some body → (words under : List Term) (ws : List Waiting) (k : List Form) → count_of words ≡ book.takes m → Behind p b book (book.gives m) h note.facts note.index note.place under ws k
+    -- what holds behind a function that may let exceptions out holds behind any
+    may_throw : (gives stops : Bool) (under : List Term) (ws : List Waiting) (k : List Form) → Behind p b book gives false h note.facts note.index note.place under ws k → Behind p b book gives stops h note.facts note.index note.place under ws k
+    may_throw gives stops under ws k behind = record { back = behind.back; thrown = λ e. behind.thrown refl; opens = behind.opens; caught = behind.caught }
+
+    enter_at : (into : Bool) (m : ℕ) (body : BodyView) → names.body m into ≡ Some body → (words under : List Term) (ws : List Waiting) (k : List Form) → count_of words ≡ book.takes m → Behind p b book (book.gives m) (book.stops m) h note.facts note.index note.place under ws k
         → (into ≡ true → no_atomic (note.place.opens ++ code.blocks_in fs) ≡ false) → (t : State) → Path (source p) note.lead s t → note.lead + 1 ≤ b.half → t ≡ enter (here_of p h.func x ws) (words_of p h.func x words) (p.func m) (below p h.func x k r.rest)
         → step_act names (Runs frame fs) ≡ code.enter_act names m into (words_of p h.func x words) (under_frame under) fs → Makes rank s (Runs frame fs)
     enter_at into m body there words under ws k count behind cover t path short g e =
-        call_move p names b book id links small n safe base x r.stands.are_words r.stands.based note.index note.place fs r.rest m into body there r.body r.there words under ws k count note.facts r.stands.holds behind r.covered cover r.callers
+        call_move p names b book id links small n safe base x r.stands.are_words r.stands.based note.index note.place fs r.rest m into body there r.body r.there words under ws k count note.facts r.stands.holds (subst (λ z. Behind p b book (book.gives m) z h note.facts note.index note.place under ws k) (sym (links.stops_so m into)) behind) r.covered cover r.callers
         note.lead rank s t (Runs frame fs) path short e g
 
     call_at : (into : Bool) (name count : ℕ) → (into ≡ true → no_atomic (note.place.opens ++ code.blocks_in fs) ≡ false) → note.lead + 1 ≤ b.half → (foreseen : is_stuck (advanced p h.func no_answers note.lead note.outcome) ≡ false)
@@ -150,7 +154,7 @@ module _ (p : Program) (names : Names) (b : Bounds) (book : Book) (id : ℕ) (li
         ∙ ap (λ o. code.if_some o code.Lost (λ y. code.enter_act names m into (words_of p h.func x c.words) (under_frame c.under) fs)) found.1)))
 
     -- a function that was found
-    module _ (into : Bool) (m count : ℕ) (gives : Bool) (whole : Whole names book m count gives) (words under : List Term) (ws : List Waiting) (k : List Form) (counts : count_of words ≡ count) (behind : Behind p b book gives h note.facts note.index note.place under ws k)
+    module _ (into : Bool) (m count : ℕ) (gives : Bool) (whole : Whole names book m count gives) (words under : List Term) (ws : List Waiting) (k : List Form) (counts : count_of words ≡ count) (behind : Behind p b book gives false h note.facts note.index note.place under ws k)
         (cover : into ≡ true → no_atomic (note.place.opens ++ code.blocks_in fs) ≡ false) (t : State) (path : Path (source p) note.lead s t) (short : note.lead + 1 ≤ b.half) where
       abbrev on : List frames.Frame
       on = below p h.func x k r.rest
@@ -165,7 +169,7 @@ module _ (p : Program) (names : Names) (b : Bounds) (book : Book) (id : ℕ) (li
       blocks_are = blocks_below p h.func x r.rest k ∙ ap₂ (λ (u v : List Open). u ++ v) (sym behind.opens) (sym (callers_blocks p names b book id links small (book.gives n) h.func.stops fs r.rest r.callers))
 
       found_enters : (body : BodyView) → names.body m into ≡ Some body → t ≡ enter (here_of p h.func x ws) (words_of p h.func x words) (p.func m) on → step_act names (Runs frame fs) ≡ enters → Makes rank s (Runs frame fs)
-      found_enters body there g e = enter_at into m body there words under ws k (counts ∙ sym whole.takes) (subst (λ z. Behind p b book z h note.facts note.index note.place under ws k) (sym whole.gives_so) behind) cover t path short g
+      found_enters body there g e = enter_at into m body there words under ws k (counts ∙ sym whole.takes) (may_throw (book.gives m) (book.stops m) under ws k (subst (λ z. Behind p b book z false h note.facts note.index note.place under ws k) (sym whole.gives_so) behind)) cover t path short g
           (e ∙ ap (λ o. code.if_some o code.Lost (λ y. code.enter_act names m into (words_of p h.func x words) (under_frame under) fs)) there)
 
       abbrev finding : Bool → State
@@ -200,15 +204,15 @@ module _ (p : Program) (names : Names) (b : Bounds) (book : Book) (id : ℕ) (li
     calls_found into o words under = code.if_some o (code.traps BadCall) (λ m. code.checked_act names m (code.in_transaction frame fs) (code.entered_act names m into (words_of p h.func x words) (under_frame under) fs))
 
     pointer_at : (into : Bool) (count : ℕ) (gives : Bool) (a : ℕ) (sig : Signature) → count ≡ book.takes_as sig → gives ≡ book.gives_as sig → (words under : List Term) (ws : List Waiting) (k : List Form) → count_of words ≡ count
-        → Behind p b book gives h note.facts note.index note.place under ws k → (into ≡ true → no_atomic (note.place.opens ++ code.blocks_in fs) ≡ false) → (t : State) → Path (source p) note.lead s t → note.lead + 1 ≤ b.half
+        → Behind p b book gives false h note.facts note.index note.place under ws k → (into ≡ true → no_atomic (note.place.opens ++ code.blocks_in fs) ≡ false) → (t : State) → Path (source p) note.lead s t → note.lead + 1 ≤ b.half
         → (o : Option ℕ) → p.pointed a sig ≡ o → t ≡ enter_pointed p (here_of p h.func x ws) (words_of p h.func x words) o (below p h.func x k r.rest) → step_act names (Runs frame fs) ≡ calls_found into o words under → Makes rank s (Runs frame fs)
     pointer_at into count gives a sig i j words under ws k counts behind cover t path short None is g e =
         leads (room short) path (stop_meets p names b (Together p names b book id) (λ s c y. stopped y) (Trapped BadCall) t (Runs frame fs) (record { here = here_of p h.func x ws; others = below p h.func x k r.rest; is = g }) e)
     pointer_at into count gives a sig i j words under ws k counts behind cover t path short (Some m) is g e =
-        found_at into m (book.takes_as sig) (book.gives_as sig) (links.pointed a m sig is) words under ws k (counts ∙ i) (subst (λ z. Behind p b book z h note.facts note.index note.place under ws k) j behind) cover t path short g e
+        found_at into m (book.takes_as sig) (book.gives_as sig) (links.pointed a m sig is) words under ws k (counts ∙ i) (subst (λ z. Behind p b book z false h note.facts note.index note.place under ws k) j behind) cover t path short g e
 
     found_call : (into : Bool) (name count : ℕ) (address : Term) (callee : Callee) (gives : Bool) → Found p b book h note.facts name address callee count gives → (words under : List Term) (ws : List Waiting) (k : List Form) → count_of words ≡ count
-        → Behind p b book gives h note.facts note.index note.place under ws k → (into ≡ true → no_atomic (note.place.opens ++ code.blocks_in fs) ≡ false) → (t : State) → Path (source p) note.lead s t → note.lead + 1 ≤ b.half
+        → Behind p b book gives false h note.facts note.index note.place under ws k → (into ≡ true → no_atomic (note.place.opens ++ code.blocks_in fs) ≡ false) → (t : State) → Path (source p) note.lead s t → note.lead + 1 ≤ b.half
         → t ≡ invoke p (here_of p h.func x ws) (callee_of p h.func x callee) (words_of p h.func x words) (below p h.func x k r.rest)
         → step_act names (Runs frame fs) ≡ calls_found into (names.called ((names.numbering n).ty name) (eval p h.func x address)) words under → Makes rank s (Runs frame fs)
     found_call into name count address callee gives (by_pointer a sig named) words under ws k counts behind cover t path short g e =

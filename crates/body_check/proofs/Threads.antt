@@ -81,14 +81,14 @@ module _ (p : Program) (names : Names) (b : Bounds) (book : Book) (id : ℕ) (li
   module _ (n : ℕ) (safe : Bool) (base : ℕ) (x : Values) (bounded : AreWords x) (based : Based (home_of id n safe base) end_of x) (index : ℕ) (q : Place) (fs : List Frame) (rest : List frames.Frame)
       (m : ℕ) (into : Bool) (body : BodyView) (there : names.body m into ≡ Some body) (own : BodyView) (own_there : names.body n safe ≡ Some own)
       (words under : List Term) (ws : List Kept) (k : List Form) (counted : count_of words ≡ book.takes m) (facts : List Fact) (holds : AllHold p (held n safe).func x facts)
-      (behind : Behind p b book (book.gives m) (held n safe) facts index q under ws k) (covered : Covered p names b book id safe fs) (covers_callee : into ≡ true → no_atomic (q.opens ++ code.blocks_in fs) ≡ false) (callers : Callers p names b book id (book.gives n) (held n safe).func.stops fs rest) where
+      (behind : Behind p b book (book.gives m) (held m into).func.stops (held n safe) facts index q under ws k) (covered : Covered p names b book id safe fs) (covers_callee : into ≡ true → no_atomic (q.opens ++ code.blocks_in fs) ≡ false) (callers : Callers p names b book id (book.gives n) (held n safe).func.stops fs rest) where
     abbrev f : Func
     f = (held n safe).func
 
     abbrev g : Func
     g = (held m into).func
 
-    abbrev waiting : Waits p names b book id (book.gives m) n safe base
+    abbrev waiting : Waits p names b book id (book.gives m) (held m into).func.stops n safe base
     waiting = record { body = own; there = own_there; values = x; are_words = bounded; based = based; index = index; place = q; facts = facts; holds = holds; under = under; temporaries = ws; others = k; behind = behind }
 
     abbrev new : Values
@@ -136,7 +136,7 @@ module _ (p : Program) (names : Names) (b : Bounds) (book : Book) (id : ℕ) (li
       shows = subst (λ z. Shows p g new called z begun.to) (sym foreseen_at_entry) begun.shows;
     }
 
-    goes_in : Pairs entry.note.rank begun.to (Runs new_frame (waiting_frame p names b book id (book.gives m) n safe base waiting ∷ fs))
+    goes_in : Pairs entry.note.rank begun.to (Runs new_frame (waiting_frame p names b book id (book.gives m) (held m into).func.stops n safe base waiting ∷ fs))
     goes_in = running m into (base + names.frame n) (record { body = body; there = there; rest = called; callers = waits_for n safe base waiting covered callers; covered = covers_callee; stands = stands_there })
 
     abbrev under_frame : Frame
@@ -222,11 +222,11 @@ module _ (p : Program) (names : Names) (b : Bounds) (book : Book) (id : ℕ) (li
     body = body; there = there; rest = rest; callers = callers; covered = covered; facts = facts; holds = holds; values = x; are_words = bounded; based = based; index = index; place = q; form = e; outcome = o; frame = refl; is = refl; fits = fits; ranked = refl; shows = shows;
   })
 
-  back_with_word : (home : Home) (lead rank v : ℕ) (s t : State) (c : code.State) (n : ℕ) (safe : Bool) (base : ℕ) (w : Waits p names b book id true n safe base) (fs : List Frame) (rest : List frames.Frame) (covered : Covered p names b book id safe fs) → v < 2 ^ 64
+  back_with_word : (home : Home) (lead rank v : ℕ) (s t : State) (c : code.State) (n : ℕ) (safe : Bool) (base : ℕ) (stops : Bool) (w : Waits p names b book id true stops n safe base) (fs : List Frame) (rest : List frames.Frame) (covered : Covered p names b book id safe fs) → v < 2 ^ 64
       → Callers p names b book id (book.gives n) (held n safe).func.stops fs rest → Path (thread_of p) lead s t → lead + 1 ≤ b.half
-      → step_act names c ≡ code.back_act home (v ∷ []) (waiting_frame p names b book id true n safe base w ∷ fs)
+      → step_act names c ≡ code.back_act home (v ∷ []) (waiting_frame p names b book id true stops n safe base w ∷ fs)
       → t ≡ frames.at Silent (here_of p (held n safe).func w.values w.temporaries) (frames.Gives v ∷ below p (held n safe).func w.values w.others rest) → Moves rank s c
-  back_with_word home lead rank v s t c n safe base w fs rest covered small_word callers path short e g =
+  back_with_word home lead rank v s t c n safe base stops w fs rest covered small_word callers path short e g =
       let f = (held n safe).func in
       let y = replied w.values (Loaded v) in
       let q = place_later w.place (variable 0 ∷ in_terms later w.under) in
@@ -243,11 +243,11 @@ module _ (p : Program) (names : Names) (b : Bounds) (book : Book) (id : ℕ) (li
       words_then x v bounded h zero = h
       words_then x v bounded h (suc n) = bounded n
 
-  back_without : (home : Home) (lead rank : ℕ) (s t : State) (c : code.State) (n : ℕ) (safe : Bool) (base : ℕ) (w : Waits p names b book id false n safe base) (fs : List Frame) (rest : List frames.Frame) (covered : Covered p names b book id safe fs)
+  back_without : (home : Home) (lead rank : ℕ) (s t : State) (c : code.State) (n : ℕ) (safe : Bool) (base : ℕ) (stops : Bool) (w : Waits p names b book id false stops n safe base) (fs : List Frame) (rest : List frames.Frame) (covered : Covered p names b book id safe fs)
       → Callers p names b book id (book.gives n) (held n safe).func.stops fs rest → Path (thread_of p) lead s t → lead + 1 ≤ b.half
-      → step_act names c ≡ code.back_act home [] (waiting_frame p names b book id false n safe base w ∷ fs)
+      → step_act names c ≡ code.back_act home [] (waiting_frame p names b book id false stops n safe base w ∷ fs)
       → t ≡ frames.at Silent (here_of p (held n safe).func w.values w.temporaries) (frames.Gives 0 ∷ below p (held n safe).func w.values w.others rest) → Moves rank s c
-  back_without home lead rank s t c n safe base w fs rest covered callers path short e g =
+  back_without home lead rank s t c n safe base stops w fs rest covered callers path short e g =
       let f = (held n safe).func in
       let l = landed p names numbers (held n safe) b (home_of id n safe base) end_of rest fs small Pairs (stands_in n safe base w.body w.there fs rest covered callers) (λ s c z. stopped z) (flies_in n safe base w.body w.there fs rest covered callers) (callers_current (book.gives n) (held n safe).func.stops fs rest callers) w.values w.are_words w.based w.facts w.holds no_answers (none_right p w.values) (w.index + 1) (with_operands w.place w.under)
       (goes silent w.temporaries (Gives (number 0) ∷ w.others)) t w.behind.back.lands g in
@@ -281,14 +281,14 @@ module _ (p : Program) (names : Names) (b : Bounds) (book : Book) (id : ℕ) (li
   return_word home lead rank f x bounded w o stops s t c fs rest own (nobody main stopping is_main) path short e hands g =
       main_ends home lead rank (eval p f x w) s t c own is_main path short e (handed f x w o _ stops _ t hands g)
   return_word home lead rank f x bounded w o stops s t c fs rest own (waits_for {fs = gs} {rest = more} n safe base z covered callers) path short e hands g =
-      back_with_word home lead rank (eval p f x w) s t c n safe base z gs more covered (term_below p f x bounded w) callers path short e (handed f x w o _ stops _ t hands g)
+      back_with_word home lead rank (eval p f x w) s t c n safe base stops z gs more covered (term_below p f x bounded w) callers path short e (handed f x w o _ stops _ t hands g)
 
   pub return_none : (home : Home) (lead rank : ℕ) (f : Func) (x : Values) (o : Outcome) (stops : Bool) (s t : State) (c : code.State) (fs : List Frame) (rest : List frames.Frame) → home.thread ≡ id
       → Callers p names b book id false stops fs rest → Path (thread_of p) lead s t → lead + 1 ≤ b.half → step_act names c ≡ code.back_act home [] fs → Hands (number 0) o → Shows p f x rest o t → Moves rank s c
   return_none home lead rank f x o stops s t c fs rest own (nobody main stopping is_main) path short e hands g =
       child_ends home lead rank s t c own is_main path short e (handed f x (number 0) o _ stops _ t hands g)
   return_none home lead rank f x o stops s t c fs rest own (waits_for {fs = gs} {rest = more} n safe base z covered callers) path short e hands g =
-      back_without home lead rank s t c n safe base z gs more covered callers path short e (handed f x (number 0) o _ stops _ t hands g)
+      back_without home lead rank s t c n safe base stops z gs more covered callers path short e (handed f x (number 0) o _ stops _ t hands g)
 
   -- ---- an exception leaves a function
 
@@ -312,18 +312,18 @@ module _ (p : Program) (names : Names) (b : Bounds) (book : Book) (id : ℕ) (li
       (record { here = empty_stack id; others = frames.Starts main ∷ []; is = refl }) i)
 
   -- the exception comes to the caller
-  caller_flies : (lag rank : ℕ) (e : exceptions.Exception) (s t : State) (c : code.State) (gives : Bool) (n : ℕ) (safe : Bool) (base : ℕ) (w : Waits p names b book id gives n safe base) (fs : List Frame) (rest : List frames.Frame) (covered : Covered p names b book id safe fs)
+  caller_flies : (lag rank : ℕ) (e : exceptions.Exception) (s t : State) (c : code.State) (gives : Bool) (n : ℕ) (safe : Bool) (base : ℕ) (w : Waits p names b book id gives false n safe base) (fs : List Frame) (rest : List frames.Frame) (covered : Covered p names b book id safe fs)
       → Callers p names b book id (book.gives n) (held n safe).func.stops fs rest → Path (thread_of p) lag s t → 1 ≤ lag → lag + 1 ≤ b.longest
       → t ≡ frames.at Silent (here_of p (held n safe).func w.values w.temporaries) (frames.Leaves (frames.throws e) ∷ below p (held n safe).func w.values w.others rest)
-      → step_act names c ≡ code.goes (Unwinds (coded numbers e) (waiting_frame p names b book id gives n safe base w) fs) → Moves rank s c
+      → step_act names c ≡ code.goes (Unwinds (coded numbers e) (waiting_frame p names b book id gives false n safe base w) fs) → Moves rank s c
   caller_flies lag rank e s t c gives n safe base w fs rest covered callers path some short g i =
       let f = (held n safe).func in
       let y : Values = record { word = w.values.word; exception = exception_first e w.values.exception; base = w.values.base; limit = w.values.limit } in
       let shows : Shows p f y rest (goes silent (in_waitings rising w.temporaries) (Leaves (throws (unknown 0)) ∷ in_frames rising w.others)) t =
       g ∙ ap₂ (λ a d. frames.at Silent a (frames.Leaves (frames.throws e) ∷ d)) (sym (here_replaced p f rising y rest w.temporaries)) (sym (frames_replaced p f rising y rest w.others)) in
-      both_go lag rank w.behind.thrown.rank s t c (Unwinds (coded numbers e) (waiting_frame p names b book id gives n safe base w) fs) path some (less lag short) i w.behind.thrown.low
-      (subst (λ z. Pairs w.behind.thrown.rank t (Unwinds (coded numbers e) z fs)) (frame_replaced p f numbers rising y (home_of id n safe base) w.index (with_operands w.place w.under))
-      (flies_in n safe base w.body w.there fs rest covered callers t y w.are_words w.based (in_facts rising w.facts) (facts_placed p f rising y w.facts w.holds) w.index (in_place rising (with_operands w.place w.under)) (unknown 0) (goes silent (in_waitings rising w.temporaries) (Leaves (throws (unknown 0)) ∷ in_frames rising w.others)) w.behind.thrown shows))
+      both_go lag rank (w.behind.thrown refl).rank s t c (Unwinds (coded numbers e) (waiting_frame p names b book id gives false n safe base w) fs) path some (less lag short) i (w.behind.thrown refl).low
+      (subst (λ z. Pairs (w.behind.thrown refl).rank t (Unwinds (coded numbers e) z fs)) (frame_replaced p f numbers rising y (home_of id n safe base) w.index (with_operands w.place w.under))
+      (flies_in n safe base w.body w.there fs rest covered callers t y w.are_words w.based (in_facts rising w.facts) (facts_placed p f rising y w.facts w.holds) w.index (in_place rising (with_operands w.place w.under)) (unknown 0) (goes silent (in_waitings rising w.temporaries) (Leaves (throws (unknown 0)) ∷ in_frames rising w.others)) (w.behind.thrown refl) shows))
 
   pub out_move : (home : Home) (lag rank : ℕ) (f : Func) (x : Values) (e : exceptions.Exception) (hand : frames.Here) (gives stops : Bool) (s t : State) (c : code.State) (top : Frame) (fs : List Frame) (rest : List frames.Frame) → top.home ≡ home → names.no_except home.func ≡ stops
       → Callers p names b book id gives stops fs rest → Path (thread_of p) lag s t → 1 ≤ lag → lag + 1 ≤ b.longest → t ≡ leave hand (frames.throws e) rest
@@ -331,6 +331,6 @@ module _ (p : Program) (names : Names) (b : Bounds) (book : Book) (id : ℕ) (li
   out_move home lag rank f x e hand gives true s t c top fs rest own stop (nobody main stopping is_main) path some short g i = terminates lag rank s t c hand _ path short g i
   out_move home lag rank f x e hand gives false s t c top fs rest own stop (nobody main stopping is_main) path some short g i = thread_terminates lag rank e s t c main path short g i
   out_move home lag rank f x e hand gives true s t c top fs rest own stop (waits_for {fs = gs} {rest = more} n safe base w covered callers) path some short g i =
-      terminates lag rank s t c hand _ path short g (i ∙ ap (λ (z : Bool). if z then Ends (Stop Terminate) else code.goes (Unwinds (coded numbers e) (waiting_frame p names b book id gives n safe base w) gs)) (ap (λ (z : Home). names.no_except z.func) own ∙ stop))
+      terminates lag rank s t c hand _ path short g (i ∙ ap (λ (z : Bool). if z then Ends (Stop Terminate) else code.goes (Unwinds (coded numbers e) (waiting_frame p names b book id gives true n safe base w) gs)) (ap (λ (z : Home). names.no_except z.func) own ∙ stop))
   out_move home lag rank f x e hand gives false s t c top fs rest own stop (waits_for {fs = gs} {rest = more} n safe base w covered callers) path some short g i =
-      caller_flies lag rank e s t c gives n safe base w gs more covered callers path some short g (i ∙ ap (λ (z : Bool). if z then Ends (Stop Terminate) else code.goes (Unwinds (coded numbers e) (waiting_frame p names b book id gives n safe base w) gs)) (ap (λ (z : Home). names.no_except z.func) own ∙ stop))
+      caller_flies lag rank e s t c gives n safe base w gs more covered callers path some short g (i ∙ ap (λ (z : Bool). if z then Ends (Stop Terminate) else code.goes (Unwinds (coded numbers e) (waiting_frame p names b book id gives false n safe base w) gs)) (ap (λ (z : Home). names.no_except z.func) own ∙ stop))

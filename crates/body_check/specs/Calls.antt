@@ -25,11 +25,12 @@ use Rattle.symbolic_code.specs.Following.{followed, AreNames}
 use Rattle.body_check.specs.Notes.{Note, Bounds, Lands, Fits, Flies, in_place, rising, no_answers, variables}
 use Rattle.body_check.specs.Linked.{Held, Based, Stands, Stopped}
 
--- the bodies by function and by whether it is the safe one; whether a function hands back a word, and how many words it takes; types' numbers
+-- the bodies by function and by whether it is the safe one; whether a function hands back a word, how many words it takes, and whether it lets no exception out; types' numbers
 pub record Book : Type 0 where
   pub held : (func : ℕ) → (safe : Bool) → Held
   pub gives : (func : ℕ) → Bool
   pub takes : (func : ℕ) → ℕ
+  pub stops : (func : ℕ) → Bool
   pub numbers : Typ → ℕ
   -- the same for the functions of a type, and for those in a slot of a class
   pub takes_as : Signature → ℕ
@@ -76,10 +77,10 @@ module _ (p : Program) (b : Bounds) (book : Book) where
   ThrownWith h known i q under ws k =
       Flies p h.func b h.notes book.numbers h.rows (in_facts rising known) i (in_place rising (with_operands q under)) (unknown 0) (goes silent (in_waitings rising ws) (Leaves (throws (unknown 0)) ∷ in_frames rising k))
 
-  -- what a call leaves behind it: where the words of the call have been taken off
-  pub record Behind (gives : Bool) (h : Held) (known : List Fact) (index : ℕ) (q : Place) (under : List Term) (ws : List Waiting) (k : List Frame) : Type 0 where
+  -- what a call leaves behind it, where the words of the call have been taken off: the function hands back a word or none, and lets no exception out or may do so
+  pub record Behind (gives stops : Bool) (h : Held) (known : List Fact) (index : ℕ) (q : Place) (under : List Term) (ws : List Waiting) (k : List Frame) : Type 0 where
     pub back : BackWith gives h known index q under ws k
-    pub thrown : ThrownWith h known index q under ws k
+    pub thrown : stops ≡ false → ThrownWith h known index q under ws k
     pub opens : q.opens ≡ blocks_in k
     pub caught : first_of q.caught ≡ handled k
 
@@ -94,7 +95,7 @@ module _ (p : Program) (b : Bounds) (book : Book) where
     pub outcome_is : o ≡ calls (known_func (p.number h.func.unit callee)) words temporaries others
     pub operands_are : taken_off count q.operands [] ≡ Some (words, under)
     pub taken : book.takes (p.number h.func.unit callee) ≡ count
-    pub behind : Behind (book.gives (p.number h.func.unit callee)) h known index q under temporaries others
+    pub behind : Behind (book.gives (p.number h.func.unit callee)) (book.stops (p.number h.func.unit callee)) h known index q under temporaries others
 
   -- the word that a call by an address finds its function with, where the functions that can be found take so many words, and hand back a word or none
   pub data Found (h : Held) (known : List Fact) (name : ℕ) : Term → Callee → (count : ℕ) → (gives : Bool) → Type 0 where
@@ -113,7 +114,7 @@ module _ (p : Program) (b : Bounds) (book : Book) where
     pub others : List Frame
     pub outcome_is : o ≡ calls callee words temporaries others
     pub operands_are : taken_off count q.operands [] ≡ Some (words, address ∷ under)
-    pub behind : Behind gives h known index q under temporaries others
+    pub behind : Behind gives false h known index q under temporaries others
 
   abbrev pub Returning : (gives : Bool) → Place → Outcome → Type 0
   Returning true q o = (w : Term) × (under : List Term) × (q.operands ≡ w ∷ under) × Hands w o
@@ -170,6 +171,7 @@ pub record Links (p : Program) (x : Names) (b : Bounds) (book : Book) : Type 0 w
   pub frames : (n : ℕ) (safe : Bool) → x.frame n ≡ (book.held n safe).func.size
   pub rows : (n : ℕ) (safe : Bool) (body : BodyView) → x.body n safe ≡ Some body → map (renamed_row (x.numbering n)) body.rows ≡ (book.held n safe).rows
   pub stops : (n : ℕ) (safe : Bool) → x.no_except n ≡ (book.held n safe).func.stops
+  pub stops_so : (n : ℕ) (safe : Bool) → (book.held n safe).func.stops ≡ book.stops n
   pub cancels : (t : Typ) → x.cancels (book.numbers t) ≡ cancels t
   pub checked : (n : ℕ) (safe : Bool) (body : BodyView) → x.body n safe ≡ Some body → Checked p b book (book.held n safe)
   pub names : (n : ℕ) (safe : Bool) → AreNames p (book.held n safe).func book.numbers x (x.numbering n) (book.held n safe).table

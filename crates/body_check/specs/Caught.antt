@@ -172,6 +172,7 @@ catch_book = record {
   held = λ n safe. record { number = n; safe = safe; func = catch_func; body = catch_body; rows = catch_row ∷ []; notes = catch_notes; table = catch_table };
   gives = λ n. true;
   takes = λ n. 0;
+  stops = λ n. false;
   numbers = number_of_type;
   takes_as = λ sig. 0;
   gives_as = λ sig. false;

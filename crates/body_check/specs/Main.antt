@@ -88,6 +88,7 @@ main_book = record {
   held = λ n safe. record { number = n; safe = safe; func = main_func; body = main_body; rows = []; notes = first_note ∷ second_note ∷ []; table = no_names };
   gives = λ n. true;
   takes = λ n. 0;
+  stops = λ n. false;
   numbers = number_of_type;
   takes_as = λ sig. 0;
   gives_as = λ sig. false;

@@ -120,6 +120,7 @@ pair_book = record {
   held = λ n safe. record { number = n; safe = safe; func = func_of n; body = body_of n; rows = []; notes = notes_of n; table = own_names };
   gives = λ n. true;
   takes = λ n. 0;
+  stops = λ n. false;
   numbers = number_of_type;
   takes_as = λ sig. 0;
   gives_as = λ sig. false;

@@ -30,7 +30,7 @@ module _ (p : Program) (names : Names) (b : Bounds) (book : Book) (thread : ℕ)
 
   -- a frame that waits for a function which hands back a word, or none: where it stands, the words under those of the call, and what the
   -- source has left to do behind the call
-  pub record Waits (gives : Bool) (n : ℕ) (safe : Bool) (base : ℕ) : Type 0 where
+  pub record Waits (gives stops : Bool) (n : ℕ) (safe : Bool) (base : ℕ) : Type 0 where
     pub body : BodyView
     pub there : names.body n safe ≡ Some body
     pub values : Values
@@ -43,14 +43,14 @@ module _ (p : Program) (names : Names) (b : Bounds) (book : Book) (thread : ℕ)
     pub under : List Term
     pub temporaries : List Waiting
     pub others : List symbolic.Frame
-    pub behind : Behind p b book gives (book.held n safe) facts index place under temporaries others
+    pub behind : Behind p b book gives stops (book.held n safe) facts index place under temporaries others
 
   -- the frame of the code, and what the source has left to do in it
-  abbrev pub waiting_frame : (gives : Bool) (n : ℕ) (safe : Bool) (base : ℕ) → Waits gives n safe base → Frame
-  waiting_frame gives n safe base w = frame_at p (book.held n safe).func book.numbers w.values (home_of thread n safe base) w.index (with_operands w.place w.under)
+  abbrev pub waiting_frame : (gives stops : Bool) (n : ℕ) (safe : Bool) (base : ℕ) → Waits gives stops n safe base → Frame
+  waiting_frame gives stops n safe base w = frame_at p (book.held n safe).func book.numbers w.values (home_of thread n safe base) w.index (with_operands w.place w.under)
 
-  abbrev pub waiting_frames : (gives : Bool) (n : ℕ) (safe : Bool) (base : ℕ) → Waits gives n safe base → (stops : Bool) → List frames.Frame → List frames.Frame
-  waiting_frames gives n safe base w stops rest = frames.Called (here_of p (book.held n safe).func w.values w.temporaries) stops ∷ below p (book.held n safe).func w.values w.others rest
+  abbrev pub waiting_frames : (gives stops : Bool) (n : ℕ) (safe : Bool) (base : ℕ) → Waits gives stops n safe base → List frames.Frame → List frames.Frame
+  waiting_frames gives stops n safe base w rest = frames.Called (here_of p (book.held n safe).func w.values w.temporaries) stops ∷ below p (book.held n safe).func w.values w.others rest
 
   -- a frame of a safe body has an open atomic block below it
   abbrev pub Covered : (safe : Bool) → List Frame → Type 0
@@ -60,8 +60,8 @@ module _ (p : Program) (names : Names) (b : Bounds) (book : Book) (thread : ℕ)
   -- of which main's hands back a word, or one that waits and its callers
   pub data Callers : (gives stops : Bool) → List Frame → List frames.Frame → Type 0 where
     nobody : (main stops : Bool) → (thread == 0) ≡ main → Callers main stops [] (frames.Called (empty_stack thread) stops ∷ frames.Starts main ∷ [])
-    waits_for : {gives stops : Bool} {fs : List Frame} {rest : List frames.Frame} (n : ℕ) (safe : Bool) (base : ℕ) (w : Waits gives n safe base) → Covered safe fs → Callers (book.gives n) (book.held n safe).func.stops fs rest
-        → Callers gives stops (waiting_frame gives n safe base w ∷ fs) (waiting_frames gives n safe base w stops rest)
+    waits_for : {gives stops : Bool} {fs : List Frame} {rest : List frames.Frame} (n : ℕ) (safe : Bool) (base : ℕ) (w : Waits gives stops n safe base) → Covered safe fs → Callers (book.gives n) (book.held n safe).func.stops fs rest
+        → Callers gives stops (waiting_frame gives stops n safe base w ∷ fs) (waiting_frames gives stops n safe base w rest)
 
   -- a frame that runs
   pub record RunsIn (rank : ℕ) (s : State) (top : Frame) (fs : List Frame) (n : ℕ) (safe : Bool) (base : ℕ) : Type 0 where
