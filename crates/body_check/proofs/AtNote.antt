@@ -1,5 +1,5 @@
 -- At a note, both threads make a move.
-use Rattle.std.proofs.Common.{ℕ, ◌≡◌, ◌+◌, ◌≤◌, Bool, true, false, refl, ap, sym, ◌∙◌, subst, List, Option, Some, None}
+use Rattle.std.proofs.Common.{ℕ, ◌≡◌, ◌≤◌, false, ap, sym, ◌∙◌, subst, List, Some}
 use Rattle.std.specs.Prelude.{slice_get}
 use Rattle.std.specs.Option.{option_map}
 use Rattle.tx_events.specs.Simulation.{Path}
@@ -22,7 +22,7 @@ use Rattle.symbolic_code.specs.Facts.{Fact, AllHold}
 use Rattle.symbolic_code.specs.Places.{Place, coded, frame_at}
 use Rattle.symbolic_code.specs.Following.{followed, Follows, AreNames}
 use Rattle.symbolic_code.proofs.Followed.{followed_follows}
-use Rattle.body_check.specs.Notes.{Note, Bounds, no_answers, Flies, Fits}
+use Rattle.body_check.specs.Notes.{Bounds, no_answers, Flies, Fits}
 use Rattle.body_check.specs.Linked.{Held, Based, Stands, Stopped}
 use Rattle.body_check.proofs.Landing.{none_right, follow_move}
 
@@ -31,7 +31,7 @@ module _ (p : Program) (names : Names) (numbers : Typ → ℕ) (h : Held) (b : B
     (stands : (rank : ℕ) (s : State) (top : Frame) → Stands p numbers h home limit rest rank s top → Related rank s (Runs top below_frames))
     (stops : (s : State) (c : code.State) → Stopped names s c → Related 0 s c)
     (flies : (s : State) (x : Values) → AreWords x → Based home limit x → (known : List Fact) → AllHold p h.func x known → (index : ℕ) (q : Place) (e : Exception) (o : Outcome) → (t : Flies p h.func b h.notes numbers h.rows known index q e o) → Shows p h.func x rest o s
-        → Related t.rank s (Unwinds (coded numbers (exception_of p h.func x e)) (frame_at p h.func numbers x home index q) below_frames))
+    → Related t.rank s (Unwinds (coded numbers (exception_of p h.func x e)) (frame_at p h.func numbers x home index q) below_frames))
     (current : code.current below_frames ≡ option_map (coded numbers) (frames.handled rest))
     (is_body : names.body home.func home.safe ≡ Some h.body) (right : AreNames p h.func numbers names (names.numbering home.func) h.table) where
   pub fetched : (i : ℕ) (a : Instr) → slice_get h.body.code i ≡ Some a → fetch names home i ≡ Some (renamed (names.numbering home.func) a)

@@ -1,35 +1,21 @@
 -- A call of a checked body, and its return.
-use Rattle.std.proofs.Common.{ℕ, zero, suc, ℤ, ◌≡◌, ◌+◌, ◌^◌, ◌<◌, ◌≤◌, ◌⊎◌, inl, inr, nat_lt, Bool, true, false, cond, if◌then◌else◌, not, refl, ap, ap₂, sym, ◌∙◌, subst, List, [], ◌∷◌, ◌++◌, Option, Some, None, arith}
-use Rattle.std.specs.Prelude.{slice_get, nat_le}
-use Rattle.std.proofs.lemmas.Bool.{true≢false, leb-true, ltb-true, ltb-false, le-ltb, leb-false}
-use Rattle.tx_events.specs.declared.End.TheVariants.{Trapped}
-use Rattle.tx_events.specs.declared.Event.TheVariants.{Silent, Stop}
-use Rattle.tx_events.specs.declared.Trap.TheVariants.{StackOverflow}
-use Rattle.tx_events.specs.Simulation.{Path, here, step}
-use Rattle.lockstep.specs.Moves.{Ranked, Move, leads}
-use Rattle.tx_code.specs.declared.instr.Instr.{Instr}
-use Rattle.tx_code.specs.declared.instr.Instr.TheVariants.{Call, TCall, Ret}
-use Rattle.tx_code.specs.Objects.{BodyView}
+use Rattle.std.proofs.Common.{ℕ, zero, suc, ◌≡◌, ◌+◌, ◌^◌, ◌<◌, ◌≤◌, nat_lt, Bool, true, false, refl, ap, ap₂, sym, ◌∙◌, subst, List, [], ◌∷◌, Option, Some, arith}
+use Rattle.std.specs.Prelude.{nat_le}
+use Rattle.std.proofs.lemmas.Bool.{leb-true, ltb-true, ltb-false, leb-false}
+use Rattle.tx_events.specs.declared.Event.TheVariants.{Silent}
 use Rattle.tx_code.specs.Meaning.{Names, Home, Frame, Runs, Act, Ends, Lost, act, if_some, step_act, thread}
 use Rattle.tx_code.specs.Meaning as code
-use Rattle.tx_code.specs.Renaming.{renamed}
-use Rattle.cpp_tree.specs.cpp_types.Typ.{Typ}
 use Rattle.src_mean.specs.Linked.{Func, Program}
 use Rattle.src_mean.specs.Frames.{State}
 use Rattle.src_mean.specs.Frames as frames
-use Rattle.src_mean.specs.Source.{source, enter, inside, halt, leave, give, empty_stack}
-use Rattle.symbolic_source.specs.Terms.{Term, number, variable, Values, eval}
-use Rattle.symbolic_source.specs.Frames.{Waiting as Waits, Frame as Form, value, returns, known, Passes, Then, Gives, words_of, below, here_of}
-use Rattle.symbolic_source.specs.Outcomes.{silent, Outcome, goes, hands, goes_out, calls, Shows}
-use Rattle.symbolic_source.specs.Steps.{advanced}
-use Rattle.symbolic_source.specs.Small.{IsSmall, AreWords, is_stuck}
+use Rattle.src_mean.specs.Source.{inside}
+use Rattle.symbolic_source.specs.Terms.{Term, Values}
+use Rattle.symbolic_source.specs.Frames.{Waiting as Waits, Frame as Form, value, Passes, Then, words_of, below, here_of}
+use Rattle.symbolic_source.specs.Outcomes.{silent, goes, Shows}
+use Rattle.symbolic_source.specs.Small.{IsSmall, AreWords}
 use Rattle.symbolic_source.proofs.TermLemmas.{term_below}
-use Rattle.symbolic_source.proofs.Advance.{advance}
-use Rattle.symbolic_code.specs.Places.{Place, frame_at, replied, later, with_operands, place_later}
-use Rattle.body_check.specs.Notes.{Note, Bounds, no_answers, variables}
-use Rattle.body_check.specs.Linked.{Held, Based, Stands, Stopped}
-use Rattle.body_check.specs.Calls.{Book, taken_off, bare, Hands, by_end, by_return, Back, BackWith, Calling, Returning, StepFits, NoteFits, Entry, Checked, Links}
-use Rattle.body_check.proofs.Landing.{joined, still}
+use Rattle.body_check.specs.Notes.{variables}
+use Rattle.body_check.specs.Calls.{taken_off}
 
 -- Words that are taken off
 

@@ -1,13 +1,13 @@
 -- Each type is in a case, and in a case all tests of handlers and rows are decided.
-use Rattle.std.proofs.Common.{ℕ, zero, suc, ◌≡◌, ◌≢◌, ◌+◌, ◌<◌, ◌≤◌, ◌==◌, cond, Bool, true, false, not, ◌&&◌, ◌||◌, ◌++◌, if◌then◌else◌, refl, ap, ap₂, sym, ◌∙◌, subst, List, [], ◌∷◌, Option, Some, None, arith}
+use Rattle.std.proofs.Common.{ℕ, zero, suc, ◌≡◌, ◌≢◌, ◌<◌, ◌==◌, cond, Bool, true, false, not, ◌&&◌, ◌||◌, ◌++◌, if◌then◌else◌, refl, ap, ap₂, sym, ◌∙◌, subst, List, [], ◌∷◌, Option, Some, None, arith}
 use Rattle.std.specs.Prelude.{slice_get, length, map, unwrap_or, nat_eq}
 use Rattle.std.specs.List.{list_any}
 use Rattle.std.specs.Option.{option_and_then}
 use Rattle.std.proofs.lemmas.Bool.{true≢false, and_parts, eqb-true, eq-eqb}
 use Rattle.tx_code.specs.declared.body.Row.{Row}
-use Rattle.tx_code.specs.Meaning.{covers, takes, find}
-use Rattle.cpp_tree.specs.cpp_types.Typ.{Typ, typ, Form, void, int, enum, null, ptr, ref, array, func, class, closure, tx_ex}
-use Rattle.cpp_tree.specs.cpp_types.Class.{Class, completion_of}
+use Rattle.tx_code.specs.Meaning.{covers, find}
+use Rattle.cpp_tree.specs.cpp_types.Typ.{Typ, typ, Form, void, ref, class}
+use Rattle.cpp_tree.specs.cpp_types.Class.{Class}
 use Rattle.cpp_tree.specs.cpp_types.Conversion.{bases, chain}
 use Rattle.cpp_tree.specs.cpp_types.Equal.{name_eq}
 use Rattle.cpp_tree.specs.Trees.{Tree, typ_in}

@@ -1,8 +1,7 @@
 -- The notes of the worked program with an exception fit.
-use Rattle.std.proofs.Common.{ℕ, zero, suc, ◌≡◌, ◌+◌, ◌≤◌, ◌==◌, cond, inl, inr, Bool, true, false, refl, ap, sym, ◌∙◌, subst, List, [], ◌∷◌, Option, Some, None, arith}
+use Rattle.std.proofs.Common.{ℕ, zero, suc, ◌≡◌, ◌==◌, cond, inl, inr, Bool, true, false, refl, ap, sym, ◌∙◌, subst, [], ◌∷◌, Option, Some, None, arith}
 use Rattle.std.specs.Prelude.{slice_get, map}
 use Rattle.std.proofs.lemmas.Bool.{eqb-true}
-use Rattle.tx_code.specs.declared.body.Row.{Row}
 use Rattle.tx_code.specs.declared.instr.Instr.TheVariants.{Push, FrameAddr, Load, Store, NewException, PutException, Throw, GetException, EndHandler, Ret}
 use Rattle.tx_code.specs.Objects.{BodyView}
 use Rattle.tx_code.specs.Renaming.{itself, renamed_row}
@@ -12,11 +11,11 @@ use Rattle.symbolic_source.specs.Terms.{variable, converted_to, unknown, Excepti
 use Rattle.symbolic_source.specs.Small.{IsSmall}
 use Rattle.symbolic_source.specs.Replacing.{Replacing}
 use Rattle.symbolic_code.specs.Places.{nothing, holding}
+use Rattle.body_check.proofs.Landing.{equally}
 use Rattle.body_check.specs.Notes.{Note, Bounds, TypeFits, no_answers}
-use Rattle.body_check.specs.Linked.{Held}
-use Rattle.body_check.specs.Calls.{Book, bare, by_return, NoteFits, Entry, Checked, Links, Begins}
+use Rattle.body_check.specs.Calls.{by_return, NoteFits, Checked, Links, Begins}
 use Rattle.body_check.specs.Main.{number_of_type}
-use Rattle.body_check.specs.Caught.{number_typ, catch_func, catch_program, catch_row, catch_body, catch_names, after, catch_begun, one_thrown, push_note, new_note, put_note, throw_note, take_note, get_note, store_note, address_note, load_note, end_note, ret_note, catch_notes, named_type, catch_book}
+use Rattle.body_check.specs.Caught.{number_typ, catch_func, catch_program, catch_row, catch_body, catch_names, after, one_thrown, push_note, new_note, put_note, throw_note, take_note, get_note, store_note, address_note, load_note, end_note, ret_note, catch_notes, catch_book}
 use Rattle.body_check.proofs.Main.{cancels_same}
 
 pub bounds : Bounds
@@ -47,7 +46,7 @@ push_fits n safe = record {
   short = omega arith;
   foreseen = refl;
   fits = record {
-    lands = record { at = 1; note = new_note; is = refl; there = refl; lag = 0; terms = same; same_place = refl; same_facts = tt; same_outcome = refl; foreseen = refl; low = omega arith };
+    lands = (equally catch_program catch_func bounds catch_notes (record { at = 1; note = new_note; is = refl; there = refl; lag = 0; terms = same; same_place = refl; same_facts = tt; same_outcome = refl; foreseen = refl; low = omega arith }));
     short = omega arith;
     goes_on = inl (omega arith);
   };
@@ -61,7 +60,7 @@ new_fits n safe = record {
   short = omega arith;
   foreseen = refl;
   fits = record {
-    lands = record { at = 2; note = put_note; is = refl; there = refl; lag = 0; terms = same; same_place = refl; same_facts = tt; same_outcome = refl; foreseen = refl; low = omega arith };
+    lands = (equally catch_program catch_func bounds catch_notes (record { at = 2; note = put_note; is = refl; there = refl; lag = 0; terms = same; same_place = refl; same_facts = tt; same_outcome = refl; foreseen = refl; low = omega arith }));
     short = omega arith;
     goes_on = inr (omega arith);
   };
@@ -75,7 +74,7 @@ put_fits n safe = record {
   short = omega arith;
   foreseen = refl;
   fits = record {
-    lands = record { at = 3; note = throw_note; is = refl; there = refl; lag = 0; terms = same; same_place = refl; same_facts = tt; same_outcome = refl; foreseen = refl; low = omega arith };
+    lands = (equally catch_program catch_func bounds catch_notes (record { at = 3; note = throw_note; is = refl; there = refl; lag = 0; terms = same; same_place = refl; same_facts = tt; same_outcome = refl; foreseen = refl; low = omega arith }));
     short = omega arith;
     goes_on = inr (omega arith);
   };
@@ -89,7 +88,7 @@ take_fits n safe = record {
   short = omega arith;
   foreseen = refl;
   fits = record {
-    lands = record { at = 5; note = get_note; is = refl; there = refl; lag = 0; terms = same; same_place = refl; same_facts = tt; same_outcome = refl; foreseen = refl; low = omega arith };
+    lands = (equally catch_program catch_func bounds catch_notes (record { at = 5; note = get_note; is = refl; there = refl; lag = 0; terms = same; same_place = refl; same_facts = tt; same_outcome = refl; foreseen = refl; low = omega arith }));
     short = omega arith;
     goes_on = inl (omega arith);
   };
@@ -103,7 +102,7 @@ get_fits n safe = record {
   short = omega arith;
   foreseen = refl;
   fits = record {
-    lands = record { at = 6; note = store_note; is = refl; there = refl; lag = 0; terms = same; same_place = refl; same_facts = tt; same_outcome = refl; foreseen = refl; low = omega arith };
+    lands = (equally catch_program catch_func bounds catch_notes (record { at = 6; note = store_note; is = refl; there = refl; lag = 0; terms = same; same_place = refl; same_facts = tt; same_outcome = refl; foreseen = refl; low = omega arith }));
     short = omega arith;
     goes_on = inr (omega arith);
   };
@@ -117,7 +116,7 @@ address_fits n safe = record {
   short = omega arith;
   foreseen = refl;
   fits = record {
-    lands = record { at = 8; note = load_note; is = refl; there = refl; lag = 0; terms = same; same_place = refl; same_facts = tt; same_outcome = refl; foreseen = refl; low = omega arith };
+    lands = (equally catch_program catch_func bounds catch_notes (record { at = 8; note = load_note; is = refl; there = refl; lag = 0; terms = same; same_place = refl; same_facts = tt; same_outcome = refl; foreseen = refl; low = omega arith }));
     short = omega arith;
     goes_on = inl (omega arith);
   };
@@ -131,7 +130,7 @@ end_fits n safe = record {
   short = omega arith;
   foreseen = refl;
   fits = record {
-    lands = record { at = 10; note = ret_note; is = refl; there = refl; lag = 0; terms = same; same_place = refl; same_facts = tt; same_outcome = refl; foreseen = refl; low = omega arith };
+    lands = (equally catch_program catch_func bounds catch_notes (record { at = 10; note = ret_note; is = refl; there = refl; lag = 0; terms = same; same_place = refl; same_facts = tt; same_outcome = refl; foreseen = refl; low = omega arith }));
     short = omega arith;
     goes_on = inl (omega arith);
   };
@@ -144,7 +143,7 @@ store_fits n safe = record {
   is = refl;
   short = omega arith;
   foreseen = refl;
-  fits = (refl, record { at = 7; note = address_note; is = refl; there = refl; lag = 0; terms = same; same_place = refl; same_facts = tt; same_outcome = refl; foreseen = refl; low = omega arith }, refl);
+  fits = (refl, (equally catch_program catch_func bounds catch_notes (record { at = 7; note = address_note; is = refl; there = refl; lag = 0; terms = same; same_place = refl; same_facts = tt; same_outcome = refl; foreseen = refl; low = omega arith })), refl);
 }
 
 load_fits : (n : ℕ) (safe : Bool) → Fit n safe 8 load_note
@@ -154,7 +153,7 @@ load_fits n safe = record {
   is = refl;
   short = omega arith;
   foreseen = refl;
-  fits = (refl, record { at = 9; note = end_note; is = refl; there = refl; lag = 0; terms = same; same_place = refl; same_facts = tt; same_outcome = refl; foreseen = refl; low = omega arith }, refl);
+  fits = (refl, (equally catch_program catch_func bounds catch_notes (record { at = 9; note = end_note; is = refl; there = refl; lag = 0; terms = same; same_place = refl; same_facts = tt; same_outcome = refl; foreseen = refl; low = omega arith })), refl);
 }
 
 -- the row takes the type, and the source comes to the handler
@@ -164,7 +163,7 @@ int_lands n safe = record {
   answers = no_answers;
   right = λ m handler answer e. absurd cc;
   found = record {
-    lands = record { at = 4; note = take_note; is = refl; there = refl; lag = 1; terms = caught; same_place = refl; same_facts = tt; same_outcome = refl; foreseen = refl; low = omega arith };
+    lands = (equally catch_program catch_func bounds catch_notes (record { at = 4; note = take_note; is = refl; there = refl; lag = 1; terms = caught; same_place = refl; same_facts = tt; same_outcome = refl; foreseen = refl; low = omega arith }));
     some = inl (omega arith);
     short = omega arith;
   };

@@ -1,5 +1,5 @@
 -- An exception in flight goes along in both threads, inside a function.
-use Rattle.std.proofs.Common.{ℕ, zero, suc, ◌≡◌, ◌+◌, ◌-◌, ◌≤◌, ◌⊎◌, inl, inr, Bool, true, false, if◌then◌else◌, refl, ap, ap₂, sym, ◌∙◌, subst, List, [], ◌∷◌, Option, Some, None, arith}
+use Rattle.std.proofs.Common.{ℕ, zero, suc, ◌≡◌, ◌+◌, ◌-◌, ◌≤◌, ◌⊎◌, inl, inr, refl, ap, sym, ◌∙◌, subst, List, [], ◌∷◌, Option, Some, None, arith}
 use Rattle.std.specs.Prelude.{length, drop}
 use Rattle.tx_events.specs.declared.BlockKind.{BlockKind}
 use Rattle.tx_events.specs.declared.BlockKind.TheVariants.{NoExcept, Commit, Cancel}
@@ -15,24 +15,22 @@ use Rattle.tx_code.specs.Meaning as code
 use Rattle.cpp_tree.specs.cpp_types.Typ.{Typ}
 use Rattle.src_mean.specs.Linked.{Func, Program}
 use Rattle.src_mean.specs.Exceptions.{catches, cancels}
-use Rattle.src_mean.specs.Exceptions as exceptions
 use Rattle.src_mean.specs.Frames.{State}
 use Rattle.src_mean.specs.Frames as frames
 use Rattle.src_mean.specs.Source.{source}
 use Rattle.cpp_tree.specs.Trees.{typ_in}
 use Rattle.symbolic_source.specs.Terms.{Term, Exception, unknown, made, Values, exception_of}
 use Rattle.symbolic_source.specs.Frames.{throws, words_of}
-use Rattle.symbolic_source.specs.Outcomes.{leaves_block, Outcome, goes, goes_out, Shows, event_of}
-use Rattle.symbolic_source.specs.Steps.{Answers, advanced}
-use Rattle.symbolic_source.specs.Small.{IsSmall, AreWords, AreRight, Advanced, is_stuck}
+use Rattle.symbolic_source.specs.Outcomes.{leaves_block, Outcome, Shows, event_of}
+use Rattle.symbolic_source.specs.Steps.{Answers}
+use Rattle.symbolic_source.specs.Small.{IsSmall, AreWords, AreRight, is_stuck}
 use Rattle.symbolic_source.specs.Replacing.{in_terms}
 use Rattle.symbolic_source.proofs.Advance.{advance}
 use Rattle.std.specs.Option.{option_map}
 use Rattle.symbolic_code.specs.Facts.{Fact, AllHold}
-use Rattle.symbolic_code.specs.Places.{Place, flying, coded, frame_at, replied, later, with_operands, holding, opened_later}
-use Rattle.symbolic_code.specs.Following.{Loud}
+use Rattle.symbolic_code.specs.Places.{Place, flying, coded, frame_at, later, holding, opened_later}
 use Rattle.symbolic_code.proofs.Later.{words_later, frame_later}
-use Rattle.body_check.specs.Notes.{Note, Bounds, catching, cut_to, IsOf, Answering, Lands, Reaches, Edges, Outward, RowFits, FoundFits, TypeFits, Flies}
+use Rattle.body_check.specs.Notes.{Bounds, catching, cut_to, IsOf, Answering, Reaches, Edges, Outward, RowFits, FoundFits, TypeFits, Flies}
 use Rattle.body_check.specs.Linked.{Held, Based, Stands, Stopped}
 use Rattle.body_check.proofs.Landing.{landed, strode, event_meets}
 
@@ -66,7 +64,7 @@ module _ (p : Program) (names : Names) (numbers : Typ → ℕ) (h : Held) (b : B
     (stands : (rank : ℕ) (s : State) (top : Frame) → Stands p numbers h home limit rest rank s top → Related rank s (Runs top below_frames))
     (stops : (s : State) (c : code.State) → Stopped names s c → Related 0 s c)
     (flies : (s : State) (x : Values) → AreWords x → Based home limit x → (known : List Fact) → AllHold p h.func x known → (index : ℕ) (q : Place) (e : Exception) (o : Outcome) → (t : Flies p h.func b h.notes numbers h.rows known index q e o) → Shows p h.func x rest o s
-        → Related t.rank s (Unwinds (coded numbers (exception_of p h.func x e)) (frame_at p h.func numbers x home index q) below_frames))
+    → Related t.rank s (Unwinds (coded numbers (exception_of p h.func x e)) (frame_at p h.func numbers x home index q) below_frames))
     (current : code.current below_frames ≡ option_map (coded numbers) (frames.handled rest))
     (cancel : (t : Typ) → names.cancels (numbers t) ≡ cancels t)
     (x : Values) (bounded : AreWords x) (based : Based home limit x) (known : List Fact) (holds : AllHold p h.func x known) (rank index : ℕ) (q : Place) (e : Exception) (o : Outcome) (s : State) (shows : Shows p h.func x rest o s) where

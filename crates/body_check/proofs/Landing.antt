@@ -1,5 +1,5 @@
 -- From a note along the instruction to the next notes, as moves of both threads.
-use Rattle.std.proofs.Common.{ℕ, zero, suc, ℤ, ◌≡◌, ◌+◌, ◌-◌, ◌<◌, ◌≤◌, ◌⊎◌, ⊎_elim, inl, inr, Bool, true, false, refl, ap, ap₂, sym, ◌∙◌, subst, List, [], ◌∷◌, Option, Some, None, Result, Ok, Err, ◌^◌, ◌*◌, arith}
+use Rattle.std.proofs.Common.{ℕ, zero, suc, ℤ, ◌≡◌, ◌+◌, ◌<◌, ◌≤◌, ◌⊎◌, inl, inr, true, false, refl, ap, ap₂, sym, ◌∙◌, subst, List, [], ◌∷◌, Option, Some, None, Result, Ok, Err, ◌^◌, ◌*◌, arith}
 use Rattle.std.specs.Prelude.{nat_le}
 use Rattle.std.proofs.lemmas.Bool.{true≢false, leb-true}
 use Rattle.std.proofs.Math.Nat.{pow-le-pow_right}
@@ -8,13 +8,12 @@ use Rattle.tx_ints.specs.declared.kinds.ArithTrap.{ArithTrap}
 use Rattle.tx_events.specs.declared.End.{End}
 use Rattle.tx_events.specs.declared.End.TheVariants.{Terminate, Trapped}
 use Rattle.tx_events.specs.declared.Trap.TheVariants.{BadCall, BadVirtual}
-use Rattle.tx_events.specs.declared.Event.{Event}
 use Rattle.tx_events.specs.declared.Event.TheVariants.{Silent, Stop, Done}
 use Rattle.tx_events.specs.declared.Reply.{Reply}
 use Rattle.tx_events.specs.declared.Reply.TheVariants.{Nothing, Loaded, Byte, Id}
-use Rattle.tx_events.specs.Thread.{Thread, Open, Atomic, Sync, Answers, is_silent}
+use Rattle.tx_events.specs.Thread.{Thread, Atomic, Sync, Answers, is_silent}
 use Rattle.tx_events.specs.Simulation.{Path, here, step}
-use Rattle.lockstep.specs.Moves.{Ranked, Meeting, Striding, Waiting, Move, meets, strides, waits, leads}
+use Rattle.lockstep.specs.Moves.{Ranked, Meeting, Move, strides, waits, leads}
 use Rattle.tx_code.specs.Meaning.{Names, Home, Frame, Runs, Unwinds, Act, Does, Ends, if_some, Free, Building, Flying, step_act, event_of, state_after, thread}
 use Rattle.tx_code.specs.Meaning as code
 use Rattle.cpp_tree.specs.cpp_types.Typ.{Typ}
@@ -22,24 +21,24 @@ use Rattle.src_mean.specs.Linked.{Func, Program}
 use Rattle.src_mean.specs.Exceptions as exceptions
 use Rattle.src_mean.specs.Frames.{State}
 use Rattle.src_mean.specs.Frames as frames
-use Rattle.src_mean.specs.Source.{source, give, leave, rethrow, applied, reply_word, thread_signature}
-use Rattle.symbolic_source.specs.Terms.{Term, variable, Exception, unknown, made, Values, eval, exception_of}
+use Rattle.src_mean.specs.Source.{source, leave, rethrow, applied, reply_word, thread_signature}
+use Rattle.symbolic_source.specs.Terms.{variable, Exception, unknown, made, Values, eval, exception_of}
 use Rattle.symbolic_source.specs.Frames.{Waiting as Waits, Frame as Form, Replied, words_of, below, here_of, throws, returns, breaks, continues}
 use Rattle.symbolic_source.specs.Outcomes.{Doing, silent, reads, writes, puts_out, takes_in, joins, spawns_thread, begins_atomic, begins_sync, ends_block, leaves_block, Outcome, goes, Shows}
 use Rattle.symbolic_source.specs.Outcomes as outcomes
-use Rattle.symbolic_source.specs.Steps.{Answers as Caught, left, given, advanced}
+use Rattle.symbolic_source.specs.Steps.{Answers as Caught, left, given}
 use Rattle.symbolic_source.proofs.Shown.{left_shown}
 use Rattle.symbolic_code.specs.Facts.{Fact, not_zero, has_function, AllHold, in_facts}
 use Rattle.symbolic_code.proofs.Facts.{facts_replaced, facts_placed, all_among}
 use Rattle.std.specs.Option.{option_map}
-use Rattle.symbolic_source.specs.Small.{IsSmall, AreWords, AreRight, Advanced}
-use Rattle.symbolic_source.specs.Replacing.{Replacing, seen_by, in_terms, in_outcome, in_doing, in_waitings, in_frames}
+use Rattle.symbolic_source.specs.Small.{IsSmall, AreWords, AreRight}
+use Rattle.symbolic_source.specs.Replacing.{Replacing, seen_by, in_terms, in_doing, in_waitings, in_frames}
 use Rattle.symbolic_source.proofs.TermLemmas.{term_below}
 use Rattle.symbolic_source.proofs.Advance.{advance, replied as value_after}
 use Rattle.symbolic_source.proofs.Replaced.{terms_replaced, here_replaced, frames_replaced, exception_replaced, outcome_replaced, outcome_placed}
 use Rattle.symbolic_code.specs.Places.{Place, Hold, nothing, making, flying, coded, all_coded, hold_of, frame_at, replied, later}
 use Rattle.symbolic_code.specs.Following.{Next, refused, quietly, either_way, unless_trap, loudly, throwing, finding, starting, rethrowing, ends, Follows, Loud}
-use Rattle.body_check.specs.Notes.{Note, Bounds, in_caught, in_hold, in_place, rising, is_loud, no_answers, Lands, LandsOn, Flies, Fits}
+use Rattle.body_check.specs.Notes.{Note, Bounds, in_caught, in_hold, in_place, rising, is_loud, no_answers, Lands, LandsEqually, Flies, Fits}
 use Rattle.body_check.specs.Linked.{Held, Based, Stands, Stopped, Finished}
 
 -- paths one behind the other
@@ -83,6 +82,23 @@ module _ (p : Program) (f : Func) (numbers : Typ → ℕ) (r : Replacing) (x : V
   frame_replaced home index q =
       ap₂ (λ (u : List code.Exception) (v : code.Held). record { home = home; nest = record { opens = q.opens; caught = u; held = v }; index = index; words = words_of p f x (in_terms r q.operands) }) (caught_replaced q.caught) (held_replaced q.hold)
       ∙ ap (λ (z : List ℕ). record { home = home; nest = record { opens = q.opens; caught = all_coded p f numbers (seen_by p f r x) q.caught; held = hold_of p f numbers (seen_by p f r x) q.hold }; index = index; words = z }) (terms_replaced p f r x q.operands)
+
+-- what lands by the test does so whatever the words are
+module _ (p : Program) (f : Func) (b : Bounds) (notes : List Note) where
+  abbrev pub equally : {known : List Fact} {answers : Caught} {index : ℕ} {q : Place} {o : Outcome} → LandsEqually p f b notes known answers index q o → Lands p f b notes known answers index q o
+  equally {known} {answers} {index} {q} {o} e = record {
+    at = e.at;
+    note = e.note;
+    is = e.is;
+    there = e.there;
+    lag = e.lag;
+    terms = e.terms;
+    same_place = λ x bounded holds numbers home. ap (λ (z : Place). frame_at p f numbers x home index z) (sym e.same_place) ∙ frame_replaced p f numbers e.terms x home index e.note.place;
+    same_facts = λ x bounded holds. facts_replaced p f e.terms x e.note.facts (all_among p f x (in_facts e.terms e.note.facts) known e.same_facts holds);
+    same_outcome = λ x bounded holds rest s shows. outcome_replaced p f e.terms x rest e.note.outcome s (subst (λ z. Shows p f x rest z s) (sym e.same_outcome) shows);
+    foreseen = e.foreseen;
+    low = e.low;
+  }
 
 -- nothing is answered
 pub none_right : (p : Program) (x : Values) → AreRight p x no_answers
@@ -180,7 +196,7 @@ module _ (p : Program) (names : Names) (numbers : Typ → ℕ) (h : Held) (b : B
     (stands : (rank : ℕ) (s : State) (top : Frame) → Stands p numbers h home limit rest rank s top → Related rank s (Runs top below_frames))
     (stops : (s : State) (c : code.State) → Stopped names s c → Related 0 s c)
     (flies : (s : State) (x : Values) → AreWords x → Based home limit x → (known : List Fact) → AllHold p h.func x known → (index : ℕ) (q : Place) (e : Exception) (o : Outcome) → (t : Flies p h.func b h.notes numbers h.rows known index q e o) → Shows p h.func x rest o s
-        → Related t.rank s (Unwinds (coded numbers (exception_of p h.func x e)) (frame_at p h.func numbers x home index q) below_frames))
+    → Related t.rank s (Unwinds (coded numbers (exception_of p h.func x e)) (frame_at p h.func numbers x home index q) below_frames))
     (current : code.current below_frames ≡ option_map (coded numbers) (frames.handled rest)) where
   abbrev Moves : ℕ → State → code.State → Type 0
   Moves rank s c = Move (source p) (thread names) b.most b.longest Related rank s c
@@ -205,9 +221,9 @@ module _ (p : Program) (names : Names) (numbers : Typ → ℕ) (h : Held) (b : B
           note = l.note;
           is = l.is;
           ranked = refl;
-          holds = facts_replaced p h.func l.terms x l.note.facts (all_among p h.func x (in_facts l.terms l.note.facts) known l.same_facts holds);
-          frame = ap₂ (λ (y : ℕ) (z : Place). frame_at p h.func numbers x home y z) (sym l.there) (sym l.same_place) ∙ frame_replaced p h.func numbers l.terms x home l.note.index l.note.place;
-          shows = outcome_replaced p h.func l.terms x rest l.note.outcome a.to (subst (λ z. Shows p h.func x rest z a.to) (sym l.same_outcome) a.shows);
+          holds = l.same_facts x bounded holds;
+          frame = l.same_place x bounded holds numbers home ∙ ap (λ (y : ℕ). frame_at p h.func numbers (seen_by p h.func l.terms x) home y l.note.place) (sym l.there);
+          shows = l.same_outcome x bounded holds rest a.to a.shows;
         });
       }
 

@@ -1,5 +1,5 @@
 -- The notes of the worked program fit.
-use Rattle.std.proofs.Common.{ℕ, zero, suc, ◌≡◌, ◌+◌, ◌≤◌, ◌==◌, cond, inl, Bool, true, false, refl, ap, sym, ◌∙◌, subst, List, [], ◌∷◌, Option, Some, None, arith}
+use Rattle.std.proofs.Common.{ℕ, zero, suc, ◌≡◌, ◌==◌, cond, inl, Bool, true, false, refl, ap, sym, subst, [], ◌∷◌, Option, Some, arith}
 use Rattle.std.specs.Prelude.{slice_get, map}
 use Rattle.tx_code.specs.Objects.{BodyView}
 use Rattle.tx_code.specs.Renaming.{itself, renamed_row}
@@ -9,10 +9,10 @@ use Rattle.tx_code.specs.declared.instr.Instr.TheVariants.{Push, Ret}
 use Rattle.symbolic_source.specs.Terms.{number, variable, unknown}
 use Rattle.symbolic_source.specs.Small.{IsSmall}
 use Rattle.symbolic_source.specs.Replacing.{Replacing}
+use Rattle.body_check.proofs.Landing.{equally}
 use Rattle.body_check.specs.Notes.{Note, Bounds}
-use Rattle.body_check.specs.Linked.{Held}
-use Rattle.body_check.specs.Calls.{Book, by_return, NoteFits, Entry, Checked, Links, Begins}
-use Rattle.body_check.specs.Main.{main_program, main_names, main_body, first_note, second_note, number_of_type, main_book}
+use Rattle.body_check.specs.Calls.{by_return, NoteFits, Checked, Links, Begins}
+use Rattle.body_check.specs.Main.{main_func, main_program, main_names, main_body, first_note, second_note, number_of_type, main_book}
 
 pub bounds : Bounds
 bounds = record { half = 8; longest = 16; both = omega arith; most = 1 }
@@ -28,7 +28,7 @@ first_fits n safe = record {
   short = omega arith;
   foreseen = refl;
   fits = record {
-    lands = record { at = 1; note = second_note; is = refl; there = refl; lag = 0; terms = same; same_place = refl; same_facts = tt; same_outcome = refl; foreseen = refl; low = omega arith };
+    lands = (equally main_program main_func bounds (first_note ∷ second_note ∷ []) (record { at = 1; note = second_note; is = refl; there = refl; lag = 0; terms = same; same_place = refl; same_facts = tt; same_outcome = refl; foreseen = refl; low = omega arith }));
     short = omega arith;
     goes_on = inl (omega arith);
   };

@@ -1,5 +1,5 @@
 -- The notes of the worked program with a call fit.
-use Rattle.std.proofs.Common.{ℕ, zero, suc, ◌≡◌, ◌+◌, ◌*◌, ◌^◌, ◌<◌, ◌≤◌, inl, Bool, true, false, refl, ap, sym, ◌∙◌, subst, List, [], ◌∷◌, Option, Some, None, arith}
+use Rattle.std.proofs.Common.{ℕ, zero, suc, ◌≡◌, ◌^◌, ◌<◌, inl, Bool, true, false, refl, ap, sym, ◌∙◌, subst, [], ◌∷◌, Option, Some, arith}
 use Rattle.std.specs.Prelude.{slice_get, map}
 use Rattle.tx_code.specs.Renaming.{itself, renamed_row}
 use Rattle.tx_code.specs.declared.instr.Instr.TheVariants.{Push, Call, Ret}
@@ -8,11 +8,11 @@ use Rattle.cpp_tree.specs.cpp_layout.Layout.{function_address}
 use Rattle.symbolic_source.specs.Terms.{number, variable, unknown}
 use Rattle.symbolic_source.specs.Small.{IsSmall}
 use Rattle.symbolic_source.specs.Replacing.{Replacing}
+use Rattle.body_check.proofs.Landing.{equally}
 use Rattle.body_check.specs.Notes.{Note, Bounds, no_answers}
 use Rattle.body_check.proofs.Main.{cancels_same}
-use Rattle.body_check.specs.Linked.{Held}
-use Rattle.body_check.specs.Calls.{Book, by_return, NoteFits, Entry, Checked, Links, Begins}
-use Rattle.body_check.specs.Pair.{number_of, named, func_of, body_of, calling_body, pair_program, pair_names, behind_call, call_note, back_note, push_note, ret_note, pair_book}
+use Rattle.body_check.specs.Calls.{by_return, NoteFits, Checked, Links, Begins}
+use Rattle.body_check.specs.Pair.{calling_func, one_func, number_of, named, func_of, body_of, calling_body, pair_program, pair_names, behind_call, call_note, back_note, push_note, ret_note, pair_book}
 
 pub bounds : Bounds
 bounds = record { half = 8; longest = 16; both = omega arith; most = 1 }
@@ -45,7 +45,7 @@ call_fits safe = record {
     taken = refl;
     behind = record {
       back = record {
-        lands = record { at = 1; note = back_note; is = refl; there = refl; lag = 1; terms = same; same_place = refl; same_facts = tt; same_outcome = refl; foreseen = refl; low = omega arith };
+        lands = (equally pair_program calling_func bounds (call_note ∷ back_note ∷ []) (record { at = 1; note = back_note; is = refl; there = refl; lag = 1; terms = same; same_place = refl; same_facts = tt; same_outcome = refl; foreseen = refl; low = omega arith }));
         some = omega arith;
         short = omega arith;
       };
@@ -76,7 +76,7 @@ push_fits n safe = record {
   short = omega arith;
   foreseen = refl;
   fits = record {
-    lands = record { at = 1; note = ret_note; is = refl; there = refl; lag = 0; terms = same; same_place = refl; same_facts = tt; same_outcome = refl; foreseen = refl; low = omega arith };
+    lands = (equally pair_program one_func bounds (push_note ∷ ret_note ∷ []) (record { at = 1; note = ret_note; is = refl; there = refl; lag = 0; terms = same; same_place = refl; same_facts = tt; same_outcome = refl; foreseen = refl; low = omega arith }));
     short = omega arith;
     goes_on = inl (omega arith);
   };

@@ -1,5 +1,5 @@
 -- The threads of a checked program go together, from main on.
-use Rattle.std.proofs.Common.{ℕ, zero, suc, ℤ, ◌≡◌, ◌+◌, ◌*◌, ◌^◌, ◌<◌, ◌==◌, ◌≤◌, ◌%◌, ◌++◌, ◌||◌, not, nat_lt, Bool, true, false, cond, refl, ap, ap₂, sym, ◌∙◌, subst, List, [], ◌∷◌, Option, Some, None, arith}
+use Rattle.std.proofs.Common.{ℕ, zero, suc, ℤ, ◌≡◌, ◌+◌, ◌^◌, ◌<◌, ◌==◌, ◌≤◌, ◌%◌, ◌++◌, ◌||◌, not, Bool, true, false, cond, refl, ap, ap₂, sym, ◌∙◌, subst, List, [], ◌∷◌, Option, Some, None, arith}
 use Rattle.std.specs.Prelude.{slice_get, length, map, is_some}
 use Rattle.std.specs.Option.{option_map}
 use Rattle.std.proofs.Math.Nat.{mod-eq_of_lt}
@@ -10,17 +10,16 @@ use Rattle.symbolic_code.proofs.Facts.{holds_among}
 use Rattle.tx_ints.specs.Words.{word_of}
 use Rattle.tx_ints.proofs.WordLaws.{word_below}
 use Rattle.std.proofs.lemmas.Bool.{true≢false}
-use Rattle.tx_events.specs.declared.Event.{Event}
 use Rattle.tx_events.specs.declared.Event.TheVariants.{Silent}
 use Rattle.tx_events.specs.declared.Reply.{Reply}
 use Rattle.tx_events.specs.declared.Reply.TheVariants.{Nothing}
 use Rattle.tx_events.specs.Thread.{Thread, Open, Atomic, Sync, no_atomic, is_silent}
-use Rattle.tx_events.specs.Same.{Reaches, at_once, silently, answered, steps, Comes, SameEvents, StepsWithin}
+use Rattle.tx_events.specs.Same.{Reaches, at_once, silently, answered, steps, SameEvents, StepsWithin}
 use Rattle.tx_events.specs.Simulation.{Path, here, step}
 use Rattle.tx_events.specs.declared.End.TheVariants.{Trapped}
 use Rattle.tx_events.specs.declared.Trap.TheVariants.{StackOverflow, UnsafeCall, BadCall}
 use Rattle.std.proofs.Math.Nat.{mul-le-mul_left}
-use Rattle.lockstep.specs.Moves.{Move, meets, leads}
+use Rattle.lockstep.specs.Moves.{meets, leads}
 use Rattle.lockstep.proofs.Walk.{moves_same, moves_within}
 use Rattle.tx_code.specs.declared.instr.Instr.{Instr}
 use Rattle.tx_code.specs.declared.instr.Instr.TheVariants.{Call, TCall, CallIndirect, TCallIndirect, Ret}
@@ -29,28 +28,28 @@ use Rattle.tx_code.specs.Meaning.{Names, Home, Frame, Runs, Unwinds, Act, first_
 use Rattle.tx_code.specs.Meaning as code
 use Rattle.tx_code.specs.Renaming.{renamed, renamed_row}
 use Rattle.cpp_tree.specs.cpp_types.Typ.{Typ, Signature, typ, void}
-use Rattle.src_mean.specs.Linked.{Func, Program}
+use Rattle.src_mean.specs.Linked.{Program}
 use Rattle.src_mean.specs.Frames.{State}
 use Rattle.src_mean.specs.Frames as frames
 use Rattle.src_mean.specs.Exceptions as exceptions
 use Rattle.src_mean.specs.Source.{source, begins as thread_begins, main_state, empty_stack, enter, enter_found, enter_pointed, invoke, is_safe, inside, halt}
 use Rattle.symbolic_source.specs.Terms.{Term, Exception, number, Values, number_found, eval, exception_of}
 use Rattle.symbolic_source.specs.Frames.{Waiting, Frame as Form, Callee, value, Passes, Then, words_of, callee_of, below, here_of}
-use Rattle.symbolic_source.specs.Outcomes.{Outcome, silent, goes, calls, Shows}
+use Rattle.symbolic_source.specs.Outcomes.{Outcome, silent, goes, Shows}
 use Rattle.symbolic_source.specs.Steps.{Answers, advanced}
 use Rattle.symbolic_source.specs.Small.{IsSmall, AreWords, AreRight, Advanced, is_stuck}
 use Rattle.symbolic_source.proofs.Advance.{advance}
 use Rattle.symbolic_code.specs.Places.{Place, coded, frame_at, with_operands}
 use Rattle.symbolic_code.specs.Following.{followed}
 use Rattle.body_check.specs.Notes.{Note, Bounds, IsOf, Outward, TypeFits, Flies, Fits, no_answers, variables}
-use Rattle.body_check.specs.Linked.{Held, Based, Stands, Stopped, Finished}
-use Rattle.body_check.specs.Calls.{Book, taken_off, bare, Begins, Hands, covers, Behind, Calling, Found, by_pointer, by_slot, CallingFound, StepFits, NoteFits, Checked, Whole, Links}
+use Rattle.body_check.specs.Linked.{Held, Based, Stands, Stopped}
+use Rattle.body_check.specs.Calls.{Book, taken_off, bare, Begins, Hands, covers, Behind, Calling, Found, by_pointer, by_slot, CallingFound, StepFits, Checked, Whole, Links}
 use Rattle.body_check.specs.Threads.{home_of, limit, Callers, nobody, RunsIn, FliesIn, Together, running, flies, stopped, finished}
 use Rattle.body_check.proofs.Landing.{none_right, stop_meets, ended_meets}
 use Rattle.body_check.proofs.Flight.{flight_move}
 use Rattle.body_check.proofs.Calls.{count_of, moved_is, taken_count, word_at, variables_are}
 use Rattle.body_check.proofs.AtNote.{step_is, note_move}
-use Rattle.body_check.proofs.Threads.{Moves, Pairs, held, end_of, stands_in, flies_in, callers_blocks, callers_current, call_move, return_word, return_none, out_move}
+use Rattle.body_check.proofs.Threads.{Moves, stands_in, flies_in, callers_blocks, callers_current, call_move, return_word, return_none, out_move}
 
 -- where a frame of a safe body has an open atomic block below it
 
@@ -234,7 +233,7 @@ module _ (p : Program) (names : Names) (b : Bounds) (book : Book) (id : ℕ) (li
         found_call into name count c.address c.callee c.gives c.found c.words c.under c.temporaries c.others (counted count c.words (c.address ∷ c.under) c.operands_are) c.behind cover v.to (subst (λ z. Path (source p) z s v.to) v.long v.path) short
         (subst (λ z. Shows p h.func x r.rest z v.to) c.outcome_is v.shows)
         (e ∙ moved_is p h.func x count note.place.operands [] c.words (c.address ∷ c.under) (λ args vs. code.one vs (λ a others. code.if_some (names.called ((names.numbering n).ty name) a) (code.traps BadCall)
-            (λ m. code.checked_act names m (code.in_transaction frame fs) (code.entered_act names m into args (code.at frame note.index others) fs)))) c.operands_are)
+        (λ m. code.checked_act names m (code.in_transaction frame fs) (code.entered_act names m into args (code.at frame note.index others) fs)))) c.operands_are)
 
     word_at_return : (w : Term) (under : List Term) → note.lead + 1 ≤ b.half → (foreseen : is_stuck (advanced p h.func no_answers note.lead note.outcome) ≡ false) → book.gives n ≡ true
         → note.place.operands ≡ w ∷ under → Hands w (advanced p h.func no_answers note.lead note.outcome) → step_act names (Runs frame fs) ≡ code.ret_act 1 frame fs → Makes rank s (Runs frame fs)

@@ -1,16 +1,14 @@
 -- Checked bodies keep their events, calls and returns included.
-use Rattle.std.proofs.Common.{ℕ, zero, suc, ℤ, ◌≡◌, ◌+◌, ◌^◌, ◌<◌, ◌≤◌, inl, inr, nat_lt, ◌==◌, Bool, true, false, cond, if◌then◌else◌, refl, ap, ap₂, sym, ◌∙◌, subst, List, [], ◌∷◌, ◌++◌, Option, Some, None, arith}
-use Rattle.std.specs.Prelude.{slice_get, nat_le}
+use Rattle.std.proofs.Common.{ℕ, zero, suc, ◌≡◌, ◌+◌, ◌^◌, ◌<◌, ◌≤◌, nat_lt, ◌==◌, Bool, true, false, cond, if◌then◌else◌, refl, ap, ap₂, sym, ◌∙◌, subst, List, [], ◌∷◌, ◌++◌, Some, arith}
+use Rattle.std.specs.Prelude.{nat_le}
 use Rattle.tx_ints.specs.declared.kinds.IntKind.TheVariants.{Int}
 use Rattle.tx_ints.specs.Words.{value_of_word}
-use Rattle.tx_events.specs.declared.End.{End}
 use Rattle.tx_events.specs.declared.End.TheVariants.{Terminate, Trapped, Exit as Exits}
 use Rattle.tx_events.specs.declared.Event.TheVariants.{Silent, Stop, Done}
 use Rattle.tx_events.specs.declared.Reply.TheVariants.{Nothing, Loaded}
 use Rattle.tx_events.specs.declared.Trap.TheVariants.{StackOverflow}
 use Rattle.tx_events.specs.Simulation.{Path, here, step}
-use Rattle.lockstep.specs.Moves.{Ranked, Move, strides, leads}
-use Rattle.tx_code.specs.declared.instr.Instr.{Instr}
+use Rattle.lockstep.specs.Moves.{Move, strides, leads}
 use Rattle.tx_code.specs.Objects.{BodyView}
 use Rattle.tx_code.specs.Meaning.{Names, Home, Frame, Runs, Unwinds, Act, Ends, Lost, if_some, step_act, thread}
 use Rattle.tx_code.specs.Meaning as code
@@ -22,8 +20,8 @@ use Rattle.src_mean.specs.Exceptions as exceptions
 use Rattle.src_mean.specs.Source.{source as thread_of, enter, halt, leave, empty_stack}
 use Rattle.src_mean.specs.Source as source
 use Rattle.symbolic_source.specs.Terms.{Term, Exception, number, variable, unknown, Values, eval, exception_of}
-use Rattle.symbolic_source.specs.Frames.{Waiting as Kept, Frame as Form, value, throws, known, Passes, Then, Gives, Leaves, words_of, below, here_of}
-use Rattle.symbolic_source.specs.Outcomes.{silent, Outcome, goes, calls, Shows, Stops}
+use Rattle.symbolic_source.specs.Frames.{Waiting as Kept, Frame as Form, value, throws, Passes, Then, Gives, Leaves, words_of, below, here_of}
+use Rattle.symbolic_source.specs.Outcomes.{silent, Outcome, goes, Shows}
 use Rattle.symbolic_source.specs.Steps.{advanced}
 use Rattle.symbolic_source.specs.Small.{IsSmall, AreWords, Advanced, is_stuck}
 use Rattle.symbolic_source.specs.Replacing.{in_terms, in_waitings, in_frames}
@@ -32,17 +30,17 @@ use Rattle.symbolic_source.proofs.Advance.{advance}
 use Rattle.symbolic_source.proofs.Replaced.{here_replaced, frames_replaced}
 use Rattle.symbolic_code.specs.Places.{Place, coded, all_coded, frame_at, replied, later, with_operands, place_later}
 use Rattle.symbolic_code.proofs.Later.{words_later, frame_later}
-use Rattle.body_check.specs.Notes.{Note, Bounds, Flies, in_place, rising, no_answers, variables}
-use Rattle.body_check.specs.Linked.{Held, Based, Stands, Stopped, Finished}
+use Rattle.body_check.specs.Notes.{Bounds, Flies, in_place, rising, no_answers, variables}
+use Rattle.body_check.specs.Linked.{Held, Based, Stands}
 use Rattle.std.specs.Option.{option_map}
 use Rattle.tx_events.specs.Thread.{Open, no_atomic}
 use Rattle.symbolic_source.proofs.Below.{blocks_below, or_callers, handled_below}
 use Rattle.symbolic_code.specs.Facts.{Fact, AllHold, in_facts}
 use Rattle.symbolic_code.proofs.Facts.{facts_placed}
-use Rattle.body_check.specs.Calls.{Book, taken_off, bare, Hands, by_end, by_return, first_of, Behind, Entry, Checked, Links}
-use Rattle.body_check.specs.Threads.{home_of, limit, Waits, waiting_frame, waiting_frames, Covered, Callers, nobody, waits_for, RunsIn, FliesIn, Together, running, flies, stopped, finished}
-use Rattle.body_check.proofs.Landing.{joined, none_right, landed, Landed, frame_replaced, stop_meets, ended_meets}
-use Rattle.body_check.proofs.Calls.{count_of, moved_is, taken_count, fits_or_not, values_in, new_variables, entered, new_words}
+use Rattle.body_check.specs.Calls.{Book, bare, Hands, by_end, by_return, first_of, Behind, Entry, Links}
+use Rattle.body_check.specs.Threads.{home_of, limit, Waits, waiting_frame, Covered, Callers, nobody, waits_for, Together, running, flies, stopped, finished}
+use Rattle.body_check.proofs.Landing.{joined, none_right, landed, frame_replaced, stop_meets, ended_meets}
+use Rattle.body_check.proofs.Calls.{count_of, fits_or_not, values_in, new_variables, entered, new_words}
 
 module _ (p : Program) (names : Names) (b : Bounds) (book : Book) (id : ℕ) (links : Links p names b book) (small : IsSmall p) where
   abbrev numbers : Typ → ℕ
@@ -219,7 +217,25 @@ module _ (p : Program) (names : Names) (b : Bounds) (book : Book) (id : ℕ) (li
       (s : State) (x : Values) → AreWords x → Based (home_of id n safe base) end_of x → (known : List Fact) → AllHold p (held n safe).func x known → (index : ℕ) (q : Place) (e : Exception) (o : Outcome) → (t : Flies p (held n safe).func b (held n safe).notes numbers (held n safe).rows known index q e o)
       → Shows p (held n safe).func x rest o s → Pairs t.rank s (Unwinds (coded numbers (exception_of p (held n safe).func x e)) (frame_at p (held n safe).func numbers x (home_of id n safe base) index q) fs)
   flies_in n safe base body there fs rest covered callers s x bounded based facts holds index q e o fits shows = flies n safe base (record {
-    body = body; there = there; rest = rest; callers = callers; covered = covered; facts = facts; holds = holds; values = x; are_words = bounded; based = based; index = index; place = q; form = e; outcome = o; frame = refl; is = refl; fits = fits; ranked = refl; shows = shows;
+    body = body;
+    there = there;
+    rest = rest;
+    callers = callers;
+    covered = covered;
+    facts = facts;
+    holds = holds;
+    values = x;
+    are_words = bounded;
+    based = based;
+    index = index;
+    place = q;
+    form = e;
+    outcome = o;
+    frame = refl;
+    is = refl;
+    fits = fits;
+    ranked = refl;
+    shows = shows;
   })
 
   back_with_word : (home : Home) (lead rank v : ℕ) (s t : State) (c : code.State) (n : ℕ) (safe : Bool) (base : ℕ) (stops : Bool) (w : Waits p names b book id true stops n safe base) (fs : List Frame) (rest : List frames.Frame) (covered : Covered p names b book id safe fs) → v < 2 ^ 64

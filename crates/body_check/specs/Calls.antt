@@ -4,26 +4,23 @@ use Rattle.tx_events.specs.Thread.{Open, no_atomic}
 use Rattle.tx_code.specs.declared.instr.Instr.{Instr}
 use Rattle.tx_code.specs.declared.instr.Instr.TheVariants.{Call, TCall, CallIndirect, TCallIndirect, Ret}
 use Rattle.tx_code.specs.Objects.{BodyView}
-use Rattle.tx_code.specs.Meaning.{Names, Home}
-use Rattle.tx_code.specs.Meaning as code
+use Rattle.tx_code.specs.Meaning.{Names}
 use Rattle.tx_code.specs.Renaming.{renamed_row}
 use Rattle.cpp_tree.specs.cpp_types.Typ.{Typ, Signature}
-use Rattle.src_mean.specs.Linked.{Func, Program}
+use Rattle.src_mean.specs.Linked.{Program}
 use Rattle.src_mean.specs.Exceptions.{cancels}
-use Rattle.src_mean.specs.Frames.{State}
-use Rattle.src_mean.specs.Frames as frames
 use Rattle.src_mean.specs.Source.{is_safe, empty_stack}
-use Rattle.symbolic_source.specs.Terms.{Term, Exception, number, variable, slot_function, unknown, Values}
-use Rattle.symbolic_source.specs.Frames.{Waiting, Frame, value, throws, returns, Callee, known as known_func, virtual, pointer, Passes, Then, Gives, Leaves, handled, blocks_in, below, here_of}
+use Rattle.symbolic_source.specs.Terms.{Term, Exception, number, variable, slot_function, unknown}
+use Rattle.symbolic_source.specs.Frames.{Waiting, Frame, value, throws, returns, Callee, known as known_func, virtual, pointer, Passes, Then, Gives, Leaves, handled, blocks_in}
 use Rattle.symbolic_source.specs.Outcomes.{silent, Outcome, goes, hands, goes_out, calls}
 use Rattle.symbolic_source.specs.Steps.{advanced}
-use Rattle.symbolic_source.specs.Small.{AreWords, is_stuck}
+use Rattle.symbolic_source.specs.Small.{is_stuck}
 use Rattle.symbolic_source.specs.Replacing.{in_terms, in_waitings, in_frames}
 use Rattle.symbolic_code.specs.Facts.{Fact, has_function, in_facts, Among}
-use Rattle.symbolic_code.specs.Places.{Place, nothing, frame_at, later, with_operands, place_later}
+use Rattle.symbolic_code.specs.Places.{Place, nothing, later, with_operands, place_later}
 use Rattle.symbolic_code.specs.Following.{followed, AreNames}
 use Rattle.body_check.specs.Notes.{Note, Bounds, Lands, Fits, Flies, in_place, rising, no_answers, variables}
-use Rattle.body_check.specs.Linked.{Held, Based, Stands, Stopped}
+use Rattle.body_check.specs.Linked.{Held}
 
 -- the bodies by function and by whether it is the safe one; whether a function hands back a word, how many words it takes, and whether it lets no exception out; types' numbers
 pub record Book : Type 0 where

@@ -7,7 +7,7 @@ use Rattle.cpp_tree.specs.cpp_types.Typ.{Typ, typ, Form, void, ref, class}
 use Rattle.cpp_tree.specs.cpp_types.Class.{Class}
 use Rattle.cpp_tree.specs.cpp_types.Equal.{name_eq}
 use Rattle.cpp_tree.specs.cpp_types.Spelling.{form_spelling}
-use Rattle.cpp_tree.specs.Trees.{Tree, typ_in}
+use Rattle.cpp_tree.specs.Trees.{typ_in}
 use Rattle.src_mean.specs.Exceptions.{caught_as, form_in}
 use Rattle.symbolic_source.specs.Steps.{Answers}
 

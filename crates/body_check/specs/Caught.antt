@@ -1,5 +1,5 @@
 -- A whole program in which an exception is thrown and caught: `int main() { try { throw 1; } catch (int e) { return e; } return 0; }`, with its code and its notes.
-use Rattle.std.specs.Prelude.{ℕ, ◌==◌, cond, Bool, true, false, List, [], ◌∷◌, Option, Some, None}
+use Rattle.std.specs.Prelude.{ℕ, ◌==◌, cond, true, false, List, [], ◌∷◌, Option, Some, None}
 use Rattle.tx_ints.specs.declared.kinds.IntKind.TheVariants.{Int}
 use Rattle.tx_code.specs.declared.instr.Instr.TheVariants.{Push, FrameAddr, Load, Store, NewException, PutException, Throw, GetException, EndHandler, Ret}
 use Rattle.tx_code.specs.declared.body.Row.{Row}
@@ -9,7 +9,7 @@ use Rattle.tx_code.specs.Meaning.{Names}
 use Rattle.cpp_tree.specs.cpp_types.Typ.{Typ, int}
 use Rattle.cpp_tree.specs.cpp_layout.Layout.{function_address}
 use Rattle.cpp_tree.specs.declared.kinds.TKind.TheVariants.{Literal, Local, Load as Loading, Block, Return, Try, Throw as Throwing, Handler, Field}
-use Rattle.cpp_tree.specs.Trees.{Tree, Trees, none, more}
+use Rattle.cpp_tree.specs.Trees.{Tree, none, more}
 use Rattle.cpp_tree.specs.Notation.{plain, effect, prvalue, lvalue}
 use Rattle.src_mean.specs.Linked.{Func, Program}
 use Rattle.src_mean.specs.Frames.{of_block}
@@ -21,8 +21,7 @@ use Rattle.symbolic_source.specs.Outcomes.{silent, Outcome, goes}
 use Rattle.symbolic_source.specs.Steps.{given, advanced}
 use Rattle.symbolic_code.specs.Places.{Place, making, nothing, with_operands, holding}
 use Rattle.symbolic_code.specs.Following.{Table}
-use Rattle.body_check.specs.Notes.{Note, Bounds, no_answers}
-use Rattle.body_check.specs.Linked.{Held}
+use Rattle.body_check.specs.Notes.{Note, no_answers}
 use Rattle.body_check.specs.Calls.{Book, bare}
 use Rattle.body_check.specs.Main.{number_of_type}
 

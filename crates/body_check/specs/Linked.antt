@@ -1,5 +1,5 @@
 -- A frame of a checked body, with what the source has left to do in it.
-use Rattle.std.specs.Prelude.{ℕ, Bool, ◌≡◌, ◌≤◌, List, ◌∷◌, Option, Some, slice_get}
+use Rattle.std.specs.Prelude.{ℕ, Bool, ◌≡◌, List, ◌∷◌, Some, slice_get}
 use Rattle.tx_events.specs.declared.End.{End}
 use Rattle.tx_events.specs.declared.Event.TheVariants.{Stop, Done}
 use Rattle.tx_code.specs.declared.body.Row.{Row}
@@ -15,7 +15,7 @@ use Rattle.symbolic_source.specs.Outcomes.{Shows}
 use Rattle.symbolic_source.specs.Small.{AreWords}
 use Rattle.symbolic_code.specs.Facts.{AllHold}
 use Rattle.symbolic_code.specs.Places.{frame_at}
-use Rattle.symbolic_code.specs.Following.{Table, AreNames}
+use Rattle.symbolic_code.specs.Following.{Table}
 use Rattle.body_check.specs.Notes.{Note}
 
 -- a body that is held against a function of the source: the function's number and frame, whether it is the safe body, its rows with the numbers of types, the notes and the table

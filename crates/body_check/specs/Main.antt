@@ -1,5 +1,5 @@
 -- A whole program that is checked: `int main() { return 0; }`, with its code and its notes.
-use Rattle.std.specs.Prelude.{ℕ, zero, suc, ◌+◌, ◌*◌, ◌==◌, cond, Bool, true, false, List, [], ◌∷◌, Option, Some, None}
+use Rattle.std.specs.Prelude.{ℕ, ◌==◌, cond, true, false, [], ◌∷◌, Some, None}
 use Rattle.tx_ints.specs.declared.kinds.IntKind.TheVariants.{Int}
 use Rattle.tx_code.specs.declared.instr.Instr.TheVariants.{Push, Ret}
 use Rattle.tx_code.specs.Objects.{BodyView}
@@ -18,8 +18,7 @@ use Rattle.symbolic_source.specs.Outcomes.{silent, Outcome, goes}
 use Rattle.symbolic_source.specs.Steps.{advanced}
 use Rattle.symbolic_code.specs.Places.{with_operands}
 use Rattle.symbolic_code.specs.Following.{Table}
-use Rattle.body_check.specs.Notes.{Note, Bounds, no_answers}
-use Rattle.body_check.specs.Linked.{Held}
+use Rattle.body_check.specs.Notes.{Note, no_answers}
 use Rattle.body_check.specs.Calls.{Book, bare}
 
 abbrev pub main_func : Func

@@ -3,19 +3,21 @@ use Rattle.std.specs.Prelude.{ℕ, zero, suc, ◌+◌, ◌-◌, ◌≡◌, ◌�
 use Rattle.tx_events.specs.declared.BlockKind.TheVariants.{NoExcept, Commit, Cancel}
 use Rattle.tx_events.specs.Thread.{Open, Atomic, Sync, rest_of}
 use Rattle.tx_code.specs.declared.body.Row.{Row}
-use Rattle.tx_code.specs.Meaning.{find}
+use Rattle.tx_code.specs.Meaning.{Home, find}
 use Rattle.cpp_tree.specs.cpp_types.Typ.{Typ}
 use Rattle.src_mean.specs.Exceptions.{catches}
 use Rattle.src_mean.specs.Linked.{Func, Program}
 use Rattle.cpp_tree.specs.Trees.{Tree, typ_in}
-use Rattle.symbolic_source.specs.Terms.{Term, variable, Exception, unknown, made}
+use Rattle.src_mean.specs.Frames.{State}
+use Rattle.src_mean.specs.Frames as frames
+use Rattle.symbolic_source.specs.Terms.{Values, Term, variable, Exception, unknown, made}
 use Rattle.symbolic_source.specs.Frames.{Waiting, Frame, throws, Replied}
-use Rattle.symbolic_source.specs.Outcomes.{Doing, silent, reads, leaves_block, Outcome, goes, goes_out}
+use Rattle.symbolic_source.specs.Outcomes.{Doing, silent, reads, leaves_block, Outcome, goes, goes_out, Shows}
 use Rattle.symbolic_source.specs.Steps.{Answers, left, given, advanced}
-use Rattle.symbolic_source.specs.Small.{is_stuck}
-use Rattle.symbolic_source.specs.Replacing.{Replacing, in_exception, in_puts, in_terms, in_waitings, in_frames, in_outcome}
-use Rattle.symbolic_code.specs.Facts.{Fact, not_zero, has_function, in_facts, AllAmong}
-use Rattle.symbolic_code.specs.Places.{Place, Hold, nothing, making, flying, later, with_operands, holding, opened_later}
+use Rattle.symbolic_source.specs.Small.{AreWords, is_stuck}
+use Rattle.symbolic_source.specs.Replacing.{Replacing, seen_by, in_exception, in_puts, in_terms, in_waitings, in_frames, in_outcome}
+use Rattle.symbolic_code.specs.Facts.{Fact, not_zero, has_function, AllHold, in_facts, AllAmong}
+use Rattle.symbolic_code.specs.Places.{frame_at, Place, Hold, nothing, making, flying, later, with_operands, holding, opened_later}
 use Rattle.symbolic_code.specs.Following.{Next, refused, quietly, either_way, unless_trap, loudly, throwing, finding, starting, rethrowing, ends}
 
 -- at an index, of which there may be several, as one for each round of a loop: the place, what is known of its words, what comes of the source, how many silent steps the source takes before the instruction, and a rank that falls
@@ -83,9 +85,23 @@ pub record Bounds : Type 0 where
   pub most : ℕ
 
 module _ (p : Program) (f : Func) (b : Bounds) (notes : List Note) where
-  -- a way on leads to an index, with the terms of the way in the place of the note's variables, after some silent steps of the source,
-  -- with these answers on unknown exceptions; what the note knows is among what is known
+  -- a way on leads to a note of an index, after some silent steps of the source, with these answers on unknown exceptions: whatever the words are of which it is known that the facts hold, with what
+  -- the terms stand for in the place of the note's variables the frame is that of the note, the note's facts hold, and the source has come to what the note foresees
   pub record Lands (known : List Fact) (answers : Answers) (index : ℕ) (q : Place) (o : Outcome) : Type 0 where
+    pub at : ℕ
+    pub note : Note
+    pub is : slice_get notes at ≡ Some note
+    pub there : note.index ≡ index
+    pub lag : ℕ
+    pub terms : Replacing
+    pub same_place : (x : Values) → AreWords x → AllHold p f x known → (numbers : Typ → ℕ) (home : Home) → frame_at p f numbers x home index q ≡ frame_at p f numbers (seen_by p f terms x) home index note.place
+    pub same_facts : (x : Values) → AreWords x → AllHold p f x known → AllHold p f (seen_by p f terms x) note.facts
+    pub same_outcome : (x : Values) → AreWords x → AllHold p f x known → (rest : List frames.Frame) (s : State) → Shows p f x rest (advanced p f answers lag o) s → Shows p f (seen_by p f terms x) rest note.outcome s
+    pub foreseen : is_stuck (advanced p f answers lag o) ≡ false
+    pub low : note.rank ≤ b.most
+
+  -- a test of it: the terms in the place of the note's variables make what was computed, and facts that are known
+  pub record LandsEqually (known : List Fact) (answers : Answers) (index : ℕ) (q : Place) (o : Outcome) : Type 0 where
     pub at : ℕ
     pub note : Note
     pub is : slice_get notes at ≡ Some note

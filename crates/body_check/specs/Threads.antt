@@ -1,11 +1,10 @@
 -- Threads of checked bodies: each frame with what the source has left to do in it.
-use Rattle.std.specs.Prelude.{ℕ, ◌+◌, ◌==◌, ◌≡◌, Bool, true, false, List, [], ◌∷◌, Some, slice_get}
+use Rattle.std.specs.Prelude.{ℕ, ◌==◌, ◌≡◌, Bool, true, false, List, [], ◌∷◌, Some}
 use Rattle.tx_code.specs.Objects.{BodyView}
 use Rattle.tx_code.specs.Meaning.{Names, Home, Frame, Runs, Unwinds, blocks_in}
 use Rattle.tx_events.specs.Thread.{no_atomic}
 use Rattle.tx_code.specs.Meaning as code
-use Rattle.cpp_tree.specs.cpp_types.Typ.{Typ}
-use Rattle.src_mean.specs.Linked.{Func, Program}
+use Rattle.src_mean.specs.Linked.{Program}
 use Rattle.src_mean.specs.Frames.{State}
 use Rattle.src_mean.specs.Frames as frames
 use Rattle.src_mean.specs.Source.{empty_stack}
@@ -17,7 +16,7 @@ use Rattle.symbolic_source.specs.Small.{AreWords}
 use Rattle.symbolic_code.specs.Facts.{Fact, AllHold}
 use Rattle.symbolic_code.specs.Places.{Place, coded, frame_at, with_operands}
 use Rattle.body_check.specs.Notes.{Bounds, Flies}
-use Rattle.body_check.specs.Linked.{Held, Based, Stands, Stopped, Finished}
+use Rattle.body_check.specs.Linked.{Based, Stands, Stopped, Finished}
 use Rattle.body_check.specs.Calls.{Book, Behind}
 
 -- a frame of a thread

@@ -1,5 +1,5 @@
 -- Worked bodies: each in C++, its typed tree, the code that the compiler writes, and how the source goes along with it.
-use Rattle.std.specs.Prelude.{ℕ, zero, suc, Bool, true, false, List, [], ◌∷◌, Option, Some, None, slice_get}
+use Rattle.std.specs.Prelude.{ℕ, true, false, List, [], ◌∷◌, Option, Some, None, slice_get}
 use Rattle.std.specs.Option.{option_and_then}
 use Rattle.tx_ints.specs.declared.kinds.IntKind.TheVariants.{Int}
 use Rattle.tx_ints.specs.declared.kinds.BinOp.TheVariants.{Add}
@@ -7,7 +7,6 @@ use Rattle.tx_code.specs.declared.instr.Instr.{Instr}
 use Rattle.tx_code.specs.declared.instr.Instr.TheVariants.{Push, Swap, FrameAddr, Load, Store, Bin, Ret}
 use Rattle.cpp_tree.specs.cpp_types.Typ.{Typ, int}
 use Rattle.cpp_tree.specs.declared.kinds.TKind.TheVariants.{Literal, Local, Load as Loading, Binary, Block, Return}
-use Rattle.cpp_tree.specs.Trees.{Tree}
 use Rattle.cpp_tree.specs.Notation.{plain, effect, prvalue, lvalue}
 use Rattle.src_mean.specs.Linked.{Func, Program}
 use Rattle.symbolic_source.specs.Terms.{Term, variable}
