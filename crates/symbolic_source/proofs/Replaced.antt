@@ -1,5 +1,5 @@
 -- What stands for a form with terms in the place of its variables.
-use Rattle.std.proofs.Common.{ℕ, ◌≡◌, ◌+◌, ◌%◌, ◌*◌, ◌-◌, ◌^◌, refl, ap, ap₂, sym, ◌∙◌, List, [], ◌∷◌}
+use Rattle.std.proofs.Common.{ℕ, ◌≡◌, ◌+◌, ◌%◌, ◌*◌, ◌-◌, ◌^◌, refl, ap, ap₂, sym, ◌∙◌, List, [], ◌∷◌, ◌==◌, Bool, true, false, cond, arith}
 use Rattle.cpp_tree.specs.tx_ints.declared.kinds.IntKind.TheVariants.{Int, Long}
 use Rattle.cpp_tree.specs.tx_ints.Words.{value_of_word}
 use Rattle.cpp_tree.specs.tx_events.declared.Event.TheVariants.{Load as Reads, Store as Writes, Out, Spawn as Spawns, Join as Joins}
@@ -14,7 +14,41 @@ use Rattle.src_mean.specs.Source.{plus, converted, applied, stored_bytes, closin
 use Rattle.symbolic_source.specs.Terms.{Term, number, variable, local, global, function, table, slot_function, sum, product, before, low_byte, converted_to, result, field, Exception, unknown, made, Puts, untouched, put, Values, word_or_zero, number_found, eval, exception_of, bytes_put}
 use Rattle.symbolic_source.specs.Frames.{Spot, at_word, at_tree, Waiting, Way, value, into, Exit, throws, returns, breaks, continues, Callee, known, virtual, pointer, builtin, Frame, Run, Address, Then, Gives, Leaves, StoreTo, Apply, Choose, UpdateOld, UpdateBy, CopyBy, From, Words, Object, Slot, Pointer, Passes, Full, Keeps, Scope, Waits, Cleans, Destroys, Parts, Each, Compares, Fills, Filled, Trying, Takes, Taking, Handling, spot_of, waitings_of, words_of, way_of, exit_of, callee_of, frame_of, below, here_of}
 use Rattle.symbolic_source.specs.Outcomes.{Doing, reads, writes, puts_out, joins, spawns_thread, leaves_block, Outcome, stuck, goes, hands, goes_out, chooses, results, finds, calls, spawns, rethrows, halts, Shows, event_of}
-use Rattle.symbolic_source.specs.Replacing.{Replacing, seen_by, in_term, in_exception, in_puts, in_terms, in_spot, in_waitings, in_way, in_exit, in_callee, in_frame, in_frames, in_doing, in_outcome}
+use Rattle.std.proofs.lemmas.Bool.{eqb-true}
+use Rattle.symbolic_source.proofs.TermLemmas.{one_less_is}
+use Rattle.symbolic_source.specs.Replacing.{joined, summed, multiplied, Replacing, seen_by, in_term, in_exception, in_puts, in_terms, in_spot, in_waitings, in_way, in_exit, in_callee, in_frame, in_frames, in_doing, in_outcome}
+
+module _ (p : Program) (f : Func) (x : Values) where
+  joined_is : (a : Term) (n : ℕ) → eval p f x (joined a n) ≡ plus (eval p f x a) (n % 2 ^ 64)
+  unfolding plus
+  joined_is (number m) n = both m n
+    where
+      both : (m n : ℕ) → (m + n) % 2 ^ 64 ≡ (m % 2 ^ 64 + n % 2 ^ 64) % 2 ^ 64
+      both m n = omega arith
+  joined_is (local offset) n = both x.base offset n
+    where
+      both : (b m n : ℕ) → (b + (m + n)) % 2 ^ 64 ≡ ((b + m) % 2 ^ 64 + n % 2 ^ 64) % 2 ^ 64
+      both b m n = omega arith
+  joined_is (sum a (number m)) n = both (eval p f x a) m n
+    where
+      both : (b m n : ℕ) → (b + (m + n) % 2 ^ 64) % 2 ^ 64 ≡ ((b + m % 2 ^ 64) % 2 ^ 64 + n % 2 ^ 64) % 2 ^ 64
+      both b m n = omega arith
+  joined_is a n = refl
+
+  summed_is : (a b : Term) → eval p f x (summed a b) ≡ plus (eval p f x a) (eval p f x b)
+  summed_is a (number n) = joined_is a n
+  summed_is a b = refl
+
+  times_zero : (t : Bool) (m : ℕ) (b : Term) → (m == 0) ≡ t → eval p f x (cond t (number 0) (product (number m) b)) ≡ (m % 2 ^ 64 * eval p f x b) % 2 ^ 64
+  times_zero true m b e = sym (ap (λ z. (z % 2 ^ 64 * eval p f x b) % 2 ^ 64) (eqb-true m 0 e) ∙ nothing (eval p f x b))
+    where
+      nothing : (n : ℕ) → (0 * n) % 2 ^ 64 ≡ 0
+      nothing n = omega arith
+  times_zero false m b e = refl
+
+  multiplied_is : (a b : Term) → eval p f x (multiplied a b) ≡ (eval p f x a * eval p f x b) % 2 ^ 64
+  multiplied_is (number m) b = times_zero (m == 0) m b refl
+  multiplied_is a b = refl
 
 module _ (p : Program) (f : Func) (r : Replacing) (x : Values) where
   abbrev y : Values
@@ -24,9 +58,9 @@ module _ (p : Program) (f : Func) (r : Replacing) (x : Values) where
     pub term_replaced : (t : Term) → eval p f x (in_term r t) ≡ eval p f y t
     term_replaced (variable n) = refl
     term_replaced (slot_function class slot a) = ap (λ z. function_address (number_found (p.slot z class slot)) % 2 ^ 64) (term_replaced a)
-    term_replaced (sum a b) = ap₂ plus (term_replaced a) (term_replaced b)
-    term_replaced (product a b) = ap₂ (λ u v. (u * v) % 2 ^ 64) (term_replaced a) (term_replaced b)
-    term_replaced (before a) = ap (λ z. z - 1) (term_replaced a)
+    term_replaced (sum a b) = summed_is p f x (in_term r a) (in_term r b) ∙ ap₂ plus (term_replaced a) (term_replaced b)
+    term_replaced (product a b) = multiplied_is p f x (in_term r a) (in_term r b) ∙ ap₂ (λ u v. (u * v) % 2 ^ 64) (term_replaced a) (term_replaced b)
+    term_replaced (before a) = one_less_is p f x (in_term r a) ∙ ap (λ z. z - 1) (term_replaced a)
     term_replaced (low_byte a) = ap (λ z. z % 256) (term_replaced a)
     term_replaced (converted_to kind a) = ap (λ z. converted kind z) (term_replaced a)
     term_replaced (result op kind a b) = ap₂ (λ u v. word_or_zero (applied op kind u v)) (term_replaced a) (term_replaced b)

@@ -1,7 +1,7 @@
 -- Terms in the place of variables.
-use Rattle.std.specs.Prelude.{ℕ, List, [], ◌∷◌}
+use Rattle.std.specs.Prelude.{ℕ, ◌+◌, ◌==◌, cond, List, [], ◌∷◌}
 use Rattle.src_mean.specs.Linked.{Func, Program}
-use Rattle.symbolic_source.specs.Terms.{Term, variable, slot_function, sum, product, before, low_byte, converted_to, result, field, Exception, unknown, made, Puts, untouched, put, Values, eval, exception_of}
+use Rattle.symbolic_source.specs.Terms.{Term, number, variable, local, slot_function, sum, product, before, low_byte, converted_to, result, field, Exception, unknown, made, Puts, untouched, put, Values, eval, exception_of, one_less}
 use Rattle.symbolic_source.specs.Frames.{Spot, at_word, at_tree, Waiting, Way, value, into, Exit, throws, returns, breaks, continues, Callee, known, virtual, pointer, builtin, Frame, Run, Address, Then, Gives, Leaves, StoreTo, Apply, Choose, UpdateOld, UpdateBy, CopyBy, From, Words, Object, Slot, Pointer, Passes, Full, Keeps, Scope, Waits, Cleans, Destroys, Parts, Each, Compares, Fills, Filled, Trying, Takes, Taking, Handling}
 use Rattle.symbolic_source.specs.Outcomes.{Doing, reads, writes, puts_out, joins, spawns_thread, leaves_block, Outcome, stuck, goes, hands, goes_out, chooses, results, finds, calls, spawns, rethrows, halts}
 
@@ -14,13 +14,28 @@ pub record Replacing : Type 0 where
 abbrev pub seen_by : Program → Func → Replacing → Values → Values
 seen_by p f r x = record { word = λ n. eval p f x (r.word n); exception = λ n. exception_of p f x (r.exception n); base = x.base; limit = x.limit }
 
+-- sums, products and differences with what has come in the place of variables, as they are written where it is known at once
+abbrev pub joined : Term → ℕ → Term
+joined (number m) n = number (m + n)
+joined (local offset) n = local (offset + n)
+joined (sum a (number m)) n = sum a (number (m + n))
+joined a n = sum a (number n)
+
+abbrev pub summed : Term → Term → Term
+summed a (number n) = joined a n
+summed a b = sum a b
+
+abbrev pub multiplied : Term → Term → Term
+multiplied (number m) b = cond (m == 0) (number 0) (product (number m) b)
+multiplied a b = product a b
+
 abbrev mutual
   pub in_term : Replacing → Term → Term
   in_term r (variable n) = r.word n
   in_term r (slot_function class slot a) = slot_function class slot (in_term r a)
-  in_term r (sum a b) = sum (in_term r a) (in_term r b)
-  in_term r (product a b) = product (in_term r a) (in_term r b)
-  in_term r (before a) = before (in_term r a)
+  in_term r (sum a b) = summed (in_term r a) (in_term r b)
+  in_term r (product a b) = multiplied (in_term r a) (in_term r b)
+  in_term r (before a) = one_less (in_term r a)
   in_term r (low_byte a) = low_byte (in_term r a)
   in_term r (converted_to kind a) = converted_to kind (in_term r a)
   in_term r (result op kind a b) = result op kind (in_term r a) (in_term r b)
