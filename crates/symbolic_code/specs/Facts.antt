@@ -1,8 +1,9 @@
 -- What is known of the words at an index.
-use Rattle.std.specs.Prelude.{ℕ, ◌≡◌, ◌⊎◌, Bool, false, ◌||◌, List, [], ◌∷◌, Some}
+use Rattle.std.specs.Prelude.{ℕ, ◌≡◌, ◌⊎◌, Bool, false, ◌||◌, List, [], ◌∷◌, Some, ◌%◌, ◌^◌, ◌==◌, cond, true}
 use Rattle.src_mean.specs.Linked.{Func, Program}
-use Rattle.symbolic_source.specs.Terms.{Term, Values, eval}
+use Rattle.symbolic_source.specs.Terms.{Term, Values, eval, number}
 use Rattle.symbolic_source.specs.Replacing.{Replacing, in_term}
+use Rattle.symbolic_source.specs.Outcomes.{Outcome, chooses}
 use Rattle.symbolic_code.specs.Same.{same_term}
 
 pub data Fact : Type 0 where
@@ -26,8 +27,13 @@ abbrev pub in_facts : Replacing → List Fact → List Fact
 in_facts r [] = []
 in_facts r (k ∷ ks) = in_fact r k ∷ in_facts r ks
 
+-- a fact that holds of itself
+abbrev pub Evident : Fact → Type 0
+Evident (not_zero (number n)) = (n % 2 ^ 64 == 0) ≡ false
+Evident k = ⊥
+
 abbrev pub Among : Fact → List Fact → Type 0
-Among k [] = ⊥
+Among k [] = Evident k
 Among k (j ∷ js) = (k ≡ j) ⊎ Among k js
 
 abbrev pub AllAmong : List Fact → List Fact → Type 0
@@ -39,3 +45,8 @@ abbrev pub is_not_zero : List Fact → Term → Bool
 is_not_zero [] w = false
 is_not_zero (not_zero v ∷ ks) w = same_term v w || is_not_zero ks w
 is_not_zero (has_function class slot address ∷ ks) w = is_not_zero ks w
+
+-- a decision that is made by what is known
+abbrev pub settled : List Fact → Outcome → Outcome
+settled ks (chooses w first other) = cond (is_not_zero ks w) (settled ks other) (chooses w first other)
+settled ks o = o
