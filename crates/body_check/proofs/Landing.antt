@@ -26,10 +26,10 @@ use Rattle.symbolic_source.specs.Terms.{variable, Exception, unknown, made, Valu
 use Rattle.symbolic_source.specs.Frames.{Waiting as Waits, Frame as Form, Replied, words_of, below, here_of, throws, returns, breaks, continues}
 use Rattle.symbolic_source.specs.Outcomes.{Doing, silent, reads, writes, puts_out, takes_in, joins, spawns_thread, begins_atomic, begins_sync, ends_block, leaves_block, Outcome, goes, Shows}
 use Rattle.symbolic_source.specs.Outcomes as outcomes
-use Rattle.symbolic_source.specs.Steps.{Answers as Caught, left, given}
+use Rattle.symbolic_source.specs.Steps.{advanced, Answers as Caught, left, given}
 use Rattle.symbolic_source.proofs.Shown.{left_shown}
 use Rattle.symbolic_code.specs.Facts.{Fact, not_zero, has_function, AllHold, in_facts}
-use Rattle.symbolic_code.proofs.Facts.{facts_replaced, facts_placed, all_among}
+use Rattle.symbolic_code.proofs.Facts.{facts_replaced, facts_placed, all_among, settled_shown}
 use Rattle.std.specs.Option.{option_map}
 use Rattle.symbolic_source.specs.Small.{IsSmall, AreWords, AreRight}
 use Rattle.symbolic_source.specs.Replacing.{Replacing, seen_by, in_terms, in_doing, in_waitings, in_frames}
@@ -95,7 +95,7 @@ module _ (p : Program) (f : Func) (b : Bounds) (notes : List Note) where
     terms = e.terms;
     same_place = λ x bounded holds numbers home. ap (λ (z : Place). frame_at p f numbers x home index z) (sym e.same_place) ∙ frame_replaced p f numbers e.terms x home index e.note.place;
     same_facts = λ x bounded holds. facts_replaced p f e.terms x e.note.facts (all_among p f x (in_facts e.terms e.note.facts) known e.same_facts holds);
-    same_outcome = λ x bounded holds rest s shows. outcome_replaced p f e.terms x rest e.note.outcome s (subst (λ z. Shows p f x rest z s) (sym e.same_outcome) shows);
+    same_outcome = λ x bounded holds rest s shows. outcome_replaced p f e.terms x rest e.note.outcome s (subst (λ z. Shows p f x rest z s) (sym e.same_outcome) (settled_shown p f x rest s known (advanced p f answers e.lag o) holds shows));
     foreseen = e.foreseen;
     low = e.low;
   }

@@ -16,7 +16,7 @@ use Rattle.symbolic_source.specs.Outcomes.{Doing, silent, reads, leaves_block, O
 use Rattle.symbolic_source.specs.Steps.{Answers, left, given, advanced}
 use Rattle.symbolic_source.specs.Small.{AreWords, is_stuck}
 use Rattle.symbolic_source.specs.Replacing.{Replacing, seen_by, in_exception, in_puts, in_terms, in_waitings, in_frames, in_outcome}
-use Rattle.symbolic_code.specs.Facts.{Fact, not_zero, has_function, AllHold, in_facts, AllAmong}
+use Rattle.symbolic_code.specs.Facts.{Fact, not_zero, has_function, AllHold, in_facts, AllAmong, settled}
 use Rattle.symbolic_code.specs.Places.{frame_at, Place, Hold, nothing, making, flying, later, with_operands, holding, opened_later}
 use Rattle.symbolic_code.specs.Following.{Next, refused, quietly, either_way, unless_trap, loudly, throwing, finding, starting, rethrowing, ends}
 
@@ -100,7 +100,7 @@ module _ (p : Program) (f : Func) (b : Bounds) (notes : List Note) where
     pub foreseen : is_stuck (advanced p f answers lag o) ≡ false
     pub low : note.rank ≤ b.most
 
-  -- a test of it: the terms in the place of the note's variables make what was computed, and facts that are known
+  -- a test of it: the terms in the place of the note's variables make what was computed, where decisions are made by what is known, and facts that are known
   pub record LandsEqually (known : List Fact) (answers : Answers) (index : ℕ) (q : Place) (o : Outcome) : Type 0 where
     pub at : ℕ
     pub note : Note
@@ -110,7 +110,7 @@ module _ (p : Program) (f : Func) (b : Bounds) (notes : List Note) where
     pub terms : Replacing
     pub same_place : in_place terms note.place ≡ q
     pub same_facts : AllAmong (in_facts terms note.facts) known
-    pub same_outcome : in_outcome terms note.outcome ≡ advanced p f answers lag o
+    pub same_outcome : in_outcome terms note.outcome ≡ settled known (advanced p f answers lag o)
     pub foreseen : is_stuck (advanced p f answers lag o) ≡ false
     pub low : note.rank ≤ b.most
 
