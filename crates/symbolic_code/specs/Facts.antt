@@ -1,5 +1,5 @@
 -- What is known of the words at an index.
-use Rattle.std.specs.Prelude.{ℕ, ◌≡◌, ◌⊎◌, Bool, false, ◌||◌, List, [], ◌∷◌, Some, ◌%◌, ◌^◌, ◌==◌, cond, true}
+use Rattle.std.specs.Prelude.{ℕ, ◌≡◌, ◌⊎◌, Bool, false, ◌||◌, List, [], ◌∷◌, Some, ◌%◌, ◌^◌, ◌==◌, cond}
 use Rattle.src_mean.specs.Linked.{Func, Program}
 use Rattle.symbolic_source.specs.Terms.{Term, Values, eval, number}
 use Rattle.symbolic_source.specs.Replacing.{Replacing, in_term}
