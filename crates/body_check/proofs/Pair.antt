@@ -108,12 +108,12 @@ pair_checked (suc n) safe = record {
   notes = λ index note e. fit_one n safe index note e;
 }
 
-called_right : (name callee : ℕ) → named name ≡ Some callee → name ≡ number_of callee
+pub called_right : (name callee : ℕ) → named name ≡ Some callee → name ≡ number_of callee
 called_right zero callee e = absurd cc
 called_right (suc zero) callee e = let one : 1 ≡ callee = cc in ap number_of one
 called_right (suc (suc k)) callee e = absurd cc
 
-small_function : (n : ℕ) → function_address (number_of n) < 2 ^ 64
+pub small_function : (n : ℕ) → function_address (number_of n) < 2 ^ 64
 small_function zero = omega arith
 small_function (suc n) = omega arith
 

@@ -7,3 +7,4 @@ pub mod Main
 pub mod Pair
 pub mod Caught
 pub mod Cases
+pub mod Destroyed

@@ -22,6 +22,7 @@ ghost use Rattle.body_check.specs.Notes.{Note, Bounds, FoundFits, TypeFits};
 ghost use Rattle.body_check.specs.Calls.{Book, Links, Begins};
 ghost use Rattle.body_check.specs.Main.{main_program, main_names};
 ghost use Rattle.body_check.specs.Caught.{catch_program, catch_names};
+ghost use Rattle.body_check.specs.Destroyed.{array_program, array_names};
 ghost use Rattle.body_check.specs.Pair.{pair_program, pair_names};
 ghost use Rattle.body_check.specs.Worked.{sum_func, sum_code, sum_run, outcome_at, operands_at};
 
@@ -67,6 +68,12 @@ pub fn worked_call()
 /// is thrown, where the source comes to the handler.
 pub fn worked_catch()
     ensures { SameEvents (source catch_program) (thread catch_names) (main_state catch_program) (starts catch_names 0 0 []) }
+{}
+
+/// So is `struct E { ~E() { } }; int main() { E e[3]; return 0; }`: the elements are destroyed by a loop, and one note at
+/// each of its indexes serves all rounds.
+pub fn worked_destruction()
+    ensures { SameEvents (source array_program) (thread array_names) (main_state array_program) (starts array_names 0 0 []) }
 {}
 
 /// `int f(int a) { return a + 1; }`: the source goes along with the code up to its last instruction, where the word on
