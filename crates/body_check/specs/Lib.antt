@@ -8,3 +8,4 @@ pub mod Pair
 pub mod Caught
 pub mod Cases
 pub mod Destroyed
+pub mod Pointed

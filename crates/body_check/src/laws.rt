@@ -23,6 +23,7 @@ ghost use Rattle.body_check.specs.Calls.{Book, Links, Begins};
 ghost use Rattle.body_check.specs.Main.{main_program, main_names};
 ghost use Rattle.body_check.specs.Caught.{catch_program, catch_names};
 ghost use Rattle.body_check.specs.Destroyed.{array_program, array_names};
+ghost use Rattle.body_check.specs.Pointed.{pointed_program, pointed_names};
 ghost use Rattle.body_check.specs.Pair.{pair_program, pair_names};
 ghost use Rattle.body_check.specs.Worked.{sum_func, sum_code, sum_run, outcome_at, operands_at};
 
@@ -74,6 +75,11 @@ pub fn worked_catch()
 /// each of its indexes serves all rounds.
 pub fn worked_destruction()
     ensures { SameEvents (source array_program) (thread array_names) (main_state array_program) (starts array_names 0 0 []) }
+{}
+
+/// So is `int one() { return 1; } int main() { return (*&one)(); }`, with a call by an address.
+pub fn worked_pointer()
+    ensures { SameEvents (source pointed_program) (thread pointed_names) (main_state pointed_program) (starts pointed_names 0 0 []) }
 {}
 
 /// `int f(int a) { return a + 1; }`: the source goes along with the code up to its last instruction, where the word on
