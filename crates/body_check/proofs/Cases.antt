@@ -150,20 +150,20 @@ module _ (classes : List Class) (known : List (List ℕ)) where
 
 -- An exception that is not known lands in each case
 
-module _ (p : Program) (f : Func) (b : Bounds) (notes : List Note) (known : List (List ℕ)) (numbers : Typ → ℕ) (spelling_of : ℕ → List ℕ) (rows : List Row) (facts : List Fact) (rank index : ℕ) (q : Place) (n : ℕ) (o : Outcome) where
+module _ (p : Program) (f : Func) (b : Bounds) (notes : List Note) (thrown : Typ → Bool) (known : List (List ℕ)) (numbers : Typ → ℕ) (spelling_of : ℕ → List ℕ) (rows : List Row) (facts : List Fact) (rank index : ℕ) (q : Place) (n : ℕ) (o : Outcome) where
   abbrev pub CaseFits : Case → Type 0
-  CaseFits c = FoundFits p f b notes facts (answers_in p.classes known n c) rank (find_in p.classes known spelling_of c rows index) q (unknown n) o
+  CaseFits c = FoundFits p f b notes thrown facts (answers_in p.classes known n c) rank (find_in p.classes known spelling_of c rows index) q (unknown n) o
 
   tested : (c : Case) (t : Typ) (m : ℕ) (handler : Tree) (answer : Bool) (z : Bool) → (m == n) ≡ z → Falls p.classes known c t → cond z (answer_in p.classes known c (handler_spelling p.classes known (typ_in handler))) None ≡ Some answer
       → (◌≡◌ {A = Exception} (unknown n) (unknown m)) × (catches p.classes (typ_in handler) t ≡ answer)
   tested c t m handler answer true i is e = (ap unknown (sym (eqb-true m n i)), answer_right p.classes known c (typ_in handler) t answer is e)
   tested c t m handler answer false i is e = absurd cc
 
-  pub cases_fit : AreSpelled p.classes known numbers spelling_of rows → Each CaseFits (cases p.classes known) → (t : Typ) → IsOf (unknown n) t → TypeFits p f b notes numbers rows facts rank index q (unknown n) o t
+  pub cases_fit : AreSpelled p.classes known numbers spelling_of rows → Each CaseFits (cases p.classes known) → (t : Typ) → IsOf (unknown n) t → TypeFits p f b notes thrown numbers rows facts rank index q (unknown n) o t
   cases_fit spelled_rows fits t any =
       let c = each_type p.classes known CaseFits fits t in
       record {
         answers = answers_in p.classes known n c.0;
         right = λ m handler answer e. tested c.0 t m handler answer (m == n) refl c.1 e;
-        found = subst (λ z. FoundFits p f b notes facts (answers_in p.classes known n c.0) rank z q (unknown n) o) (sym (find_same p.classes known numbers spelling_of c.0 t c.1 rows index spelled_rows)) c.2;
+        found = subst (λ z. FoundFits p f b notes thrown facts (answers_in p.classes known n c.0) rank z q (unknown n) o) (sym (find_same p.classes known numbers spelling_of c.0 t c.1 rows index spelled_rows)) c.2;
       }

@@ -6,13 +6,13 @@ use Rattle.tx_code.specs.declared.instr.Instr.TheVariants.{Push, FrameAddr, Load
 use Rattle.tx_code.specs.Objects.{BodyView}
 use Rattle.tx_code.specs.Renaming.{itself, renamed_row}
 use Rattle.tx_ints.specs.declared.kinds.IntKind.TheVariants.{Int}
-use Rattle.cpp_tree.specs.cpp_types.Typ.{Typ}
+use Rattle.cpp_tree.specs.cpp_types.Typ.{Typ, typ, void}
 use Rattle.symbolic_source.specs.Terms.{variable, converted_to, unknown, Exception}
 use Rattle.symbolic_source.specs.Small.{IsSmall}
 use Rattle.symbolic_source.specs.Replacing.{Replacing}
 use Rattle.symbolic_code.specs.Places.{nothing, holding}
 use Rattle.body_check.proofs.Landing.{equally}
-use Rattle.body_check.specs.Notes.{Note, Bounds, TypeFits, no_answers}
+use Rattle.body_check.specs.Notes.{Note, Bounds, TypeFits, no_answers, IsThrown}
 use Rattle.body_check.specs.Calls.{by_return, NoteFits, Checked, Links, Begins}
 use Rattle.body_check.specs.Main.{number_of_type}
 use Rattle.body_check.specs.Caught.{number_typ, catch_func, catch_program, catch_row, catch_body, catch_names, after, one_thrown, push_note, new_note, put_note, throw_note, take_note, get_note, store_note, address_note, load_note, end_note, ret_note, catch_notes, catch_book}
@@ -32,6 +32,11 @@ thrown_first (suc n) = unknown n
 caught : Replacing
 caught = record { word = λ n. variable n; exception = λ n. thrown_first n }
 
+caught_thrown : (n : ℕ) → IsThrown (λ t. true) (thrown_first n)
+unfolding thrown_first
+caught_thrown zero = refl
+caught_thrown (suc n) = tt
+
 note_same : (a b : Note) → ◌≡◌ {A = Option Note} (Some a) (Some b) → a ≡ b
 note_same a b e = cc
 
@@ -46,7 +51,7 @@ push_fits n safe = record {
   short = omega arith;
   foreseen = refl;
   fits = record {
-    lands = (equally catch_program catch_func bounds catch_notes (record { at = 1; note = new_note; is = refl; there = refl; lag = 0; terms = same; same_place = refl; same_facts = tt; same_outcome = refl; foreseen = refl; low = omega arith }));
+    lands = (equally catch_program catch_func bounds catch_notes (λ t. true) (record { at = 1; note = new_note; is = refl; there = refl; lag = 0; terms = same; types = λ n. tt; same_place = refl; same_facts = tt; same_outcome = refl; foreseen = refl; low = omega arith }));
     short = omega arith;
     goes_on = inl (omega arith);
   };
@@ -60,7 +65,7 @@ new_fits n safe = record {
   short = omega arith;
   foreseen = refl;
   fits = record {
-    lands = (equally catch_program catch_func bounds catch_notes (record { at = 2; note = put_note; is = refl; there = refl; lag = 0; terms = same; same_place = refl; same_facts = tt; same_outcome = refl; foreseen = refl; low = omega arith }));
+    lands = (equally catch_program catch_func bounds catch_notes (λ t. true) (record { at = 2; note = put_note; is = refl; there = refl; lag = 0; terms = same; types = λ n. tt; same_place = refl; same_facts = tt; same_outcome = refl; foreseen = refl; low = omega arith }));
     short = omega arith;
     goes_on = inr (omega arith);
   };
@@ -74,7 +79,7 @@ put_fits n safe = record {
   short = omega arith;
   foreseen = refl;
   fits = record {
-    lands = (equally catch_program catch_func bounds catch_notes (record { at = 3; note = throw_note; is = refl; there = refl; lag = 0; terms = same; same_place = refl; same_facts = tt; same_outcome = refl; foreseen = refl; low = omega arith }));
+    lands = (equally catch_program catch_func bounds catch_notes (λ t. true) (record { at = 3; note = throw_note; is = refl; there = refl; lag = 0; terms = same; types = λ n. tt; same_place = refl; same_facts = tt; same_outcome = refl; foreseen = refl; low = omega arith }));
     short = omega arith;
     goes_on = inr (omega arith);
   };
@@ -88,7 +93,7 @@ take_fits n safe = record {
   short = omega arith;
   foreseen = refl;
   fits = record {
-    lands = (equally catch_program catch_func bounds catch_notes (record { at = 5; note = get_note; is = refl; there = refl; lag = 0; terms = same; same_place = refl; same_facts = tt; same_outcome = refl; foreseen = refl; low = omega arith }));
+    lands = (equally catch_program catch_func bounds catch_notes (λ t. true) (record { at = 5; note = get_note; is = refl; there = refl; lag = 0; terms = same; types = λ n. tt; same_place = refl; same_facts = tt; same_outcome = refl; foreseen = refl; low = omega arith }));
     short = omega arith;
     goes_on = inl (omega arith);
   };
@@ -102,7 +107,7 @@ get_fits n safe = record {
   short = omega arith;
   foreseen = refl;
   fits = record {
-    lands = (equally catch_program catch_func bounds catch_notes (record { at = 6; note = store_note; is = refl; there = refl; lag = 0; terms = same; same_place = refl; same_facts = tt; same_outcome = refl; foreseen = refl; low = omega arith }));
+    lands = (equally catch_program catch_func bounds catch_notes (λ t. true) (record { at = 6; note = store_note; is = refl; there = refl; lag = 0; terms = same; types = λ n. tt; same_place = refl; same_facts = tt; same_outcome = refl; foreseen = refl; low = omega arith }));
     short = omega arith;
     goes_on = inr (omega arith);
   };
@@ -116,7 +121,7 @@ address_fits n safe = record {
   short = omega arith;
   foreseen = refl;
   fits = record {
-    lands = (equally catch_program catch_func bounds catch_notes (record { at = 8; note = load_note; is = refl; there = refl; lag = 0; terms = same; same_place = refl; same_facts = tt; same_outcome = refl; foreseen = refl; low = omega arith }));
+    lands = (equally catch_program catch_func bounds catch_notes (λ t. true) (record { at = 8; note = load_note; is = refl; there = refl; lag = 0; terms = same; types = λ n. tt; same_place = refl; same_facts = tt; same_outcome = refl; foreseen = refl; low = omega arith }));
     short = omega arith;
     goes_on = inl (omega arith);
   };
@@ -130,7 +135,7 @@ end_fits n safe = record {
   short = omega arith;
   foreseen = refl;
   fits = record {
-    lands = (equally catch_program catch_func bounds catch_notes (record { at = 10; note = ret_note; is = refl; there = refl; lag = 0; terms = same; same_place = refl; same_facts = tt; same_outcome = refl; foreseen = refl; low = omega arith }));
+    lands = (equally catch_program catch_func bounds catch_notes (λ t. true) (record { at = 10; note = ret_note; is = refl; there = refl; lag = 0; terms = same; types = λ n. tt; same_place = refl; same_facts = tt; same_outcome = refl; foreseen = refl; low = omega arith }));
     short = omega arith;
     goes_on = inl (omega arith);
   };
@@ -143,7 +148,7 @@ store_fits n safe = record {
   is = refl;
   short = omega arith;
   foreseen = refl;
-  fits = (refl, (equally catch_program catch_func bounds catch_notes (record { at = 7; note = address_note; is = refl; there = refl; lag = 0; terms = same; same_place = refl; same_facts = tt; same_outcome = refl; foreseen = refl; low = omega arith })), refl);
+  fits = (refl, (equally catch_program catch_func bounds catch_notes (λ t. true) (record { at = 7; note = address_note; is = refl; there = refl; lag = 0; terms = same; types = λ n. tt; same_place = refl; same_facts = tt; same_outcome = refl; foreseen = refl; low = omega arith })), refl);
 }
 
 load_fits : (n : ℕ) (safe : Bool) → Fit n safe 8 load_note
@@ -153,17 +158,17 @@ load_fits n safe = record {
   is = refl;
   short = omega arith;
   foreseen = refl;
-  fits = (refl, (equally catch_program catch_func bounds catch_notes (record { at = 9; note = end_note; is = refl; there = refl; lag = 0; terms = same; same_place = refl; same_facts = tt; same_outcome = refl; foreseen = refl; low = omega arith })), refl);
+  fits = (refl, (equally catch_program catch_func bounds catch_notes (λ t. true) (record { at = 9; note = end_note; is = refl; there = refl; lag = 0; terms = same; types = λ n. tt; same_place = refl; same_facts = tt; same_outcome = refl; foreseen = refl; low = omega arith })), refl);
 }
 
 -- the row takes the type, and the source comes to the handler
-int_lands : (n : ℕ) (safe : Bool) → TypeFits catch_program catch_func bounds catch_notes number_of_type (catch_row ∷ []) [] 0 3 (holding throw_note.place nothing) one_thrown (after 2 throw_note.outcome) number_typ
+int_lands : (n : ℕ) (safe : Bool) → TypeFits catch_program catch_func bounds catch_notes (λ t. true) number_of_type (catch_row ∷ []) [] 0 3 (holding throw_note.place nothing) one_thrown (after 2 throw_note.outcome) number_typ
 unfolding bounds caught thrown_first
 int_lands n safe = record {
   answers = no_answers;
   right = λ m handler answer e. absurd cc;
   found = record {
-    lands = (equally catch_program catch_func bounds catch_notes (record { at = 4; note = take_note; is = refl; there = refl; lag = 1; terms = caught; same_place = refl; same_facts = tt; same_outcome = refl; foreseen = refl; low = omega arith }));
+    lands = (equally catch_program catch_func bounds catch_notes (λ t. true) (record { at = 4; note = take_note; is = refl; there = refl; lag = 1; terms = caught; types = λ n. caught_thrown n; same_place = refl; same_facts = tt; same_outcome = refl; foreseen = refl; low = omega arith }));
     some = inl (omega arith);
     short = omega arith;
   };
@@ -176,7 +181,7 @@ throw_fits n safe = record {
   is = refl;
   short = omega arith;
   foreseen = refl;
-  fits = (record { rank = 0; low = omega arith; fits = λ t is. subst (λ z. TypeFits catch_program catch_func bounds catch_notes number_of_type (catch_row ∷ []) [] 0 3 (holding throw_note.place nothing) one_thrown (after 2 throw_note.outcome) z) is (int_lands n safe) }, inl (omega arith));
+  fits = (record { rank = 0; low = omega arith; fits = λ t is may. subst (λ z. TypeFits catch_program catch_func bounds catch_notes (λ t. true) number_of_type (catch_row ∷ []) [] 0 3 (holding throw_note.place nothing) one_thrown (after 2 throw_note.outcome) z) is (int_lands n safe) }, refl, inl (omega arith));
 }
 
 ret_fits : (n : ℕ) (safe : Bool) → Fit n safe 10 ret_note
@@ -226,7 +231,8 @@ catch_links = record {
   rows = λ n safe body e. rows_there body e;
   stops = λ n safe. refl;
   stops_so = λ n safe. refl;
-  cancels = λ t. cancels_same t;
+  cancels = λ t h. cancels_same t;
+  one_type = (typ void false false, refl);
   checked = λ n safe body e. catch_checked n safe;
   names = λ n safe. record { globals = λ s m e. absurd cc; functions = λ s m e. absurd cc; classes = λ s m e. absurd cc; types = λ s t e. type_right s t (s == 0) refl e; addresses = λ n. refl; slots = λ s class e a slot. absurd cc; spawned = λ a. refl; signatures = λ s sig e a. absurd cc; methods = λ s class slot a n e. absurd cc };
   called = λ n safe name callee e. absurd cc;

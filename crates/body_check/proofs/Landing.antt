@@ -1,5 +1,5 @@
 -- From a note along the instruction to the next notes, as moves of both threads.
-use Rattle.std.proofs.Common.{ℕ, zero, suc, ℤ, ◌≡◌, ◌+◌, ◌<◌, ◌≤◌, ◌⊎◌, inl, inr, true, false, refl, ap, ap₂, sym, ◌∙◌, subst, List, [], ◌∷◌, Option, Some, None, Result, Ok, Err, ◌^◌, ◌*◌, arith}
+use Rattle.std.proofs.Common.{ℕ, zero, suc, ℤ, ◌≡◌, ◌+◌, ◌<◌, ◌≤◌, ◌⊎◌, inl, inr, true, false, refl, ap, ap₂, sym, ◌∙◌, subst, List, [], ◌∷◌, Option, Some, None, Result, Ok, Err, ◌^◌, ◌*◌, arith, Bool}
 use Rattle.std.specs.Prelude.{nat_le}
 use Rattle.std.proofs.lemmas.Bool.{true≢false, leb-true}
 use Rattle.std.proofs.Math.Nat.{pow-le-pow_right}
@@ -38,7 +38,7 @@ use Rattle.symbolic_source.proofs.Advance.{advance, replied as value_after}
 use Rattle.symbolic_source.proofs.Replaced.{terms_replaced, here_replaced, frames_replaced, exception_replaced, outcome_replaced, outcome_placed}
 use Rattle.symbolic_code.specs.Places.{Place, Hold, nothing, making, flying, coded, all_coded, hold_of, frame_at, replied, later}
 use Rattle.symbolic_code.specs.Following.{Next, refused, quietly, either_way, unless_trap, loudly, throwing, finding, starting, rethrowing, ends, Follows, Loud}
-use Rattle.body_check.specs.Notes.{Note, Bounds, in_caught, in_hold, in_place, rising, is_loud, no_answers, Lands, LandsEqually, Flies, Fits}
+use Rattle.body_check.specs.Notes.{Note, Bounds, in_caught, in_hold, in_place, rising, is_loud, no_answers, Lands, LandsEqually, Flies, Fits, IsThrown}
 use Rattle.body_check.specs.Linked.{Held, Based, Stands, Stopped, Finished}
 
 -- paths one behind the other
@@ -84,8 +84,8 @@ module _ (p : Program) (f : Func) (numbers : Typ → ℕ) (r : Replacing) (x : V
       ∙ ap (λ (z : List ℕ). record { home = home; nest = record { opens = q.opens; caught = all_coded p f numbers (seen_by p f r x) q.caught; held = hold_of p f numbers (seen_by p f r x) q.hold }; index = index; words = z }) (terms_replaced p f r x q.operands)
 
 -- what lands by the test does so whatever the words are
-module _ (p : Program) (f : Func) (b : Bounds) (notes : List Note) where
-  abbrev pub equally : {known : List Fact} {answers : Caught} {index : ℕ} {q : Place} {o : Outcome} → LandsEqually p f b notes known answers index q o → Lands p f b notes known answers index q o
+module _ (p : Program) (f : Func) (b : Bounds) (notes : List Note) (thrown : Typ → Bool) where
+  abbrev pub equally : {known : List Fact} {answers : Caught} {index : ℕ} {q : Place} {o : Outcome} → LandsEqually p f b notes thrown known answers index q o → Lands p f b notes thrown known answers index q o
   equally {known} {answers} {index} {q} {o} e = record {
     at = e.at;
     note = e.note;
@@ -93,12 +93,18 @@ module _ (p : Program) (f : Func) (b : Bounds) (notes : List Note) where
     there = e.there;
     lag = e.lag;
     terms = e.terms;
+    types = e.types;
     same_place = λ x bounded holds numbers home. ap (λ (z : Place). frame_at p f numbers x home index z) (sym e.same_place) ∙ frame_replaced p f numbers e.terms x home index e.note.place;
     same_facts = λ x bounded holds. facts_replaced p f e.terms x e.note.facts (all_among p f x (in_facts e.terms e.note.facts) known e.same_facts holds);
     same_outcome = λ x bounded holds rest s shows. outcome_replaced p f e.terms x rest e.note.outcome s (subst (λ z. Shows p f x rest z s) (sym e.same_outcome) (settled_shown p f x rest s known (advanced p f answers e.lag o) holds shows));
     foreseen = e.foreseen;
     low = e.low;
   }
+
+-- an exception is of a type that is thrown
+pub type_right : (p : Program) (f : Func) (thrown : Typ → Bool) (x : Values) → ((n : ℕ) → thrown (x.exception n).typ ≡ true) → (e : Exception) → IsThrown thrown e → thrown (exception_of p f x e).typ ≡ true
+type_right p f thrown x right (unknown n) h = right n
+type_right p f thrown x right (made t puts) h = h
 
 -- nothing is answered
 pub none_right : (p : Program) (x : Values) → AreRight p x no_answers
@@ -191,13 +197,13 @@ ended_meets p names b Related both s c z = record {
   };
 }
 
-module _ (p : Program) (names : Names) (numbers : Typ → ℕ) (h : Held) (b : Bounds) (home : Home) (limit : ℕ) (rest : List frames.Frame) (below_frames : List Frame) (small : IsSmall p)
+module _ (p : Program) (names : Names) (numbers : Typ → ℕ) (h : Held) (b : Bounds) (thrown : Typ → Bool) (home : Home) (limit : ℕ) (rest : List frames.Frame) (below_frames : List Frame) (small : IsSmall p)
     (Related : ℕ → State → code.State → Type 0)
-    (stands : (rank : ℕ) (s : State) (top : Frame) → Stands p numbers h home limit rest rank s top → Related rank s (Runs top below_frames))
+    (stands : (rank : ℕ) (s : State) (top : Frame) → Stands p numbers thrown h home limit rest rank s top → Related rank s (Runs top below_frames))
     (stops : (s : State) (c : code.State) → Stopped names s c → Related 0 s c)
-    (flies : (s : State) (x : Values) → AreWords x → Based home limit x → (known : List Fact) → AllHold p h.func x known → (index : ℕ) (q : Place) (e : Exception) (o : Outcome) → (t : Flies p h.func b h.notes numbers h.rows known index q e o) → Shows p h.func x rest o s
+    (flies : (s : State) (x : Values) → AreWords x → Based thrown home limit x → (known : List Fact) → AllHold p h.func x known → (index : ℕ) (q : Place) (e : Exception) (o : Outcome) → (t : Flies p h.func b h.notes thrown numbers h.rows known index q e o) → thrown (exception_of p h.func x e).typ ≡ true → Shows p h.func x rest o s
     → Related t.rank s (Unwinds (coded numbers (exception_of p h.func x e)) (frame_at p h.func numbers x home index q) below_frames))
-    (current : code.current below_frames ≡ option_map (coded numbers) (frames.handled rest)) where
+    (current : code.current below_frames ≡ option_map (coded numbers) (frames.handled rest)) (current_type : (e : exceptions.Exception) → frames.handled rest ≡ Some e → thrown e.typ ≡ true) where
   abbrev Moves : ℕ → State → code.State → Type 0
   Moves rank s c = Move (source p) (thread names) b.most b.longest Related rank s c
 
@@ -207,7 +213,7 @@ module _ (p : Program) (names : Names) (numbers : Typ → ℕ) (h : Held) (b : B
     pub path : Path (source p) lag s to
     pub related : Related rank to (Runs top below_frames)
 
-  pub landed : (x : Values) (bounded : AreWords x) (based : Based home limit x) (known : List Fact) (holds : AllHold p h.func x known) (answers : Caught) (right : AreRight p x answers) (index : ℕ) (q : Place) (o : Outcome) (s : State) (l : Lands p h.func b h.notes known answers index q o) → Shows p h.func x rest o s → Landed l.lag l.note.rank s (frame_at p h.func numbers x home index q)
+  pub landed : (x : Values) (bounded : AreWords x) (based : Based thrown home limit x) (known : List Fact) (holds : AllHold p h.func x known) (answers : Caught) (right : AreRight p x answers) (index : ℕ) (q : Place) (o : Outcome) (s : State) (l : Lands p h.func b h.notes thrown known answers index q o) → Shows p h.func x rest o s → Landed l.lag l.note.rank s (frame_at p h.func numbers x home index q)
   landed x bounded based known holds answers right index q o s l g =
       let a = advance p h.func x answers rest small bounded right l.lag o s g l.foreseen in
       record {
@@ -216,7 +222,7 @@ module _ (p : Program) (names : Names) (numbers : Typ → ℕ) (h : Held) (b : B
         related = stands l.note.rank a.to (frame_at p h.func numbers x home index q) (record {
           values = seen_by p h.func l.terms x;
           are_words = λ n. term_below p h.func x bounded (l.terms.word n);
-          based = based;
+          based = (based.0, based.1, λ n. type_right p h.func thrown x based.2 (l.terms.exception n) (l.types n));
           at = l.at;
           note = l.note;
           is = l.is;
@@ -272,7 +278,7 @@ module _ (p : Program) (names : Names) (numbers : Typ → ℕ) (h : Held) (b : B
       value_after p h.func (replied x reply) no_answers rest small bounded (λ n handler answer e. absurd (cc)) (in_doing later doing) (in_waitings later ws) (in_frames later k) t reply (variable 0)
       (outcome_placed p h.func later (replied x reply) rest (goes doing ws k) t g) refl
 
-  replies : (x : Values) (based : Based home limit x) (known : List Fact) (holds : AllHold p h.func x known) (index : ℕ) (q : Place) (o : Outcome) (t : State) (d : code.State) (l : Lands p h.func b h.notes known no_answers index q o) → AreWords x → l.lag ≡ 0 → Shows p h.func x rest o t
+  replies : (x : Values) (based : Based thrown home limit x) (known : List Fact) (holds : AllHold p h.func x known) (index : ℕ) (q : Place) (o : Outcome) (t : State) (d : code.State) (l : Lands p h.func b h.notes thrown known no_answers index q o) → AreWords x → l.lag ≡ 0 → Shows p h.func x rest o t
       → d ≡ Runs (frame_at p h.func numbers x home index q) below_frames → Ranked b.most Related t d
   replies x based known holds index q o t d l bounded e g i =
       let r = landed x bounded based known holds no_answers (none_right p x) index q o t l g in
@@ -282,8 +288,8 @@ module _ (p : Program) (names : Names) (numbers : Typ → ℕ) (h : Held) (b : B
         related = subst (λ z. Related l.note.rank t z) (sym i) (subst (λ z. Related l.note.rank z (Runs (frame_at p h.func numbers x home index q) below_frames)) (sym (still (source p) r.path e)) r.related);
       }
 
-  pub event_meets : (x : Values) (based : Based home limit x) (known : List Fact) (holds : AllHold p h.func x known) (t : State) (c : code.State) (doing : Doing) (ws : List Waits) (k : List Form) (index : ℕ) (q : Place) → AreWords x → is_loud doing ≡ true
-      → (l : Lands p h.func b h.notes (in_facts later known) no_answers index q (given p h.func no_answers (in_waitings later ws) (variable 0) (in_frames later k))) → l.lag ≡ 0
+  pub event_meets : (x : Values) (based : Based thrown home limit x) (known : List Fact) (holds : AllHold p h.func x known) (t : State) (c : code.State) (doing : Doing) (ws : List Waits) (k : List Form) (index : ℕ) (q : Place) → AreWords x → is_loud doing ≡ true
+      → (l : Lands p h.func b h.notes thrown (in_facts later known) no_answers index q (given p h.func no_answers (in_waitings later ws) (variable 0) (in_frames later k))) → l.lag ≡ 0
       → Loud p h.func numbers x home rest below_frames doing index q (step_act names c) → Shows p h.func x rest (goes doing ws k) t → Meeting (source p) (thread names) b.most Related t c
   event_meets x based known holds t c doing ws k index q bounded loud l e a g = record {
     loud = ap (λ (z : State). is_silent z.event) g ∙ loud_event p h.func x doing loud;
@@ -303,6 +309,10 @@ module _ (p : Program) (names : Names) (numbers : Typ → ℕ) (h : Held) (b : B
   abbrev pub thrown_into : Values → exceptions.Exception → Values
   thrown_into x e = record { word = x.word; exception = exception_first e x.exception; base = x.base; limit = x.limit }
 
+  first_thrown : (e : exceptions.Exception) → thrown e.typ ≡ true → (others : ℕ → exceptions.Exception) → ((n : ℕ) → thrown (others n).typ ≡ true) → (n : ℕ) → thrown (exception_first e others n).typ ≡ true
+  first_thrown e h others right zero = h
+  first_thrown e h others right (suc n) = right n
+
   few : (lead : ℕ) → lead ≤ b.longest → lead + 0 ≤ b.longest
   few lead h = omega (arith, h)
 
@@ -311,28 +321,28 @@ module _ (p : Program) (names : Names) (numbers : Typ → ℕ) (h : Held) (b : B
   moves_on lead rank after (inr h) = inr h
 
   -- what a caller's handler has is thrown again
-  rethrown_move : (lead rank : ℕ) (x : Values) (bounded : AreWords x) (based : Based home limit x) (known : List Fact) (holds : AllHold p h.func x known) (s t : State) (c : code.State) (ws : List Waits) (k : List Form) (index : ℕ) (q : Place)
+  rethrown_move : (lead rank : ℕ) (x : Values) (bounded : AreWords x) (based : Based thrown home limit x) (known : List Fact) (holds : AllHold p h.func x known) (s t : State) (c : code.State) (ws : List Waits) (k : List Form) (index : ℕ) (q : Place)
       → Path (source p) lead s t → lead ≤ b.longest
-      → (r : Flies p h.func b h.notes numbers h.rows (in_facts rising known) index (in_place rising q) (unknown 0) (left (in_waitings rising ws) (throws (unknown 0)) (in_frames rising k))) → (1 ≤ lead) ⊎ (r.rank + 1 ≤ rank)
-      → (o : Option exceptions.Exception) → step_act names c ≡ if_some (option_map (coded numbers) o) (Ends (Stop Terminate)) (λ e. code.goes (Unwinds e (frame_at p h.func numbers x home index q) below_frames))
+      → (r : Flies p h.func b h.notes thrown numbers h.rows (in_facts rising known) index (in_place rising q) (unknown 0) (left (in_waitings rising ws) (throws (unknown 0)) (in_frames rising k))) → (1 ≤ lead) ⊎ (r.rank + 1 ≤ rank)
+      → (o : Option exceptions.Exception) → ((m : exceptions.Exception) → o ≡ Some m → thrown m.typ ≡ true) → step_act names c ≡ if_some (option_map (coded numbers) o) (Ends (Stop Terminate)) (λ e. code.goes (Unwinds e (frame_at p h.func numbers x home index q) below_frames))
       → t ≡ rethrow (here_of p h.func x ws) o (below p h.func x k rest) → Moves rank s c
-  rethrown_move lead rank x bounded based known holds s t c ws k index q v short fits on None e g =
+  rethrown_move lead rank x bounded based known holds s t c ws k index q v short fits on None type e g =
       leads short v (stop_meets p names b Related stops Terminate t c (record { here = here_of p h.func x ws; others = below p h.func x k rest; is = g }) e)
-  rethrown_move lead rank x bounded based known holds s t c ws k index q v short fits on (Some m) e g =
+  rethrown_move lead rank x bounded based known holds s t c ws k index q v short fits on (Some m) type e g =
       let y = thrown_into x m in
       let shows : Shows p h.func y rest (left (in_waitings rising ws) (throws (unknown 0)) (in_frames rising k)) t =
       subst (λ z. Shows p h.func y rest (left (in_waitings rising ws) (throws (unknown 0)) (in_frames rising k)) z) (sym (g ∙ ap₂ (λ a d. leave a (frames.throws m) d) (sym (here_replaced p h.func rising y rest ws)) (sym (frames_replaced p h.func rising y rest k))))
       (left_shown p h.func y rest (in_waitings rising ws) (throws (unknown 0)) (in_frames rising k)) in
       strode lead 0 rank fits.rank s t t c (Unwinds (coded numbers m) (frame_at p h.func numbers x home index q) below_frames) v here e (few lead short) fits.low
       (subst (λ z. Related fits.rank t (Unwinds (coded numbers m) z below_frames)) (frame_replaced p h.func numbers rising y home index q)
-      (flies t y bounded based (in_facts rising known) (facts_placed p h.func rising y known holds) index (in_place rising q) (unknown 0) (left (in_waitings rising ws) (throws (unknown 0)) (in_frames rising k)) fits shows)) (moves_on lead rank fits.rank on)
+      (flies t y bounded (based.0, based.1, first_thrown m (type m refl) x.exception based.2) (in_facts rising known) (facts_placed p h.func rising y known holds) index (in_place rising q) (unknown 0) (left (in_waitings rising ws) (throws (unknown 0)) (in_frames rising k)) fits (type m refl) shows)) (moves_on lead rank fits.rank on)
 
   either_found : (o : Option ℕ) {A : Type 0} → ((n : ℕ) → o ≡ Some n → A) → (o ≡ None → A) → A
   either_found None g h = h refl
   either_found (Some n) g h = g n refl
 
-  pub follow_move : (lead rank : ℕ) (x : Values) (bounded : AreWords x) (based : Based home limit x) (known : List Fact) (holds : AllHold p h.func x known) (s t : State) (c : code.State) → Path (source p) lead s t → lead ≤ b.longest
-      → (next : Next) → Fits p h.func b h.notes numbers h.rows known lead rank next → Follows p h.func numbers x home rest below_frames next (step_act names c) t → Moves rank s c
+  pub follow_move : (lead rank : ℕ) (x : Values) (bounded : AreWords x) (based : Based thrown home limit x) (known : List Fact) (holds : AllHold p h.func x known) (s t : State) (c : code.State) → Path (source p) lead s t → lead ≤ b.longest
+      → (next : Next) → Fits p h.func b h.notes thrown numbers h.rows known lead rank next → Follows p h.func numbers x home rest below_frames next (step_act names c) t → Moves rank s c
   follow_move lead rank x bounded based known holds s t c v short refused fits g = absurd fits
   follow_move lead rank x bounded based known holds s t c v short (quietly index q o) fits g =
       let l = landed x bounded based known holds no_answers (none_right p x) index q o t fits.lands g.1 in
@@ -347,8 +357,8 @@ module _ (p : Program) (names : Names) (numbers : Typ → ℕ) (h : Held) (b : B
   follow_move lead rank x bounded based known holds s t c v short (starting address argument ws k index q) fits g = either_found (p.pointed (eval p h.func x address) thread_signature)
       (λ n e. let r = g.0 n e in leads short v (event_meets x based known holds t c (spawns_thread n argument) ws (Replied ∷ k) index q bounded refl fits.0 fits.1 r.0 r.1)) (λ e. let r = g.1 e in leads short v (stop_meets p names b Related stops (Trapped BadCall) t c r.1 r.0))
   follow_move lead rank x bounded based known holds s t c v short (throwing e index q o) fits g =
-      strode lead 0 rank fits.0.rank s t t c (Unwinds (coded numbers (exception_of p h.func x e)) (frame_at p h.func numbers x home index q) below_frames) v here g.0 (few lead short) fits.0.low (flies t x bounded based known holds index q e o fits.0 g.1) (moves_on lead rank fits.0.rank fits.1)
+      strode lead 0 rank fits.0.rank s t t c (Unwinds (coded numbers (exception_of p h.func x e)) (frame_at p h.func numbers x home index q) below_frames) v here g.0 (few lead short) fits.0.low (flies t x bounded based known holds index q e o fits.0 (type_right p h.func thrown x based.2 e fits.1) g.1) (moves_on lead rank fits.0.rank fits.2)
   follow_move lead rank x bounded based known holds s t c v short (rethrowing ws k index q) fits g =
-      rethrown_move lead rank x bounded based known holds s t c ws k index q v short fits.0 fits.1 (frames.handled rest)
+      rethrown_move lead rank x bounded based known holds s t c ws k index q v short fits.0 fits.1 (frames.handled rest) current_type
       (g.0 ∙ ap (λ z. if_some z (Ends (Stop Terminate)) (λ e. code.goes (Unwinds e (frame_at p h.func numbers x home index q) below_frames))) current) g.1
   follow_move lead rank x bounded based known holds s t c v short (ends end) fits g = leads short v (stop_meets p names b Related stops end t c g.1 g.0)

@@ -3,7 +3,7 @@ use Rattle.std.proofs.Common.{ℕ, zero, suc, ◌≡◌, ◌==◌, cond, inl, Bo
 use Rattle.std.specs.Prelude.{slice_get, map}
 use Rattle.tx_code.specs.Objects.{BodyView}
 use Rattle.tx_code.specs.Renaming.{itself, renamed_row}
-use Rattle.cpp_tree.specs.cpp_types.Typ.{Typ}
+use Rattle.cpp_tree.specs.cpp_types.Typ.{Typ, typ, void}
 use Rattle.src_mean.specs.Exceptions.{cancels}
 use Rattle.tx_code.specs.declared.instr.Instr.TheVariants.{Push, Ret}
 use Rattle.symbolic_source.specs.Terms.{number, variable, unknown}
@@ -28,7 +28,7 @@ first_fits n safe = record {
   short = omega arith;
   foreseen = refl;
   fits = record {
-    lands = (equally main_program main_func bounds (first_note ∷ second_note ∷ []) (record { at = 1; note = second_note; is = refl; there = refl; lag = 0; terms = same; same_place = refl; same_facts = tt; same_outcome = refl; foreseen = refl; low = omega arith }));
+    lands = (equally main_program main_func bounds (first_note ∷ second_note ∷ []) (λ t. true) (record { at = 1; note = second_note; is = refl; there = refl; lag = 0; terms = same; types = λ n. tt; same_place = refl; same_facts = tt; same_outcome = refl; foreseen = refl; low = omega arith }));
     short = omega arith;
     goes_on = inl (omega arith);
   };
@@ -76,7 +76,8 @@ main_links = record {
   rows = λ n safe body e. rows_there body e;
   stops = λ n safe. refl;
   stops_so = λ n safe. refl;
-  cancels = λ t. cancels_same t;
+  cancels = λ t h. cancels_same t;
+  one_type = (typ void false false, refl);
   checked = λ n safe body e. main_checked n safe;
   names = λ n safe. record { globals = λ s m e. absurd cc; functions = λ s m e. absurd cc; classes = λ s m e. absurd cc; types = λ s t e. absurd cc; addresses = λ n. refl; slots = λ s class e a slot. absurd cc; spawned = λ a. refl; signatures = λ s sig e a. absurd cc; methods = λ s class slot a n e. absurd cc };
   called = λ n safe name callee e. absurd cc;

@@ -1,4 +1,5 @@
 -- The notes of the worked program with a call by an address fit.
+use Rattle.cpp_tree.specs.cpp_types.Typ.{typ, void}
 use Rattle.std.proofs.Common.{ℕ, zero, suc, ◌≡◌, ◌^◌, ◌<◌, inl, Bool, true, false, refl, ap, sym, ◌∙◌, subst, [], ◌∷◌, Option, Some, arith, ◌==◌, cond, None}
 use Rattle.std.specs.Prelude.{slice_get, map}
 use Rattle.tx_code.specs.Renaming.{itself, renamed_row}
@@ -37,7 +38,7 @@ address_fits safe = record {
   short = omega arith;
   foreseen = refl;
   fits = record {
-    lands = equally pointed_program pointing_func bounds (address_note ∷ call_note ∷ back_note ∷ []) (record { at = 1; note = call_note; is = refl; there = refl; lag = 0; terms = same; same_place = refl; same_facts = tt; same_outcome = refl; foreseen = refl; low = omega arith });
+    lands = equally pointed_program pointing_func bounds (address_note ∷ call_note ∷ back_note ∷ []) (λ t. true) (record { at = 1; note = call_note; is = refl; there = refl; lag = 0; terms = same; types = λ n. tt; same_place = refl; same_facts = tt; same_outcome = refl; foreseen = refl; low = omega arith });
     short = omega arith;
     goes_on = inl (omega arith);
   };
@@ -63,14 +64,14 @@ call_fits safe = record {
     operands_are = refl;
     behind = record {
       back = record {
-        lands = (equally pointed_program pointing_func bounds (address_note ∷ call_note ∷ back_note ∷ []) (record { at = 2; note = back_note; is = refl; there = refl; lag = 1; terms = same; same_place = refl; same_facts = tt; same_outcome = refl; foreseen = refl; low = omega arith }));
+        lands = (equally pointed_program pointing_func bounds (address_note ∷ call_note ∷ back_note ∷ []) (λ t. true) (record { at = 2; note = back_note; is = refl; there = refl; lag = 1; terms = same; types = λ n. tt; same_place = refl; same_facts = tt; same_outcome = refl; foreseen = refl; low = omega arith }));
         some = omega arith;
         short = omega arith;
       };
       thrown = λ may. record {
         rank = 0;
         low = omega arith;
-        fits = λ t is. record {
+        fits = λ t is may. record {
           answers = no_answers;
           right = λ n handler answer e. absurd cc;
           found = record { lag = 3; temporaries = []; is = refl; some = omega arith; short = omega arith };
@@ -78,6 +79,7 @@ call_fits safe = record {
       };
       opens = refl;
       caught = refl;
+      type = tt;
     };
   };
 }
@@ -94,7 +96,7 @@ push_fits n safe = record {
   short = omega arith;
   foreseen = refl;
   fits = record {
-    lands = (equally pointed_program one_func bounds (push_note ∷ ret_note ∷ []) (record { at = 1; note = ret_note; is = refl; there = refl; lag = 0; terms = same; same_place = refl; same_facts = tt; same_outcome = refl; foreseen = refl; low = omega arith }));
+    lands = (equally pointed_program one_func bounds (push_note ∷ ret_note ∷ []) (λ t. true) (record { at = 1; note = ret_note; is = refl; there = refl; lag = 0; terms = same; types = λ n. tt; same_place = refl; same_facts = tt; same_outcome = refl; foreseen = refl; low = omega arith }));
     short = omega arith;
     goes_on = inl (omega arith);
   };
@@ -146,7 +148,8 @@ pointed_links = record {
   rows = λ n safe body e. ap (λ (z : BodyView). map (renamed_row itself) z.rows) (sym (body_there n body e)) ∙ no_rows n;
   stops = λ n safe. no_stops n;
   stops_so = λ n safe. sym (no_stops n);
-  cancels = λ t. cancels_same t;
+  cancels = λ t h. cancels_same t;
+  one_type = (typ void false false, refl);
   checked = λ n safe body e. pointed_checked n safe;
   names = λ n safe. record { globals = λ s m e. absurd cc; functions = λ s m e. ap function_address (called_right s m e); classes = λ s m e. absurd cc; types = λ s t e. absurd cc; addresses = λ n. refl; slots = λ s class e a slot. absurd cc; spawned = λ a. refl; signatures = λ s sig e a. refl; methods = λ s class slot a n e. absurd cc };
   called = λ n safe name callee e. called_right name callee e;

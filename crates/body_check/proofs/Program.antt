@@ -49,7 +49,7 @@ use Rattle.body_check.proofs.Landing.{none_right, stop_meets, ended_meets}
 use Rattle.body_check.proofs.Flight.{flight_move}
 use Rattle.body_check.proofs.Calls.{count_of, moved_is, taken_count, word_at, variables_are}
 use Rattle.body_check.proofs.AtNote.{step_is, note_move}
-use Rattle.body_check.proofs.Threads.{Moves, stands_in, flies_in, callers_blocks, callers_current, call_move, return_word, return_none, out_move}
+use Rattle.body_check.proofs.Threads.{Moves, stands_in, flies_in, callers_blocks, callers_current, call_move, return_word, return_none, out_move, callers_type}
 
 -- where a frame of a safe body has an open atomic block below it
 
@@ -94,21 +94,24 @@ module _ (p : Program) (names : Names) (b : Bounds) (book : Book) (id : ℕ) (li
     is_body : names.body n safe ≡ Some h.body
     is_body = r.there ∙ ap Some (sym (links.bodies n safe r.body r.there))
 
-    stands : (rank : ℕ) (s : State) (top : Frame) → Stands p numbers h home (limit p names b book id) r.rest rank s top → Together p names b book id rank s (Runs top fs)
+    stands : (rank : ℕ) (s : State) (top : Frame) → Stands p numbers book.thrown h home (limit p names b book id) r.rest rank s top → Together p names b book id rank s (Runs top fs)
     stands rank s top z = stands_in p names b book id links small n safe base r.body r.there fs r.rest r.covered r.callers rank s top z
 
     stops : (s : State) (c : code.State) → Stopped names s c → Together p names b book id 0 s c
     stops s c z = stopped z
 
-    flying_in : (s : State) (x : Values) → AreWords x → Based home (limit p names b book id) x → (known : List Fact) → AllHold p h.func x known → (index : ℕ) (q : Place) (e : Exception) (o : Outcome) → (t : Flies p h.func b h.notes numbers h.rows known index q e o) → Shows p h.func x r.rest o s
+    flying_in : (s : State) (x : Values) → AreWords x → Based book.thrown home (limit p names b book id) x → (known : List Fact) → AllHold p h.func x known → (index : ℕ) (q : Place) (e : Exception) (o : Outcome) → (t : Flies p h.func b h.notes book.thrown numbers h.rows known index q e o) → book.thrown (exception_of p h.func x e).typ ≡ true → Shows p h.func x r.rest o s
         → Together p names b book id t.rank s (Unwinds (coded numbers (exception_of p h.func x e)) (frame_at p h.func numbers x home index q) fs)
-    flying_in s x bounded based known holds index q e o fits shows = flies_in p names b book id links small n safe base r.body r.there fs r.rest r.covered r.callers s x bounded based known holds index q e o fits shows
+    flying_in s x bounded based known holds index q e o fits type shows = flies_in p names b book id links small n safe base r.body r.there fs r.rest r.covered r.callers s x bounded based known holds index q e o fits type shows
 
     current : code.current fs ≡ option_map (coded numbers) (frames.handled r.rest)
     current = callers_current p names b book id links small (book.gives n) h.func.stops fs r.rest r.callers
 
+    current_type : (m : exceptions.Exception) → frames.handled r.rest ≡ Some m → book.thrown m.typ ≡ true
+    current_type = callers_type p names b book id links small (book.gives n) h.func.stops fs r.rest r.callers
+
     stepped : (a : Instr) → slice_get h.body.code note.index ≡ Some a → step_act names (Runs frame fs) ≡ code.act names (renamed (names.numbering n) a) frame fs
-    stepped a is = step_is p names numbers h b home (limit p names b book id) r.rest fs small (Together p names b book id) stands stops flying_in current is_body (links.names n safe) x note.index note.place a is
+    stepped a is = step_is p names numbers h b book.thrown home (limit p names b book id) r.rest fs small (Together p names b book id) stands stops flying_in current current_type is_body (links.names n safe) x note.index note.place a is
 
     ahead : is_stuck (advanced p h.func no_answers note.lead note.outcome) ≡ false → Advanced p h.func x no_answers r.rest note.lead note.outcome s
     ahead foreseen = advance p h.func x no_answers r.rest small r.stands.are_words (none_right p x) note.lead note.outcome s r.stands.shows foreseen
@@ -131,7 +134,7 @@ module _ (p : Program) (names : Names) (b : Bounds) (book : Book) (id : ℕ) (li
 
     -- what holds behind a function that may let exceptions out holds behind any
     may_throw : (gives stops : Bool) (under : List Term) (ws : List Waiting) (k : List Form) → Behind p b book gives false h note.facts note.index note.place under ws k → Behind p b book gives stops h note.facts note.index note.place under ws k
-    may_throw gives stops under ws k behind = record { back = behind.back; thrown = λ e. behind.thrown refl; opens = behind.opens; caught = behind.caught }
+    may_throw gives stops under ws k behind = record { back = behind.back; thrown = λ e. behind.thrown refl; opens = behind.opens; caught = behind.caught; type = behind.type }
 
     enter_at : (into : Bool) (m : ℕ) (body : BodyView) → names.body m into ≡ Some body → (words under : List Term) (ws : List Waiting) (k : List Form) → count_of words ≡ book.takes m → Behind p b book (book.gives m) (book.stops m) h note.facts note.index note.place under ws k
         → (into ≡ true → no_atomic (note.place.opens ++ code.blocks_in fs) ≡ false) → (t : State) → Path (source p) note.lead s t → note.lead + 1 ≤ b.half → t ≡ enter (here_of p h.func x ws) (words_of p h.func x words) (p.func m) (below p h.func x k r.rest)
@@ -257,9 +260,9 @@ module _ (p : Program) (names : Names) (b : Bounds) (book : Book) (id : ℕ) (li
     on_top m = subst (λ z. Makes rank s (Runs z fs)) (sym r.stands.frame) m
 
     plain_move : (a : Instr) → slice_get h.body.code note.index ≡ Some a → note.lead + 1 ≤ b.half → is_stuck (advanced p h.func no_answers note.lead note.outcome) ≡ false
-        → Fits p h.func b h.notes numbers h.rows note.facts note.lead note.rank (followed h.table note.facts note.index a note.place (advanced p h.func no_answers note.lead note.outcome)) → Makes rank s (Runs top fs)
-    plain_move a is short foreseen fits = note_move p names numbers h b home (limit p names b book id) r.rest fs small (Together p names b book id) stands stops flying_in current is_body (links.names n safe) rank s top r.stands a is foreseen (room short)
-        (subst (λ z. Fits p h.func b h.notes numbers h.rows note.facts note.lead z (followed h.table note.facts note.index a note.place (advanced p h.func no_answers note.lead note.outcome))) r.stands.ranked fits)
+        → Fits p h.func b h.notes book.thrown numbers h.rows note.facts note.lead note.rank (followed h.table note.facts note.index a note.place (advanced p h.func no_answers note.lead note.outcome)) → Makes rank s (Runs top fs)
+    plain_move a is short foreseen fits = note_move p names numbers h b book.thrown home (limit p names b book id) r.rest fs small (Together p names b book id) stands stops flying_in current current_type is_body (links.names n safe) rank s top r.stands a is foreseen (room short)
+        (subst (λ z. Fits p h.func b h.notes book.thrown numbers h.rows note.facts note.lead z (followed h.table note.facts note.index a note.place (advanced p h.func no_answers note.lead note.outcome))) r.stands.ranked fits)
 
     at_instr : (a : Instr) → slice_get h.body.code note.index ≡ Some a → note.lead + 1 ≤ b.half → is_stuck (advanced p h.func no_answers note.lead note.outcome) ≡ false
         → StepFits p b book h note.facts note.lead note.rank note.index a note.place (advanced p h.func no_answers note.lead note.outcome) → Makes rank s (Runs top fs)
@@ -285,18 +288,21 @@ module _ (p : Program) (names : Names) (b : Bounds) (book : Book) (id : ℕ) (li
     abbrev own_home : Home
     own_home = home_of id n safe base
 
-    own_stands : (rank : ℕ) (s : State) (top : Frame) → Stands p numbers own own_home (limit p names b book id) r.rest rank s top → Together p names b book id rank s (Runs top fs)
+    own_stands : (rank : ℕ) (s : State) (top : Frame) → Stands p numbers book.thrown own own_home (limit p names b book id) r.rest rank s top → Together p names b book id rank s (Runs top fs)
     own_stands rank s top z = stands_in p names b book id links small n safe base r.body r.there fs r.rest r.covered r.callers rank s top z
 
     own_stops : (s : State) (c : code.State) → Stopped names s c → Together p names b book id 0 s c
     own_stops s c z = stopped z
 
-    own_flies : (s : State) (x : Values) → AreWords x → Based own_home (limit p names b book id) x → (known : List Fact) → AllHold p own.func x known → (index : ℕ) (q : Place) (e : Exception) (o : Outcome) → (t : Flies p own.func b own.notes numbers own.rows known index q e o) → Shows p own.func x r.rest o s
+    own_flies : (s : State) (x : Values) → AreWords x → Based book.thrown own_home (limit p names b book id) x → (known : List Fact) → AllHold p own.func x known → (index : ℕ) (q : Place) (e : Exception) (o : Outcome) → (t : Flies p own.func b own.notes book.thrown numbers own.rows known index q e o) → book.thrown (exception_of p own.func x e).typ ≡ true → Shows p own.func x r.rest o s
         → Together p names b book id t.rank s (Unwinds (coded numbers (exception_of p own.func x e)) (frame_at p own.func numbers x own_home index q) fs)
-    own_flies s x bounded based known holds index q e o fits shows = flies_in p names b book id links small n safe base r.body r.there fs r.rest r.covered r.callers s x bounded based known holds index q e o fits shows
+    own_flies s x bounded based known holds index q e o fits type shows = flies_in p names b book id links small n safe base r.body r.there fs r.rest r.covered r.callers s x bounded based known holds index q e o fits type shows
 
     own_current : code.current fs ≡ option_map (coded numbers) (frames.handled r.rest)
     own_current = callers_current p names b book id links small (book.gives n) own.func.stops fs r.rest r.callers
+
+    own_current_type : (m : exceptions.Exception) → frames.handled r.rest ≡ Some m → book.thrown m.typ ≡ true
+    own_current_type = callers_type p names b book id links small (book.gives n) own.func.stops fs r.rest r.callers
 
     abbrev thrown : exceptions.Exception
     thrown = exception_of p own.func r.values r.form
@@ -304,11 +310,11 @@ module _ (p : Program) (names : Names) (b : Bounds) (book : Book) (id : ℕ) (li
     abbrev frame_there : Frame
     frame_there = frame_at p own.func numbers r.values own_home r.index r.place
 
-    leaves_function : (answers : Answers) → AreRight p r.values answers → Outward p own.func b own.notes answers r.form r.outcome
+    leaves_function : (answers : Answers) → AreRight p r.values answers → Outward p own.func b own.notes book.thrown answers r.form r.outcome
         → step_act names (Unwinds (coded numbers thrown) frame_there fs) ≡ leave_act names (coded numbers thrown) frame_there fs → Makes rank s (Unwinds (coded numbers thrown) frame_there fs)
     leaves_function answers right out i =
         let a = advance p own.func r.values answers r.rest small r.are_words right out.lag r.outcome s r.shows (ap is_stuck out.is) in
-        out_move p names b book id links small own_home out.lag rank own.func r.values thrown (here_of p own.func r.values out.temporaries) (book.gives n) own.func.stops s a.to (Unwinds (coded numbers thrown) frame_there fs) frame_there fs r.rest refl (links.stops n safe)
+        out_move p names b book id links small own_home out.lag rank own.func r.values thrown r.type (here_of p own.func r.values out.temporaries) (book.gives n) own.func.stops s a.to (Unwinds (coded numbers thrown) frame_there fs) frame_there fs r.rest refl (links.stops n safe)
         r.callers (subst (λ z. Path (source p) z s a.to) a.long a.path) out.some out.short (subst (λ z. Shows p own.func r.values r.rest z a.to) out.is a.shows) i
 
     rows_are : rows_in names own_home ≡ own.rows
@@ -316,7 +322,7 @@ module _ (p : Program) (names : Names) (b : Bounds) (book : Book) (id : ℕ) (li
 
     flying_move : Makes rank s (Unwinds e top fs)
     flying_move = subst (λ z. Makes rank s (Unwinds z top fs)) (sym r.is) (subst (λ z. Makes rank s (Unwinds (coded numbers thrown) z fs)) (sym r.frame)
-        (flight_move p names numbers own b own_home (limit p names b book id) r.rest fs small (Together p names b book id) own_stands own_stops own_flies own_current links.cancels r.values r.are_words r.based r.facts r.holds rank r.index r.place r.form r.outcome s r.shows leaves_function rows_are (subst (λ z. (t : Typ) → IsOf r.form t → TypeFits p own.func b own.notes numbers own.rows r.facts z r.index r.place r.form r.outcome t) r.ranked r.fits.fits)))
+        (flight_move p names numbers own b book.thrown own_home (limit p names b book id) r.rest fs small (Together p names b book id) own_stands own_stops own_flies own_current own_current_type links.cancels r.values r.are_words r.based r.facts r.holds rank r.index r.place r.form r.outcome s r.shows r.type leaves_function rows_are (subst (λ z. (t : Typ) → IsOf r.form t → book.thrown t ≡ true → TypeFits p own.func b own.notes book.thrown numbers own.rows r.facts z r.index r.place r.form r.outcome t) r.ranked r.fits.fits)))
 
   pub together_moves : (rank : ℕ) (s : State) (c : code.State) → rank ≤ b.most → Together p names b book id rank s c → Makes rank s c
   together_moves rank s c low (running {top = top} {fs = fs} n safe base r) = running_move n safe base fs rank s top r
@@ -374,7 +380,7 @@ module _ (p : Program) (names : Names) (b : Bounds) (book : Book) (id : ℕ) (li
   g = book.held n false
 
   abbrev no_exceptions : ℕ → exceptions.Exception
-  no_exceptions i = record { typ = typ void false false; bytes = [] }
+  no_exceptions i = record { typ = links.one_type.0; bytes = [] }
 
   abbrev values : Values
   values = record { word = λ i. word_at words i; exception = λ i. no_exceptions i; base = (empty_stack id).end; limit = (empty_stack id).limit }
@@ -429,7 +435,7 @@ module _ (p : Program) (names : Names) (b : Bounds) (book : Book) (id : ℕ) (li
     stands = record {
       values = values;
       are_words = bounded;
-      based = (begins.starts, sym begins.ends);
+      based = (begins.starts, sym begins.ends, λ i. links.one_type.1);
       at = 0;
       note = checked.entry.note;
       is = checked.entry.is;

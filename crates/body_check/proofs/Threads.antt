@@ -37,9 +37,9 @@ use Rattle.tx_events.specs.Thread.{Open, no_atomic}
 use Rattle.symbolic_source.proofs.Below.{blocks_below, or_callers, handled_below}
 use Rattle.symbolic_code.specs.Facts.{Fact, AllHold, in_facts}
 use Rattle.symbolic_code.proofs.Facts.{facts_placed}
-use Rattle.body_check.specs.Calls.{Book, bare, Hands, by_end, by_return, first_of, Behind, Entry, Links}
+use Rattle.body_check.specs.Calls.{Book, bare, Hands, by_end, by_return, first_of, Behind, Entry, Links, AllThrown}
 use Rattle.body_check.specs.Threads.{home_of, limit, Waits, waiting_frame, Covered, Callers, nobody, waits_for, Together, running, flies, stopped, finished}
-use Rattle.body_check.proofs.Landing.{joined, none_right, landed, frame_replaced, stop_meets, ended_meets}
+use Rattle.body_check.proofs.Landing.{joined, none_right, landed, frame_replaced, stop_meets, ended_meets, type_right}
 use Rattle.body_check.proofs.Calls.{count_of, fits_or_not, values_in, new_variables, entered, new_words}
 
 module _ (p : Program) (names : Names) (b : Bounds) (book : Book) (id : ℕ) (links : Links p names b book) (small : IsSmall p) where
@@ -76,7 +76,7 @@ module _ (p : Program) (names : Names) (b : Bounds) (book : Book) (id : ℕ) (li
   -- ---- a call
 
   -- the callee's frame, where it is entered
-  module _ (n : ℕ) (safe : Bool) (base : ℕ) (x : Values) (bounded : AreWords x) (based : Based (home_of id n safe base) end_of x) (index : ℕ) (q : Place) (fs : List Frame) (rest : List frames.Frame)
+  module _ (n : ℕ) (safe : Bool) (base : ℕ) (x : Values) (bounded : AreWords x) (based : Based book.thrown (home_of id n safe base) end_of x) (index : ℕ) (q : Place) (fs : List Frame) (rest : List frames.Frame)
       (m : ℕ) (into : Bool) (body : BodyView) (there : names.body m into ≡ Some body) (own : BodyView) (own_there : names.body n safe ≡ Some own)
       (words under : List Term) (ws : List Kept) (k : List Form) (counted : count_of words ≡ book.takes m) (facts : List Fact) (holds : AllHold p (held n safe).func x facts)
       (behind : Behind p b book (book.gives m) (held m into).func.stops (held n safe) facts index q under ws k) (covered : Covered p names b book id safe fs) (covers_callee : into ≡ true → no_atomic (q.opens ++ code.blocks_in fs) ≡ false) (callers : Callers p names b book id (book.gives n) (held n safe).func.stops fs rest) where
@@ -118,12 +118,12 @@ module _ (p : Program) (names : Names) (b : Bounds) (book : Book) (id : ℕ) (li
     new_frame : Frame
     new_frame = code.first_frame (home_of id m into (base + names.frame n)) (words_of p f x words)
 
-    stands_there : Stands p numbers (held m into) (home_of id m into (base + names.frame n)) end_of called entry.note.rank begun.to new_frame
+    stands_there : Stands p numbers book.thrown (held m into) (home_of id m into (base + names.frame n)) end_of called entry.note.rank begun.to new_frame
     unfolding start new_frame
     stands_there = record {
       values = new;
       are_words = new_words p small f g x bounded ws k rest words;
-      based = (ap₂ (λ u v. u + v) based.0 (links.frames n safe), based.1);
+      based = (ap₂ (λ u v. u + v) based.0 (links.frames n safe), based.1, based.2);
       at = 0;
       note = entry.note;
       is = entry.is;
@@ -196,6 +196,19 @@ module _ (p : Program) (names : Names) (b : Bounds) (book : Book) (id : ℕ) (li
       own_first (held n safe).func w.values w.place.caught gs more (callers_current (book.gives n) (held n safe).func.stops gs more callers)
       ∙ (ap (λ z. option_map (coded numbers) (or_callers p (held n safe).func w.values more z)) w.behind.caught ∙ ap (λ z. option_map (coded numbers) z) (sym (handled_below p (held n safe).func w.values more w.others)))
 
+  handled_type : (f : Func) (x : Values) (rest : List frames.Frame) → ((n : ℕ) → book.thrown (x.exception n).typ ≡ true) → ((m : exceptions.Exception) → frames.handled rest ≡ Some m → book.thrown m.typ ≡ true)
+      → (es : List Exception) → AllThrown book.thrown es → (m : exceptions.Exception) → or_callers p f x rest (first_of es) ≡ Some m → book.thrown m.typ ≡ true
+  handled_type f x rest right others [] h m e = others m e
+  handled_type f x rest right others (g ∷ es) h m e =
+      let same : exception_of p f x g ≡ m = cc in
+      ap (λ (z : exceptions.Exception). book.thrown z.typ) (sym same) ∙ type_right p f book.thrown x right g h
+
+  pub callers_type : (gives stops : Bool) (fs : List Frame) (rest : List frames.Frame) → Callers p names b book id gives stops fs rest → (m : exceptions.Exception) → frames.handled rest ≡ Some m → book.thrown m.typ ≡ true
+  callers_type gives stops fs rest (nobody main stopping is_main) m e = absurd cc
+  callers_type gives stops fs rest (waits_for {fs = gs} {rest = more} n safe base w covered callers) m e =
+      handled_type (held n safe).func w.values more w.based.2 (callers_type (book.gives n) (held n safe).func.stops gs more callers) w.place.caught w.behind.type m
+      (ap (λ z. or_callers p (held n safe).func w.values more z) w.behind.caught ∙ (sym (handled_below p (held n safe).func w.values more w.others) ∙ e))
+
   -- ---- a return
 
   -- the word of a function that is done
@@ -210,13 +223,13 @@ module _ (p : Program) (names : Names) (b : Bounds) (book : Book) (id : ℕ) (li
   some_back lead lag h = omega (arith, h)
 
   pub stands_in : (n : ℕ) (safe : Bool) (base : ℕ) (body : BodyView) (there : names.body n safe ≡ Some body) (fs : List Frame) (rest : List frames.Frame) (covered : Covered p names b book id safe fs) (callers : Callers p names b book id (book.gives n) (held n safe).func.stops fs rest)
-      (rank : ℕ) (s : State) (top : Frame) → Stands p numbers (held n safe) (home_of id n safe base) end_of rest rank s top → Pairs rank s (Runs top fs)
+      (rank : ℕ) (s : State) (top : Frame) → Stands p numbers book.thrown (held n safe) (home_of id n safe base) end_of rest rank s top → Pairs rank s (Runs top fs)
   stands_in n safe base body there fs rest covered callers rank s top st = running n safe base (record { body = body; there = there; rest = rest; callers = callers; covered = covered; stands = st })
 
   pub flies_in : (n : ℕ) (safe : Bool) (base : ℕ) (body : BodyView) (there : names.body n safe ≡ Some body) (fs : List Frame) (rest : List frames.Frame) (covered : Covered p names b book id safe fs) (callers : Callers p names b book id (book.gives n) (held n safe).func.stops fs rest)
-      (s : State) (x : Values) → AreWords x → Based (home_of id n safe base) end_of x → (known : List Fact) → AllHold p (held n safe).func x known → (index : ℕ) (q : Place) (e : Exception) (o : Outcome) → (t : Flies p (held n safe).func b (held n safe).notes numbers (held n safe).rows known index q e o)
-      → Shows p (held n safe).func x rest o s → Pairs t.rank s (Unwinds (coded numbers (exception_of p (held n safe).func x e)) (frame_at p (held n safe).func numbers x (home_of id n safe base) index q) fs)
-  flies_in n safe base body there fs rest covered callers s x bounded based facts holds index q e o fits shows = flies n safe base (record {
+      (s : State) (x : Values) → AreWords x → Based book.thrown (home_of id n safe base) end_of x → (known : List Fact) → AllHold p (held n safe).func x known → (index : ℕ) (q : Place) (e : Exception) (o : Outcome) → (t : Flies p (held n safe).func b (held n safe).notes book.thrown numbers (held n safe).rows known index q e o)
+      → book.thrown (exception_of p (held n safe).func x e).typ ≡ true → Shows p (held n safe).func x rest o s → Pairs t.rank s (Unwinds (coded numbers (exception_of p (held n safe).func x e)) (frame_at p (held n safe).func numbers x (home_of id n safe base) index q) fs)
+  flies_in n safe base body there fs rest covered callers s x bounded based facts holds index q e o fits type shows = flies n safe base (record {
     body = body;
     there = there;
     rest = rest;
@@ -229,7 +242,7 @@ module _ (p : Program) (names : Names) (b : Bounds) (book : Book) (id : ℕ) (li
     based = based;
     index = index;
     place = q;
-    form = e;
+    form = e; type = type;
     outcome = o;
     frame = refl;
     is = refl;
@@ -248,7 +261,7 @@ module _ (p : Program) (names : Names) (b : Bounds) (book : Book) (id : ℕ) (li
       let q = place_later w.place (variable 0 ∷ in_terms later w.under) in
       let shows : Shows p f y rest (goes silent (in_waitings later w.temporaries) (Gives (variable 0) ∷ in_frames later w.others)) t =
       g ∙ ap₂ (λ a d. frames.at Silent a (frames.Gives v ∷ d)) (sym (here_replaced p f later y rest w.temporaries)) (sym (frames_replaced p f later y rest w.others)) in
-      let l = landed p names numbers (held n safe) b (home_of id n safe base) end_of rest fs small Pairs (stands_in n safe base w.body w.there fs rest covered callers) (λ s c z. stopped z) (flies_in n safe base w.body w.there fs rest covered callers) (callers_current (book.gives n) (held n safe).func.stops fs rest callers) y (words_then w.values v w.are_words small_word) w.based (in_facts later w.facts) (facts_placed p f later y w.facts w.holds) no_answers (none_right p y) (w.index + 1) q
+      let l = landed p names numbers (held n safe) b book.thrown (home_of id n safe base) end_of rest fs small Pairs (stands_in n safe base w.body w.there fs rest covered callers) (λ s c z. stopped z) (flies_in n safe base w.body w.there fs rest covered callers) (callers_current (book.gives n) (held n safe).func.stops fs rest callers) (callers_type (book.gives n) (held n safe).func.stops fs rest callers) y (words_then w.values v w.are_words small_word) w.based (in_facts later w.facts) (facts_placed p f later y w.facts w.holds) no_answers (none_right p y) (w.index + 1) q
       (goes silent (in_waitings later w.temporaries) (Gives (variable 0) ∷ in_frames later w.others)) t w.behind.back.lands shows in
       both_go (lead + w.behind.back.lands.lag) rank w.behind.back.lands.note.rank s l.to c (Runs (frame_at p f numbers y (home_of id n safe base) (w.index + 1) q) fs) (joined (thread_of p) path l.path)
       (some_back lead w.behind.back.lands.lag w.behind.back.some) (room_back lead w.behind.back.lands.lag short w.behind.back.short)
@@ -265,7 +278,7 @@ module _ (p : Program) (names : Names) (b : Bounds) (book : Book) (id : ℕ) (li
       → t ≡ frames.at Silent (here_of p (held n safe).func w.values w.temporaries) (frames.Gives 0 ∷ below p (held n safe).func w.values w.others rest) → Moves rank s c
   back_without home lead rank s t c n safe base stops w fs rest covered callers path short e g =
       let f = (held n safe).func in
-      let l = landed p names numbers (held n safe) b (home_of id n safe base) end_of rest fs small Pairs (stands_in n safe base w.body w.there fs rest covered callers) (λ s c z. stopped z) (flies_in n safe base w.body w.there fs rest covered callers) (callers_current (book.gives n) (held n safe).func.stops fs rest callers) w.values w.are_words w.based w.facts w.holds no_answers (none_right p w.values) (w.index + 1) (with_operands w.place w.under)
+      let l = landed p names numbers (held n safe) b book.thrown (home_of id n safe base) end_of rest fs small Pairs (stands_in n safe base w.body w.there fs rest covered callers) (λ s c z. stopped z) (flies_in n safe base w.body w.there fs rest covered callers) (callers_current (book.gives n) (held n safe).func.stops fs rest callers) (callers_type (book.gives n) (held n safe).func.stops fs rest callers) w.values w.are_words w.based w.facts w.holds no_answers (none_right p w.values) (w.index + 1) (with_operands w.place w.under)
       (goes silent w.temporaries (Gives (number 0) ∷ w.others)) t w.behind.back.lands g in
       both_go (lead + w.behind.back.lands.lag) rank w.behind.back.lands.note.rank s l.to c (Runs (frame_at p f numbers w.values (home_of id n safe base) (w.index + 1) (with_operands w.place w.under)) fs) (joined (thread_of p) path l.path)
       (some_back lead w.behind.back.lands.lag w.behind.back.some) (room_back lead w.behind.back.lands.lag short w.behind.back.short) e w.behind.back.lands.low l.related
@@ -312,6 +325,10 @@ module _ (p : Program) (names : Names) (b : Bounds) (book : Book) (id : ℕ) (li
   exception_first e others zero = e
   exception_first e others (suc n) = others n
 
+  first_thrown : (e : exceptions.Exception) → book.thrown e.typ ≡ true → (others : ℕ → exceptions.Exception) → ((n : ℕ) → book.thrown (others n).typ ≡ true) → (n : ℕ) → book.thrown (exception_first e others n).typ ≡ true
+  first_thrown e h others right zero = h
+  first_thrown e h others right (suc n) = right n
+
   less : (lag : ℕ) → lag + 1 ≤ b.longest → lag ≤ b.longest
   less lag h = omega (arith, h)
 
@@ -328,25 +345,25 @@ module _ (p : Program) (names : Names) (b : Bounds) (book : Book) (id : ℕ) (li
       (record { here = empty_stack id; others = frames.Starts main ∷ []; is = refl }) i)
 
   -- the exception comes to the caller
-  caller_flies : (lag rank : ℕ) (e : exceptions.Exception) (s t : State) (c : code.State) (gives : Bool) (n : ℕ) (safe : Bool) (base : ℕ) (w : Waits p names b book id gives false n safe base) (fs : List Frame) (rest : List frames.Frame) (covered : Covered p names b book id safe fs)
+  caller_flies : (lag rank : ℕ) (e : exceptions.Exception) (type : book.thrown e.typ ≡ true) (s t : State) (c : code.State) (gives : Bool) (n : ℕ) (safe : Bool) (base : ℕ) (w : Waits p names b book id gives false n safe base) (fs : List Frame) (rest : List frames.Frame) (covered : Covered p names b book id safe fs)
       → Callers p names b book id (book.gives n) (held n safe).func.stops fs rest → Path (thread_of p) lag s t → 1 ≤ lag → lag + 1 ≤ b.longest
       → t ≡ frames.at Silent (here_of p (held n safe).func w.values w.temporaries) (frames.Leaves (frames.throws e) ∷ below p (held n safe).func w.values w.others rest)
       → step_act names c ≡ code.goes (Unwinds (coded numbers e) (waiting_frame p names b book id gives false n safe base w) fs) → Moves rank s c
-  caller_flies lag rank e s t c gives n safe base w fs rest covered callers path some short g i =
+  caller_flies lag rank e type s t c gives n safe base w fs rest covered callers path some short g i =
       let f = (held n safe).func in
       let y : Values = record { word = w.values.word; exception = exception_first e w.values.exception; base = w.values.base; limit = w.values.limit } in
       let shows : Shows p f y rest (goes silent (in_waitings rising w.temporaries) (Leaves (throws (unknown 0)) ∷ in_frames rising w.others)) t =
       g ∙ ap₂ (λ a d. frames.at Silent a (frames.Leaves (frames.throws e) ∷ d)) (sym (here_replaced p f rising y rest w.temporaries)) (sym (frames_replaced p f rising y rest w.others)) in
       both_go lag rank (w.behind.thrown refl).rank s t c (Unwinds (coded numbers e) (waiting_frame p names b book id gives false n safe base w) fs) path some (less lag short) i (w.behind.thrown refl).low
       (subst (λ z. Pairs (w.behind.thrown refl).rank t (Unwinds (coded numbers e) z fs)) (frame_replaced p f numbers rising y (home_of id n safe base) w.index (with_operands w.place w.under))
-      (flies_in n safe base w.body w.there fs rest covered callers t y w.are_words w.based (in_facts rising w.facts) (facts_placed p f rising y w.facts w.holds) w.index (in_place rising (with_operands w.place w.under)) (unknown 0) (goes silent (in_waitings rising w.temporaries) (Leaves (throws (unknown 0)) ∷ in_frames rising w.others)) (w.behind.thrown refl) shows))
+      (flies_in n safe base w.body w.there fs rest covered callers t y w.are_words (w.based.0, w.based.1, first_thrown e type w.values.exception w.based.2) (in_facts rising w.facts) (facts_placed p f rising y w.facts w.holds) w.index (in_place rising (with_operands w.place w.under)) (unknown 0) (goes silent (in_waitings rising w.temporaries) (Leaves (throws (unknown 0)) ∷ in_frames rising w.others)) (w.behind.thrown refl) type shows))
 
-  pub out_move : (home : Home) (lag rank : ℕ) (f : Func) (x : Values) (e : exceptions.Exception) (hand : frames.Here) (gives stops : Bool) (s t : State) (c : code.State) (top : Frame) (fs : List Frame) (rest : List frames.Frame) → top.home ≡ home → names.no_except home.func ≡ stops
+  pub out_move : (home : Home) (lag rank : ℕ) (f : Func) (x : Values) (e : exceptions.Exception) (type : book.thrown e.typ ≡ true) (hand : frames.Here) (gives stops : Bool) (s t : State) (c : code.State) (top : Frame) (fs : List Frame) (rest : List frames.Frame) → top.home ≡ home → names.no_except home.func ≡ stops
       → Callers p names b book id gives stops fs rest → Path (thread_of p) lag s t → 1 ≤ lag → lag + 1 ≤ b.longest → t ≡ leave hand (frames.throws e) rest
       → step_act names c ≡ code.leave_act names (coded numbers e) top fs → Moves rank s c
-  out_move home lag rank f x e hand gives true s t c top fs rest own stop (nobody main stopping is_main) path some short g i = terminates lag rank s t c hand _ path short g i
-  out_move home lag rank f x e hand gives false s t c top fs rest own stop (nobody main stopping is_main) path some short g i = thread_terminates lag rank e s t c main path short g i
-  out_move home lag rank f x e hand gives true s t c top fs rest own stop (waits_for {fs = gs} {rest = more} n safe base w covered callers) path some short g i =
+  out_move home lag rank f x e type hand gives true s t c top fs rest own stop (nobody main stopping is_main) path some short g i = terminates lag rank s t c hand _ path short g i
+  out_move home lag rank f x e type hand gives false s t c top fs rest own stop (nobody main stopping is_main) path some short g i = thread_terminates lag rank e s t c main path short g i
+  out_move home lag rank f x e type hand gives true s t c top fs rest own stop (waits_for {fs = gs} {rest = more} n safe base w covered callers) path some short g i =
       terminates lag rank s t c hand _ path short g (i ∙ ap (λ (z : Bool). if z then Ends (Stop Terminate) else code.goes (Unwinds (coded numbers e) (waiting_frame p names b book id gives true n safe base w) gs)) (ap (λ (z : Home). names.no_except z.func) own ∙ stop))
-  out_move home lag rank f x e hand gives false s t c top fs rest own stop (waits_for {fs = gs} {rest = more} n safe base w covered callers) path some short g i =
-      caller_flies lag rank e s t c gives n safe base w gs more covered callers path some short g (i ∙ ap (λ (z : Bool). if z then Ends (Stop Terminate) else code.goes (Unwinds (coded numbers e) (waiting_frame p names b book id gives false n safe base w) gs)) (ap (λ (z : Home). names.no_except z.func) own ∙ stop))
+  out_move home lag rank f x e type hand gives false s t c top fs rest own stop (waits_for {fs = gs} {rest = more} n safe base w covered callers) path some short g i =
+      caller_flies lag rank e type s t c gives n safe base w gs more covered callers path some short g (i ∙ ap (λ (z : Bool). if z then Ends (Stop Terminate) else code.goes (Unwinds (coded numbers e) (waiting_frame p names b book id gives false n safe base w) gs)) (ap (λ (z : Home). names.no_except z.func) own ∙ stop))

@@ -19,7 +19,7 @@ use Rattle.symbolic_source.specs.Replacing.{in_terms, in_waitings, in_frames}
 use Rattle.symbolic_code.specs.Facts.{Fact, has_function, in_facts, Among}
 use Rattle.symbolic_code.specs.Places.{Place, nothing, later, with_operands, place_later}
 use Rattle.symbolic_code.specs.Following.{followed, AreNames}
-use Rattle.body_check.specs.Notes.{Note, Bounds, Lands, Fits, Flies, in_place, rising, no_answers, variables}
+use Rattle.body_check.specs.Notes.{Note, Bounds, Lands, Fits, Flies, in_place, rising, no_answers, variables, IsThrown}
 use Rattle.body_check.specs.Linked.{Held}
 
 -- the bodies by function and by whether it is the safe one; whether a function hands back a word, how many words it takes, and whether it lets no exception out; types' numbers
@@ -29,6 +29,8 @@ pub record Book : Type 0 where
   pub takes : (func : ℕ) → ℕ
   pub stops : (func : ℕ) → Bool
   pub numbers : Typ → ℕ
+  -- the types of exceptions that are thrown
+  pub thrown : Typ → Bool
   -- the same for the functions of a type, and for those in a slot of a class
   pub takes_as : Signature → ℕ
   pub gives_as : Signature → Bool
@@ -53,6 +55,10 @@ abbrev pub first_of : List Exception → Option Exception
 first_of [] = None
 first_of (e ∷ es) = Some e
 
+abbrev pub AllThrown : (thrown : Typ → Bool) → List Exception → Type 0
+AllThrown thrown [] = Unit {0}
+AllThrown thrown (e ∷ es) = IsThrown thrown e
+
 -- a word is what the function hands back
 pub data Hands (w : Term) : Outcome → Type 0 where
   by_end : {ws : List Waiting} → Hands w (hands w ws)
@@ -61,7 +67,7 @@ pub data Hands (w : Term) : Outcome → Type 0 where
 module _ (p : Program) (b : Bounds) (book : Book) where
   -- how the caller goes on behind a call: at least one silent step on
   pub record Back (h : Held) (known : List Fact) (index : ℕ) (q : Place) (o : Outcome) : Type 0 where
-    pub lands : Lands p h.func b h.notes known no_answers index q o
+    pub lands : Lands p h.func b h.notes book.thrown known no_answers index q o
     pub some : 1 ≤ lands.lag
     pub short : lands.lag ≤ b.half
 
@@ -72,7 +78,7 @@ module _ (p : Program) (b : Bounds) (book : Book) where
   -- how the caller goes on where an exception comes out of the callee
   abbrev pub ThrownWith : Held → List Fact → ℕ → Place → List Term → List Waiting → List Frame → Type 0
   ThrownWith h known i q under ws k =
-      Flies p h.func b h.notes book.numbers h.rows (in_facts rising known) i (in_place rising (with_operands q under)) (unknown 0) (goes silent (in_waitings rising ws) (Leaves (throws (unknown 0)) ∷ in_frames rising k))
+      Flies p h.func b h.notes book.thrown book.numbers h.rows (in_facts rising known) i (in_place rising (with_operands q under)) (unknown 0) (goes silent (in_waitings rising ws) (Leaves (throws (unknown 0)) ∷ in_frames rising k))
 
   -- what a call leaves behind it, where the words of the call have been taken off: the function hands back a word or none, and lets no exception out or may do so
   pub record Behind (gives stops : Bool) (h : Held) (known : List Fact) (index : ℕ) (q : Place) (under : List Term) (ws : List Waiting) (k : List Frame) : Type 0 where
@@ -80,6 +86,7 @@ module _ (p : Program) (b : Bounds) (book : Book) where
     pub thrown : stops ≡ false → ThrownWith h known index q under ws k
     pub opens : q.opens ≡ blocks_in k
     pub caught : first_of q.caught ≡ handled k
+    pub type : AllThrown book.thrown q.caught
 
   -- a call of a function by its name, with so many words
   pub record Calling (h : Held) (known : List Fact) (index : ℕ) (q : Place) (o : Outcome) (name count : ℕ) : Type 0 where
@@ -126,7 +133,7 @@ module _ (p : Program) (b : Bounds) (book : Book) where
   StepFits h known lead rank index (Ret zero) q o = (book.gives h.number ≡ false) × Returning false q o
   StepFits h known lead rank index (Ret (suc zero)) q o = (book.gives h.number ≡ true) × Returning true q o
   StepFits h known lead rank index (Ret (suc (suc n))) q o = ⊥
-  StepFits h known lead rank index a q o = Fits p h.func b h.notes book.numbers h.rows known lead rank (followed h.table known index a q o)
+  StepFits h known lead rank index a q o = Fits p h.func b h.notes book.thrown book.numbers h.rows known lead rank (followed h.table known index a q o)
 
   -- a note fits
   pub record NoteFits (h : Held) (note : Note) : Type 0 where
@@ -169,7 +176,8 @@ pub record Links (p : Program) (x : Names) (b : Bounds) (book : Book) : Type 0 w
   pub rows : (n : ℕ) (safe : Bool) (body : BodyView) → x.body n safe ≡ Some body → map (renamed_row (x.numbering n)) body.rows ≡ (book.held n safe).rows
   pub stops : (n : ℕ) (safe : Bool) → x.no_except n ≡ (book.held n safe).func.stops
   pub stops_so : (n : ℕ) (safe : Bool) → (book.held n safe).func.stops ≡ book.stops n
-  pub cancels : (t : Typ) → x.cancels (book.numbers t) ≡ cancels t
+  pub cancels : (t : Typ) → book.thrown t ≡ true → x.cancels (book.numbers t) ≡ cancels t
+  pub one_type : (t : Typ) × (book.thrown t ≡ true)
   pub checked : (n : ℕ) (safe : Bool) (body : BodyView) → x.body n safe ≡ Some body → Checked p b book (book.held n safe)
   pub names : (n : ℕ) (safe : Bool) → AreNames p (book.held n safe).func book.numbers x (x.numbering n) (book.held n safe).table
   pub called : (n : ℕ) (safe : Bool) (name callee : ℕ) → (book.held n safe).table.function_of name ≡ Some callee → (x.numbering n).func name ≡ p.number (book.held n safe).func.unit callee

@@ -221,6 +221,7 @@ array_book = record {
   takes = word_count;
   stops = lets_none_out;
   numbers = number_of_type;
+  thrown = λ t. true;
   takes_as = λ sig. 0;
   gives_as = λ sig. false;
   slot_takes = λ c s. 0;

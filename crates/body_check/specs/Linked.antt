@@ -1,5 +1,5 @@
 -- A frame of a checked body, with what the source has left to do in it.
-use Rattle.std.specs.Prelude.{ℕ, Bool, ◌≡◌, List, ◌∷◌, Some, slice_get}
+use Rattle.std.specs.Prelude.{ℕ, Bool, ◌≡◌, List, ◌∷◌, Some, slice_get, true}
 use Rattle.tx_events.specs.declared.End.{End}
 use Rattle.tx_events.specs.declared.Event.TheVariants.{Stop, Done}
 use Rattle.tx_code.specs.declared.body.Row.{Row}
@@ -28,15 +28,15 @@ pub record Held : Type 0 where
   pub notes : List Note
   pub table : Table
 
--- where the frame lies and where its stack ends
-abbrev pub Based : Home → ℕ → Values → Type 0
-Based home limit x = (home.base ≡ x.base) × (x.limit ≡ limit)
+-- where the frame lies and where its stack ends, and unknown exceptions are of types that are thrown
+abbrev pub Based : (thrown : Typ → Bool) → Home → ℕ → Values → Type 0
+Based thrown home limit x = (home.base ≡ x.base) × (x.limit ≡ limit) × ((n : ℕ) → thrown (x.exception n).typ ≡ true)
 
 -- the frame stands at a note, and the source has come to what the note foresees
-pub record Stands (p : Program) (numbers : Typ → ℕ) (h : Held) (home : Home) (limit : ℕ) (rest : List frames.Frame) (rank : ℕ) (s : State) (top : Frame) : Type 0 where
+pub record Stands (p : Program) (numbers : Typ → ℕ) (thrown : Typ → Bool) (h : Held) (home : Home) (limit : ℕ) (rest : List frames.Frame) (rank : ℕ) (s : State) (top : Frame) : Type 0 where
   pub values : Values
   pub are_words : AreWords values
-  pub based : Based home limit values
+  pub based : Based thrown home limit values
   pub at : ℕ
   pub note : Note
   pub is : slice_get h.notes at ≡ Some note

@@ -73,6 +73,11 @@ abbrev pub IsOf : Exception → Typ → Type 0
 IsOf (unknown n) t = Unit {0}
 IsOf (made u puts) t = u ≡ t
 
+-- an exception is of a type that is thrown
+abbrev pub IsThrown : (thrown : Typ → Bool) → Exception → Type 0
+IsThrown thrown (unknown n) = Unit {0}
+IsThrown thrown (made t puts) = thrown t ≡ true
+
 -- what is answered is right of an exception of this type
 abbrev pub Answering : Program → Exception → Typ → Answers → Type 0
 Answering p e t answers = (n : ℕ) (handler : Tree) (answer : Bool) → answers n handler ≡ Some answer → (e ≡ unknown n) × (catches p.classes (typ_in handler) t ≡ answer)
@@ -84,7 +89,8 @@ pub record Bounds : Type 0 where
   pub both : half + half ≤ longest
   pub most : ℕ
 
-module _ (p : Program) (f : Func) (b : Bounds) (notes : List Note) where
+-- the types that are thrown are told by a test
+module _ (p : Program) (f : Func) (b : Bounds) (notes : List Note) (thrown : Typ → Bool) where
   -- a way on leads to a note of an index, after some silent steps of the source, with these answers on unknown exceptions: whatever the words are of which it is known that the facts hold, with what
   -- the terms stand for in the place of the note's variables the frame is that of the note, the note's facts hold, and the source has come to what the note foresees
   pub record Lands (known : List Fact) (answers : Answers) (index : ℕ) (q : Place) (o : Outcome) : Type 0 where
@@ -94,6 +100,7 @@ module _ (p : Program) (f : Func) (b : Bounds) (notes : List Note) where
     pub there : note.index ≡ index
     pub lag : ℕ
     pub terms : Replacing
+    pub types : (n : ℕ) → IsThrown thrown (terms.exception n)
     pub same_place : (x : Values) → AreWords x → AllHold p f x known → (numbers : Typ → ℕ) (home : Home) → frame_at p f numbers x home index q ≡ frame_at p f numbers (seen_by p f terms x) home index note.place
     pub same_facts : (x : Values) → AreWords x → AllHold p f x known → AllHold p f (seen_by p f terms x) note.facts
     pub same_outcome : (x : Values) → AreWords x → AllHold p f x known → (rest : List frames.Frame) (s : State) → Shows p f x rest (advanced p f answers lag o) s → Shows p f (seen_by p f terms x) rest note.outcome s
@@ -108,6 +115,7 @@ module _ (p : Program) (f : Func) (b : Bounds) (notes : List Note) where
     pub there : note.index ≡ index
     pub lag : ℕ
     pub terms : Replacing
+    pub types : (n : ℕ) → IsThrown thrown (terms.exception n)
     pub same_place : in_place terms note.place ≡ q
     pub same_facts : AllAmong (in_facts terms note.facts) known
     pub same_outcome : in_outcome terms note.outcome ≡ settled known (advanced p f answers lag o)
@@ -167,11 +175,11 @@ module _ (p : Program) (f : Func) (b : Bounds) (notes : List Note) where
     pub right : Answering p e t answers
     pub found : FoundFits known answers rank (find rows index (numbers t)) q e o
 
-  -- an exception in flight at an index, of each type that it can be of, with a rank as a note has
+  -- an exception in flight at an index, of each type that is thrown and that it can be of, with a rank as a note has
   pub record Flies (numbers : Typ → ℕ) (rows : List Row) (known : List Fact) (index : ℕ) (q : Place) (e : Exception) (o : Outcome) : Type 0 where
     pub rank : ℕ
     pub low : rank ≤ b.most
-    pub fits : (t : Typ) → IsOf e t → TypeFits numbers rows known rank index q e o t
+    pub fits : (t : Typ) → IsOf e t → thrown t ≡ true → TypeFits numbers rows known rank index q e o t
 
   module _ (numbers : Typ → ℕ) (rows : List Row) where
     abbrev pub Fits : (known : List Fact) → (lead rank : ℕ) → Next → Type 0
@@ -182,6 +190,6 @@ module _ (p : Program) (f : Func) (b : Bounds) (notes : List Note) where
     Fits known lead rank (finding class slot w next) = Fits (has_function class slot w ∷ known) lead rank next
     Fits known lead rank (loudly doing ws k index q) = (is_loud doing ≡ true) × (l : Lands (in_facts later known) no_answers index q (given p f no_answers (in_waitings later ws) (variable 0) (in_frames later k))) × (l.lag ≡ 0)
     Fits known lead rank (starting address argument ws k index q) = (l : Lands (in_facts later known) no_answers index q (given p f no_answers (in_waitings later ws) (variable 0) (in_frames later (Replied ∷ k)))) × (l.lag ≡ 0)
-    Fits known lead rank (throwing e index q o) = (t : Flies numbers rows known index q e o) × ((1 ≤ lead) ⊎ (t.rank + 1 ≤ rank))
+    Fits known lead rank (throwing e index q o) = (t : Flies numbers rows known index q e o) × IsThrown thrown e × ((1 ≤ lead) ⊎ (t.rank + 1 ≤ rank))
     Fits known lead rank (rethrowing ws k index q) = (t : Flies numbers rows (in_facts rising known) index (in_place rising q) (unknown 0) (left (in_waitings rising ws) (throws (unknown 0)) (in_frames rising k))) × ((1 ≤ lead) ⊎ (t.rank + 1 ≤ rank))
     Fits known lead rank (ends end) = Unit {0}

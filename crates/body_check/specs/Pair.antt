@@ -121,6 +121,7 @@ pair_book = record {
   takes = λ n. 0;
   stops = λ n. false;
   numbers = number_of_type;
+  thrown = λ t. true;
   takes_as = λ sig. 0;
   gives_as = λ sig. false;
   slot_takes = λ c s. 0;

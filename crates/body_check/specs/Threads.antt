@@ -34,7 +34,7 @@ module _ (p : Program) (names : Names) (b : Bounds) (book : Book) (thread : ℕ)
     pub there : names.body n safe ≡ Some body
     pub values : Values
     pub are_words : AreWords values
-    pub based : Based (home_of thread n safe base) limit values
+    pub based : Based book.thrown (home_of thread n safe base) limit values
     pub index : ℕ
     pub place : Place
     pub facts : List Fact
@@ -69,7 +69,7 @@ module _ (p : Program) (names : Names) (b : Bounds) (book : Book) (thread : ℕ)
     pub rest : List frames.Frame
     pub callers : Callers (book.gives n) (book.held n safe).func.stops fs rest
     pub covered : Covered safe fs
-    pub stands : Stands p book.numbers (book.held n safe) (home_of thread n safe base) limit rest rank s top
+    pub stands : Stands p book.numbers book.thrown (book.held n safe) (home_of thread n safe base) limit rest rank s top
 
   -- a frame in which an exception is in flight
   pub record FliesIn (rank : ℕ) (s : State) (exception : code.Exception) (top : Frame) (fs : List Frame) (n : ℕ) (safe : Bool) (base : ℕ) : Type 0 where
@@ -80,16 +80,17 @@ module _ (p : Program) (names : Names) (b : Bounds) (book : Book) (thread : ℕ)
     pub covered : Covered safe fs
     pub values : Values
     pub are_words : AreWords values
-    pub based : Based (home_of thread n safe base) limit values
+    pub based : Based book.thrown (home_of thread n safe base) limit values
     pub index : ℕ
     pub place : Place
     pub facts : List Fact
     pub holds : AllHold p (book.held n safe).func values facts
     pub form : Exception
+    pub type : book.thrown (exception_of p (book.held n safe).func values form).typ ≡ true
     pub outcome : Outcome
     pub frame : top ≡ frame_at p (book.held n safe).func book.numbers values (home_of thread n safe base) index place
     pub is : exception ≡ coded book.numbers (exception_of p (book.held n safe).func values form)
-    pub fits : Flies p (book.held n safe).func b (book.held n safe).notes book.numbers (book.held n safe).rows facts index place form outcome
+    pub fits : Flies p (book.held n safe).func b (book.held n safe).notes book.thrown book.numbers (book.held n safe).rows facts index place form outcome
     pub ranked : fits.rank ≡ rank
     pub shows : Shows p (book.held n safe).func values rest outcome s
 

@@ -1,6 +1,6 @@
 //! What notes that fit show, and worked bodies. A function here does nothing: its clauses are the laws.
 
-ghost use Rattle.std.specs.Prelude.{◌≡◌, ◌==◌, ℕ, ◌+◌, ℤ, false, List, [], ◌∷◌, Option, Some, None};
+ghost use Rattle.std.specs.Prelude.{Bool, ◌≡◌, ◌==◌, ℕ, ◌+◌, ℤ, false, List, [], ◌∷◌, Option, Some, None};
 ghost use Rattle.tx_code.specs.declared.instr.Instr.TheVariants.{Push, Swap, FrameAddr, Load, Store, Bin, Ret};
 ghost use Rattle.tx_ints.specs.declared.kinds.IntKind.TheVariants.{Int};
 ghost use Rattle.tx_ints.specs.declared.kinds.BinOp.TheVariants.{Add};
@@ -49,10 +49,10 @@ pub fn checked_threads_keep_their_events()
 /// An exception of which nothing is known goes where it has to if it does so in each of finitely many cases of its type:
 /// a class of the program, a spelling of a handler's or row's type, and any other.
 pub fn finitely_many_cases()
-    ensures { (p : Program) (f : Func) (b : Bounds) (notes : List Note) (known : List (List ℕ)) (numbers : Typ → ℕ) (spelling_of : ℕ → List ℕ) (rows : List Row) (facts : List Fact) (rank index : ℕ) (q : Place) (n : ℕ) (o : Outcome) →
+    ensures { (p : Program) (f : Func) (b : Bounds) (notes : List Note) (thrown : Typ → Bool) (known : List (List ℕ)) (numbers : Typ → ℕ) (spelling_of : ℕ → List ℕ) (rows : List Row) (facts : List Fact) (rank index : ℕ) (q : Place) (n : ℕ) (o : Outcome) →
         AreSpelled p.classes known numbers spelling_of rows →
-        Each (λ c. FoundFits p f b notes facts (answers_in p.classes known n c) rank (find_in p.classes known spelling_of c rows index) q (unknown n) o) (cases p.classes known) →
-        (t : Typ) → TypeFits p f b notes numbers rows facts rank index q (unknown n) o t }
+        Each (λ c. FoundFits p f b notes thrown facts (answers_in p.classes known n c) rank (find_in p.classes known spelling_of c rows index) q (unknown n) o) (cases p.classes known) →
+        (t : Typ) → TypeFits p f b notes thrown numbers rows facts rank index q (unknown n) o t }
 {}
 
 /// `int main() { return 0; }` is such a program: its notes fit.
