@@ -1,6 +1,6 @@
 -- The notes of the worked program with an array fit.
 use Rattle.cpp_tree.specs.cpp_types.Typ.{typ, void}
-use Rattle.std.proofs.Common.{ℕ, zero, suc, ◌≡◌, ◌+◌, ◌*◌, ◌^◌, ◌<◌, ◌≤◌, inl, inr, Bool, true, false, refl, ap, sym, ◌∙◌, subst, List, [], ◌∷◌, Option, Some, None, arith}
+use Rattle.std.proofs.Common.{ℕ, zero, suc, ◌≡◌, inl, inr, Bool, true, false, refl, ap, sym, ◌∙◌, subst, [], ◌∷◌, Option, Some, arith}
 use Rattle.std.specs.Prelude.{slice_get, map}
 use Rattle.std.proofs.lemmas.Bool.{true≢false}
 use Rattle.tx_code.specs.declared.instr.Instr.TheVariants.{Push, Dup, Pop, Swap, Over, FrameAddr, Store, Bin, Jump, JumpZero, Call, Ret}
@@ -12,9 +12,9 @@ use Rattle.symbolic_source.specs.Frames.{Destroys}
 use Rattle.symbolic_source.specs.Small.{IsSmall}
 use Rattle.symbolic_source.specs.Replacing.{Replacing}
 use Rattle.body_check.specs.Notes.{Note, Bounds}
-use Rattle.body_check.specs.Calls.{Book, by_end, by_return, NoteFits, Entry, Checked, Links, Begins}
-use Rattle.body_check.specs.Pair.{number_of, named}
-use Rattle.body_check.specs.Destroyed.{array_func, own_func, func_of, array_program, array_body, own_body_code, body_of, lets_none_out, gives_word, word_count, array_names, behind_array, left, all_done, main_notes, own_notes, notes_of, array_table, array_book, main_note_0, main_note_1, main_note_2, main_note_3, main_note_4, main_note_5, main_note_6, main_note_7, main_note_8, main_note_9, main_note_10, main_note_11, main_note_12, main_note_13, main_note_14, main_note_15, main_note_16, own_note_0, own_note_1, own_note_2, own_note_3}
+use Rattle.body_check.specs.Calls.{by_end, by_return, NoteFits, Checked, Links, Begins}
+use Rattle.body_check.specs.Pair.{number_of}
+use Rattle.body_check.specs.Destroyed.{array_func, own_func, func_of, array_program, array_body, body_of, lets_none_out, array_names, behind_array, left, main_notes, own_notes, array_book, main_note_0, main_note_1, main_note_2, main_note_3, main_note_4, main_note_5, main_note_6, main_note_7, main_note_8, main_note_9, main_note_10, main_note_11, main_note_12, main_note_13, main_note_14, main_note_15, main_note_16, own_note_0, own_note_1, own_note_2, own_note_3}
 use Rattle.body_check.proofs.Main.{cancels_same}
 use Rattle.body_check.proofs.Pair.{called_right, small_function}
 use Rattle.body_check.proofs.Landing.{equally}

@@ -1,6 +1,6 @@
 -- The notes of the worked program with a call by an address fit.
 use Rattle.cpp_tree.specs.cpp_types.Typ.{typ, void}
-use Rattle.std.proofs.Common.{ℕ, zero, suc, ◌≡◌, ◌^◌, ◌<◌, inl, Bool, true, false, refl, ap, sym, ◌∙◌, subst, [], ◌∷◌, Option, Some, arith, ◌==◌, cond, None}
+use Rattle.std.proofs.Common.{ℕ, zero, suc, ◌≡◌, inl, Bool, true, false, refl, ap, sym, ◌∙◌, subst, [], ◌∷◌, Option, Some, arith, ◌==◌, cond, None}
 use Rattle.std.specs.Prelude.{slice_get, map}
 use Rattle.tx_code.specs.Renaming.{itself, renamed_row}
 use Rattle.tx_code.specs.declared.instr.Instr.TheVariants.{Push, FuncAddr, CallIndirect, Ret}
@@ -13,10 +13,10 @@ use Rattle.body_check.proofs.Landing.{equally}
 use Rattle.body_check.specs.Notes.{Note, Bounds, no_answers}
 use Rattle.body_check.proofs.Main.{cancels_same}
 use Rattle.body_check.proofs.Pair.{called_right, small_function}
-use Rattle.body_check.specs.Pair.{one_func, number_of, named, one_body}
+use Rattle.body_check.specs.Pair.{one_func, number_of, one_body}
 use Rattle.symbolic_source.specs.Frames.{pointer}
 use Rattle.body_check.specs.Calls.{by_return, NoteFits, Checked, Links, Begins, by_pointer, Whole}
-use Rattle.body_check.specs.Pointed.{pointing_func, func_of, body_of, pointing_body, pointed_program, pointed_names, behind_call, call_note, back_note, push_note, ret_note, pointed_book, one_signature, at_address, address_note}
+use Rattle.body_check.specs.Pointed.{pointing_func, func_of, body_of, pointing_body, pointed_program, pointed_names, behind_call, call_note, back_note, push_note, ret_note, pointed_book, one_signature, address_note}
 
 pub bounds : Bounds
 bounds = record { half = 8; longest = 16; both = omega arith; most = 1 }

@@ -27,7 +27,7 @@ use Rattle.tx_code.specs.Objects.{BodyView}
 use Rattle.tx_code.specs.Meaning.{Names, Home, Frame, Runs, Unwinds, Act, first_frame, leave_act, rows_in, step_act, thread, starts}
 use Rattle.tx_code.specs.Meaning as code
 use Rattle.tx_code.specs.Renaming.{renamed, renamed_row}
-use Rattle.cpp_tree.specs.cpp_types.Typ.{Typ, Signature, typ, void}
+use Rattle.cpp_tree.specs.cpp_types.Typ.{Typ, Signature}
 use Rattle.src_mean.specs.Linked.{Program}
 use Rattle.src_mean.specs.Frames.{State}
 use Rattle.src_mean.specs.Frames as frames

@@ -242,7 +242,8 @@ module _ (p : Program) (names : Names) (b : Bounds) (book : Book) (id : ℕ) (li
     based = based;
     index = index;
     place = q;
-    form = e; type = type;
+    form = e;
+    type = type;
     outcome = o;
     frame = refl;
     is = refl;

@@ -1,5 +1,5 @@
 -- A whole program with a loop over an array: `struct E { ~E() { } }; int main() { E e[3]; return 0; }`, with its code and its notes. One note at each index of the loop serves all rounds.
-use Rattle.std.specs.Prelude.{ℕ, zero, suc, ◌==◌, Bool, true, false, List, [], ◌∷◌, Option, Some, None}
+use Rattle.std.specs.Prelude.{ℕ, zero, suc, ◌==◌, Bool, true, false, List, [], ◌∷◌, Some, None}
 use Rattle.tx_ints.specs.declared.kinds.IntKind.TheVariants.{Int, ULong}
 use Rattle.tx_code.specs.declared.instr.Instr.TheVariants.{Push, Dup, Pop, Swap, Over, FrameAddr, Store, Bin, Jump, JumpZero, Call, Ret}
 use Rattle.tx_code.specs.Objects.{BodyView}
@@ -8,7 +8,7 @@ use Rattle.tx_code.specs.Meaning.{Names}
 use Rattle.cpp_tree.specs.cpp_types.Typ.{int}
 use Rattle.cpp_tree.specs.cpp_layout.Layout.{function_address}
 use Rattle.cpp_tree.specs.declared.kinds.TKind.TheVariants.{Literal, Local, Block, Return, Defer, Destroy}
-use Rattle.cpp_tree.specs.Trees.{Tree, none}
+use Rattle.cpp_tree.specs.Trees.{none}
 use Rattle.cpp_tree.specs.Notation.{plain, effect, prvalue, lvalue}
 use Rattle.src_mean.specs.Linked.{Func, Program}
 use Rattle.src_mean.specs.Source.{empty_stack}

@@ -1,7 +1,7 @@
 -- A whole program with a call by an address: `int one() { return 1; } int main() { return (*&one)(); }`, with its code and its notes.
 use Rattle.std.specs.Prelude.{ℕ, zero, suc, ◌==◌, cond, true, false, List, [], ◌∷◌, Option, Some, None}
 use Rattle.tx_ints.specs.declared.kinds.IntKind.TheVariants.{Int}
-use Rattle.tx_code.specs.declared.instr.Instr.TheVariants.{Push, FuncAddr, CallIndirect, Ret}
+use Rattle.tx_code.specs.declared.instr.Instr.TheVariants.{FuncAddr, CallIndirect, Ret}
 use Rattle.tx_code.specs.Objects.{BodyView}
 use Rattle.tx_code.specs.Renaming.{itself}
 use Rattle.tx_code.specs.Meaning.{Names}
