@@ -10,3 +10,4 @@ pub mod Caught
 pub mod Cases
 pub mod Destroyed
 pub mod Pointed
+pub mod Virtual

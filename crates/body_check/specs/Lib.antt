@@ -9,3 +9,4 @@ pub mod Caught
 pub mod Cases
 pub mod Destroyed
 pub mod Pointed
+pub mod Virtual

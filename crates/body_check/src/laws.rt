@@ -24,6 +24,7 @@ ghost use Rattle.body_check.specs.Main.{main_program, main_names};
 ghost use Rattle.body_check.specs.Caught.{catch_program, catch_names};
 ghost use Rattle.body_check.specs.Destroyed.{array_program, array_names};
 ghost use Rattle.body_check.specs.Pointed.{pointed_program, pointed_names};
+ghost use Rattle.body_check.specs.Virtual.{virtual_program, virtual_names};
 ghost use Rattle.body_check.specs.Pair.{pair_program, pair_names};
 ghost use Rattle.body_check.specs.Worked.{sum_func, sum_code, sum_run, outcome_at, operands_at};
 
@@ -80,6 +81,11 @@ pub fn worked_destruction()
 /// So is `int one() { return 1; } int main() { return (*&one)(); }`, with a call by an address.
 pub fn worked_pointer()
     ensures { SameEvents (source pointed_program) (thread pointed_names) (main_state pointed_program) (starts pointed_names 0 0 []) }
+{}
+
+/// So is a main that calls the function in a slot of its object's class.
+pub fn worked_slot()
+    ensures { SameEvents (source virtual_program) (thread virtual_names) (main_state virtual_program) (starts virtual_names 0 0 []) }
 {}
 
 /// `int f(int a) { return a + 1; }`: the source goes along with the code up to its last instruction, where the word on
