@@ -1,5 +1,5 @@
 -- The notes of the worked program with a virtual call fit.
-use Rattle.std.proofs.Common.{ℕ, zero, suc, ◌≡◌, ◌+◌, ◌*◌, ◌^◌, ◌<◌, ◌≤◌, ◌==◌, cond, inl, inr, Bool, true, false, refl, ap, sym, ◌∙◌, subst, List, [], ◌∷◌, Option, Some, None, arith}
+use Rattle.std.proofs.Common.{ℕ, zero, suc, ◌≡◌, ◌^◌, ◌<◌, ◌==◌, cond, inl, inr, Bool, true, false, refl, ap, sym, ◌∙◌, subst, [], ◌∷◌, Option, Some, None, arith}
 use Rattle.std.specs.Prelude.{slice_get, map}
 use Rattle.tx_code.specs.declared.instr.Instr.TheVariants.{Push, Dup, Swap, FrameAddr, Load, Store, Slot, CallIndirect, Ret}
 use Rattle.tx_code.specs.Objects.{BodyView}
@@ -11,8 +11,8 @@ use Rattle.symbolic_source.specs.Frames.{virtual}
 use Rattle.symbolic_source.specs.Small.{IsSmall}
 use Rattle.symbolic_source.specs.Replacing.{Replacing}
 use Rattle.body_check.specs.Notes.{Note, Bounds, no_answers}
-use Rattle.body_check.specs.Calls.{Book, by_return, by_slot, NoteFits, Entry, Checked, Whole, Links, Begins}
-use Rattle.body_check.specs.Virtual.{in_slot, at_address, told_func, told_body, word_count, asking_func, func_of, virtual_program, asking_body, body_of, virtual_names, behind_call, found_function, asking_notes, told_notes, virtual_book, asking_note_0, asking_note_1, asking_note_2, asking_note_3, asking_note_4, asking_note_5, asking_note_6, told_note_0, told_note_1, told_note_2, told_note_3, told_note_4}
+use Rattle.body_check.specs.Calls.{by_return, by_slot, NoteFits, Checked, Whole, Links, Begins}
+use Rattle.body_check.specs.Virtual.{at_address, told_func, told_body, asking_func, func_of, virtual_program, asking_body, body_of, virtual_names, behind_call, found_function, asking_notes, told_notes, virtual_book, asking_note_0, asking_note_1, asking_note_2, asking_note_3, asking_note_4, asking_note_5, asking_note_6, told_note_0, told_note_1, told_note_2, told_note_3, told_note_4}
 use Rattle.body_check.proofs.Main.{cancels_same}
 use Rattle.body_check.proofs.Pair.{small_function}
 use Rattle.body_check.proofs.Landing.{equally}
