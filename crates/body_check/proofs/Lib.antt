@@ -1,0 +1,13 @@
+pub mod Landing
+pub mod Flight
+pub mod AtNote
+pub mod Calls
+pub mod Threads
+pub mod Program
+pub mod Main
+pub mod Pair
+pub mod Caught
+pub mod Cases
+pub mod Destroyed
+pub mod Pointed
+pub mod Virtual

@@ -1,0 +1,12 @@
+pub mod Notes
+pub mod Linked
+pub mod Calls
+pub mod Threads
+pub mod Worked
+pub mod Main
+pub mod Pair
+pub mod Caught
+pub mod Cases
+pub mod Destroyed
+pub mod Pointed
+pub mod Virtual

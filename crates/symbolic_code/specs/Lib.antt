@@ -1,0 +1,4 @@
+pub mod Same
+pub mod Facts
+pub mod Places
+pub mod Following

@@ -1,0 +1,4 @@
+//! The source thread with terms in the place of words: what a function does next, whatever its words are.
+#![tactic(auto)]
+
+pub mod laws;
