@@ -1,3 +1,4 @@
 pub mod Texts
 mod Meant
 mod OneProgram
+mod OneVerdict

@@ -46,10 +46,13 @@ abbrev value_or : TypedProgram → Result TypedProgram ElabFault → TypedProgra
 value_or d (Ok a) = a
 value_or d (Err e) = d
 
+pub one_typed : (texts : List (List ℕ)) (us : List UnitRecord) (p q : TypedProgram) → AreRead 0 texts us → HasProgram texts p → HasProgram texts q → p ≡ q
+one_typed texts us p q read a b =
+    let same : a.sources ≡ b.sources = one_sources 0 texts us a.sources b.sources read a.are b.are in
+    ap (value_or p) (sym (subst (λ (xs : List Source). program_of xs ≡ Ok p) same a.is) ∙ b.is)
+
 pub one_program : (texts : List (List ℕ)) (p q : Program) → Accepts texts p → Accepts texts q → shown p ≡ shown q
-one_program texts p q a b =
-    let same : a.elaborated.sources ≡ b.elaborated.sources = one_sources 0 texts a.units a.elaborated.sources b.elaborated.sources a.read a.elaborated.are b.elaborated.are in
-    ap (value_or (shown p)) (sym (subst (λ (xs : List Source). program_of xs ≡ Ok (shown p)) same a.elaborated.is) ∙ b.elaborated.is)
+one_program texts p q a b = one_typed texts a.units (shown p) (shown q) a.read a.elaborated b.elaborated
 
 -- a fault of the first of some steps stays where more follow
 still_faulty : (r : Result State ElabFault) (f g : State → Result TypedProgram ElabFault) (e : ElabFault) → ((st : State) → f st ≡ Err e → g st ≡ Err e) → and_then r f ≡ Err e → and_then r g ≡ Err e

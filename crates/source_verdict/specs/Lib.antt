@@ -3,3 +3,4 @@ pub mod Places
 pub mod Names
 pub mod Verdict
 pub mod Elaborated
+pub mod Nested
