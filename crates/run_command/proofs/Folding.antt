@@ -1,15 +1,15 @@
 -- A run of the folded program is one of the program.
-use Rattle.std.proofs.Common.{◌≡◌, ◌≤◌, ◌+◌, ◌*◌, ◌/◌, ◌∙◌, ℕ, Bool, true, false, List, Option, Some, None, refl, sym, ap, subst, arith}
-use Rattle.cpp_tree.specs.Units.{TypedProgram, program_of}
+use Rattle.std.proofs.Common.{◌≡◌, ◌+◌, ◌*◌, ◌/◌, ◌∙◌, ℕ, Bool, true, false, List, Option, Some, None, refl, ap, subst, arith}
+use Rattle.cpp_tree.specs.Units.{program_of}
 use Rattle.cpp_tree.specs.WellFormed.{WellFormed}
 use Rattle.cpp_tree.specs.declared.program.Program.{Program}
 use Rattle.cpp_tree.specs.tx_events.declared.End.{End}
 use Rattle.cpp_tree.specs.tx_events.declared.TheConstants.{THREAD_LIMIT}
 use Rattle.cpp_tree.specs.tx_events.Memory.{MemoryLayout, no_bytes, with_cells}
 use Rattle.cpp_tree.specs.tx_events.Same.{with_threads}
-use Rattle.fold_events.specs.Keeping.{Keeps, Replayed, IsReplay}
+use Rattle.fold_events.specs.Keeping.{Keeps, IsReplay}
 use Rattle.run_command.specs.Runs.{IsCompiled}
-use Rattle.source_runs.specs.Sources.{RunsTo, IsSourceRun, OfSource, OfLinked, IsOfLinked, IsOfSource}
+use Rattle.source_runs.specs.Sources.{RunsTo, OfSource, OfLinked, IsOfLinked, IsOfSource}
 use Rattle.src_bind.specs.Tables.{Given, typed, linked_of}
 use Rattle.src_bind.specs.declared.choices.Choices.{Choices}
 use Rattle.src_link.specs.Slots.{AreChoices}

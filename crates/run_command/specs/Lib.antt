@@ -14,3 +14,4 @@ pub use Rattle.tx_words.specs as tx_words
 pub use Rattle.unit_objects.specs as unit_objects
 pub mod Runs
 pub mod Commands
+pub mod Completes

@@ -4,7 +4,7 @@ use Rattle.std.specs.Prelude.{Result}
 use Rattle.std.proofs.lemmas.Bool.{false≢true}
 use Rattle.cpp_ast.specs.declared.units.Unit.{Unit as UnitRecord}
 use Rattle.cpp_ast.specs.Trees.{Trees}
-use Rattle.cpp_lex.specs.Tokens.{Lexeme, IsTokens}
+use Rattle.cpp_lex.specs.Tokens.{Lexeme}
 use Rattle.cpp_lex.proofs.Laws.{one_tokens}
 use Rattle.cpp_syntax.specs.Classes.{source_of}
 use Rattle.cpp_syntax.specs.Lookahead.{IsUnit}

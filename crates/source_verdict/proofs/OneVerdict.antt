@@ -1,12 +1,11 @@
 -- Accepted texts are not refused, unless a token of one stands inside of more constructs than a unit may nest.
-use Rattle.std.proofs.Common.{◌≡◌, ◌<◌, ◌≤◌, ◌+◌, ◌∙◌, ℕ, suc, List, [], ◌∷◌, ◌++◌, length, Bool, true, false, Option, Some, None, is_some, sym, ap, subst, refl, arith}
-use Rattle.std.specs.Prelude.{slice_get}
+use Rattle.std.proofs.Common.{◌≡◌, ◌<◌, ◌≤◌, ◌+◌, ◌∙◌, ℕ, suc, List, [], ◌∷◌, ◌++◌, length, Option, None, is_some, sym, ap, subst, arith}
 use Rattle.std.proofs.lemmas.Bool.{false≢true}
 use Rattle.cpp_ast.specs.declared.units.Unit.{Unit as UnitRecord}
 use Rattle.cpp_ast.specs.Trees.{Trees, unit_depth}
 use Rattle.cpp_lex.specs.Tokens.{Lexeme, IsTokens}
 use Rattle.cpp_lex.proofs.Laws.{one_tokens, fault_has_no_tokens}
-use Rattle.cpp_parse.specs.Units.{IsNoUnit, NestsTooDeep, in_its_tree, by_its_tokens, deepest_allowed}
+use Rattle.cpp_parse.specs.Units.{NestsTooDeep, in_its_tree, by_its_tokens, deepest_allowed}
 use Rattle.cpp_syntax.specs.Classes.{source_of}
 use Rattle.cpp_syntax.specs.Lookahead.{IsUnit}
 use Rattle.cpp_tree.specs.Units.{TypedProgram, program_of as shown}
@@ -16,14 +15,14 @@ use Rattle.cpp_tree.specs.declared.faults.UnsafeReason.{UnsafeReason}
 use Rattle.command_io.specs.Writes.{Written}
 use Rattle.tx_answers.specs.declared.answer.Answer.{Answer}
 use Rattle.std.specs.Prelude.{fold}
-use Rattle.tx_unsafe.specs.First.{sooner, Finding}
-use Rattle.tx_safety.specs.Safe.{IsSafe, FirstUnsafe, first_unsafe, program_findings}
+use Rattle.tx_unsafe.specs.First.{sooner}
+use Rattle.tx_unsafe.specs.declared.finding.Finding.{Finding}
+use Rattle.tx_safety.specs.Safe.{IsSafe, FirstUnsafe, first_unsafe}
 use Rattle.source_verdict.specs.declared.front.FrontFault.{FrontFault}
 use Rattle.source_verdict.specs.declared.front.FrontFault.TheVariants.{Lex, Syntax, Nesting, Memory}
-use Rattle.source_verdict.specs.Front.{IsRead, AreRead, IsNotRead, IsFirstUnread}
-use Rattle.source_verdict.specs.Elaborated.{HasProgram}
+use Rattle.source_verdict.specs.Front.{IsRead, AreRead, IsNotRead}
 use Rattle.source_verdict.specs.Verdict.{Accepts, RefusesFront, RefusesTexts, unread, faulty, unsafe_part}
-use Rattle.source_verdict.specs.Nested.{IsNestedText}
+use Rattle.source_verdict.specs.Nested.{IsNestedText, HasNested}
 use Rattle.source_verdict.proofs.OneProgram.{one_typed, not_faulty}
 
 -- the unit that was read from a text
@@ -60,16 +59,12 @@ none_first p safe = ap (λ (fs : List Finding). fold sooner None fs) safe
 safe_has_none : (p : TypedProgram) (at : At) (reason : UnsafeReason) → IsSafe p → FirstUnsafe p at reason → ⊥
 safe_has_none p at reason safe first = false≢true (ap (λ (f : Option Finding). is_some f) (sym (none_first p safe) ∙ first))
 
--- one of the texts is nested so
-pub record HasNested (texts : List (List ℕ)) : Type 0 where
-  pub text : List ℕ
-  pub nested : IsNestedText text
-
 pub only_nested : (names texts : List (List ℕ)) (p : Program) (a : Answer) (writes : List Written) → Accepts texts p → RefusesTexts names texts a writes → HasNested texts
 only_nested names texts p a writes accepted (unread u is refuses) =
     let all : AreRead 0 (is.before ++ is.text ∷ is.after) accepted.units = subst (λ (ts : List (List ℕ)). AreRead 0 ts accepted.units) is.cut accepted.read in
-    let r : ReadAt u.index is.text = subst (λ (i : ℕ). ReadAt i is.text) (sym is.index_is) (read_at 0 is.before is.text is.after accepted.units all) in
-    record { text = is.text; nested = not_unread names texts u.index is.text u.fault a writes r is.unread refuses }
+    let index : 0 + length is.before ≡ u.index = omega (arith, is.index_is) in
+    let r : ReadAt u.index is.text = subst (λ (i : ℕ). ReadAt i is.text) index (read_at 0 is.before is.text is.after accepted.units all) in
+    record { before = is.before; text = is.text; after = is.after; cut = is.cut; nested = not_unread names texts u.index is.text u.fault a writes r is.unread refuses }
 only_nested names texts p a writes accepted (faulty units fault read has refuses) = absurd (not_faulty names texts p fault a writes accepted has refuses)
 only_nested names texts p a writes accepted (unsafe_part units q at reason read has first refuses) =
     absurd (safe_has_none (shown q) at reason (subst (λ (t : TypedProgram). IsSafe t) (one_typed texts accepted.units (shown p) (shown q) accepted.read accepted.elaborated has) accepted.safe) first)

@@ -1,5 +1,5 @@
 -- Lines and columns of a text.
-use Rattle.std.specs.Prelude.{ℕ, suc, ◌+◌, ◌==◌, List, [], ◌∷◌, ◌++◌, take, if◌then◌else◌, codes}
+use Rattle.std.specs.Prelude.{ℕ, suc, ◌==◌, List, [], ◌∷◌, ◌++◌, take, if◌then◌else◌, codes}
 use Rattle.std.specs.Fmt.{decimal}
 
 -- how many lines end among the bytes

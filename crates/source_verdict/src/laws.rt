@@ -4,7 +4,8 @@ ghost use Rattle.cpp_tree.specs.declared.program.Program.{Program};
 ghost use Rattle.cpp_tree.specs.Units.{SlotFunc, program_of};
 ghost use Rattle.safe_blocks.specs.UnsafeFree.{safely_linked, LinksSafely, HidesBlocks, EntersSafe};
 ghost use Rattle.source_verdict.specs.Elaborated.{HasFault};
-ghost use Rattle.source_verdict.specs.Verdict.{Accepts, RefusesFault};
+ghost use Rattle.source_verdict.specs.Nested.{HasNested};
+ghost use Rattle.source_verdict.specs.Verdict.{Accepts, RefusesFault, RefusesTexts};
 ghost use Rattle.command_io.specs.Writes.{Written};
 ghost use Rattle.tx_answers.specs.declared.answer.Answer.{Answer};
 ghost use Rattle.cpp_tree.specs.declared.faults.ElabFault.{ElabFault};
@@ -21,4 +22,10 @@ pub fn accepted_is_unsafe_free()
 pub fn one_program()
     ensures one { (texts : List (List ℕ)) (p q : Program) → Accepts texts p → Accepts texts q → program_of p ≡ program_of q }
     ensures well { (names texts : List (List ℕ)) (p : Program) (e : ElabFault) (a : Answer) (writes : List Written) → Accepts texts p → HasFault texts e → RefusesFault names texts e a writes → ⊥ }
+{}
+
+/// Texts are not both accepted and refused, unless a token of one stands inside of more constructs than a unit may nest:
+/// a parser that has no room left answers that whether or not the text is a unit.
+pub fn one_verdict()
+    ensures { (names texts : List (List ℕ)) (p : Program) (a : Answer) (writes : List Written) → Accepts texts p → RefusesTexts names texts a writes → HasNested texts }
 {}
