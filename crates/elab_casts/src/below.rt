@@ -17,7 +17,7 @@ pub use elab_forms::below::Entity;
 pub use elab_forms::below::EntityKind;
 pub use elab_forms::below::EnumRec;
 pub use elab_forms::below::Env;
-pub use elab_forms::below::FuncDecl;
+pub use elab_forms::below::{FuncDecl, Functions};
 pub use elab_forms::below::FuncKind;
 pub use elab_forms::below::IllRule;
 pub use elab_forms::below::InitCell;

@@ -28,7 +28,7 @@ pub use elab_stmt::below::ElabFault;
 pub use elab_stmt::below::Entity;
 pub use elab_stmt::below::EntityKind;
 pub use elab_stmt::below::Env;
-pub use elab_stmt::below::FuncDecl;
+pub use elab_stmt::below::{FuncDecl, Functions};
 pub use elab_stmt::below::FuncKind;
 pub use elab_stmt::below::IllRule;
 pub use elab_stmt::below::IntKind;

@@ -16,7 +16,7 @@ pub use elab_rows::below::Entity;
 pub use elab_rows::below::EntityKind;
 pub use elab_rows::below::EnumRec;
 pub use elab_rows::below::Env;
-pub use elab_rows::below::FuncDecl;
+pub use elab_rows::below::{FuncDecl, Functions};
 pub use elab_rows::below::FuncKind;
 pub use elab_rows::below::IllRule;
 pub use elab_rows::below::InitCell;

@@ -17,7 +17,7 @@ pub use elab_make::below::Entity;
 pub use elab_make::below::EntityKind;
 pub use elab_make::below::EnumRec;
 pub use elab_make::below::Env;
-pub use elab_make::below::FuncDecl;
+pub use elab_make::below::{FuncDecl, Functions};
 pub use elab_make::below::FuncKind;
 pub use elab_make::below::IllRule;
 pub use elab_make::below::InitCell;

@@ -29,7 +29,7 @@ pub use elab_scopes::below::ElabFault;
 pub use elab_scopes::below::Entity;
 pub use elab_scopes::below::EntityKind;
 pub use elab_scopes::below::Env;
-pub use elab_scopes::below::FuncDecl;
+pub use elab_scopes::below::{FuncDecl, Functions};
 pub use elab_scopes::below::FuncKind;
 pub use elab_scopes::below::IllRule;
 pub use elab_scopes::below::IntKind;

@@ -20,7 +20,7 @@ pub use elab_init::below::Entity;
 pub use elab_init::below::EntityKind;
 pub use elab_init::below::EnumRec;
 pub use elab_init::below::Env;
-pub use elab_init::below::FuncDecl;
+pub use elab_init::below::{FuncDecl, Functions};
 pub use elab_init::below::FuncKind;
 pub use elab_init::below::IllRule;
 pub use elab_init::below::InitCell;

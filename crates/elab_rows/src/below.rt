@@ -15,7 +15,7 @@ pub use elab_casts::below::Entity;
 pub use elab_casts::below::EntityKind;
 pub use elab_casts::below::EnumRec;
 pub use elab_casts::below::Env;
-pub use elab_casts::below::FuncDecl;
+pub use elab_casts::below::{FuncDecl, Functions};
 pub use elab_casts::below::FuncKind;
 pub use elab_casts::below::IllRule;
 pub use elab_casts::below::InitCell;

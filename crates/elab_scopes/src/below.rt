@@ -13,7 +13,7 @@ pub use elab_expr::below::ElabFault;
 pub use elab_expr::below::Entity;
 pub use elab_expr::below::EntityKind;
 pub use elab_expr::below::Env;
-pub use elab_expr::below::FuncDecl;
+pub use elab_expr::below::{FuncDecl, Functions};
 pub use elab_expr::below::FuncKind;
 pub use elab_expr::below::IllRule;
 pub use elab_expr::below::IntKind;

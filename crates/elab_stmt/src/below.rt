@@ -11,7 +11,7 @@ pub use elab_locals::below::ElabFault;
 pub use elab_locals::below::Entity;
 pub use elab_locals::below::EntityKind;
 pub use elab_locals::below::Env;
-pub use elab_locals::below::FuncDecl;
+pub use elab_locals::below::{FuncDecl, Functions};
 pub use elab_locals::below::FuncKind;
 pub use elab_locals::below::IllRule;
 pub use elab_locals::below::IntKind;
