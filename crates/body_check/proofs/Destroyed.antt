@@ -187,10 +187,9 @@ array_links = record {
   checked = λ n safe body e. array_checked n safe;
   names = λ n safe. record { globals = λ s m e. absurd cc; functions = λ s m e. ap function_address (called_right s m e); classes = λ s m e. absurd cc; types = λ s t e. absurd cc; addresses = λ n. refl; slots = λ s class e a slot. absurd cc; spawned = λ a. refl; signatures = λ s sig e a. absurd cc; methods = λ s class slot a n e. absurd cc };
   called = λ n safe name callee e. called_right name callee e;
-  plain_there = λ n safe index name count callee i e. (body_of (number_of callee), refl);
-  safe_there = λ n safe index name count callee i e. (body_of (number_of callee), refl);
-  pointed = λ a n sig e. absurd cc;
-  slotted = λ a class slot n e. absurd cc;
+  plain_there = λ n safe name callee e. (body_of (number_of callee), refl);
+  pointed = λ a n sig count gives t e. absurd cc;
+  slotted = λ a class slot n count gives t e. absurd cc;
   safe_bodies = λ n. all_safe n;
 }
   where

@@ -81,10 +81,9 @@ main_links = record {
   checked = λ n safe body e. main_checked n safe;
   names = λ n safe. record { globals = λ s m e. absurd cc; functions = λ s m e. absurd cc; classes = λ s m e. absurd cc; types = λ s t e. absurd cc; addresses = λ n. refl; slots = λ s class e a slot. absurd cc; spawned = λ a. refl; signatures = λ s sig e a. absurd cc; methods = λ s class slot a n e. absurd cc };
   called = λ n safe name callee e. absurd cc;
-  plain_there = λ n safe index name count callee i e. absurd cc;
-  safe_there = λ n safe index name count callee i e. absurd cc;
-  pointed = λ a n sig e. absurd cc;
-  slotted = λ a class slot n e. absurd cc;
+  plain_there = λ n safe name callee e. absurd cc;
+  pointed = λ a n sig count gives t e. absurd cc;
+  slotted = λ a class slot n count gives t e. absurd cc;
   safe_bodies = λ n. refl;
 }
 

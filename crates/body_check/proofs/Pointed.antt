@@ -1,7 +1,8 @@
 -- The notes of the worked program with a call by an address fit.
+use Rattle.std.proofs.lemmas.Bool.{and_parts, eqb-true}
 use Rattle.cpp_tree.specs.cpp_types.Typ.{typ, void}
 use Rattle.std.proofs.Common.{ℕ, zero, suc, ◌≡◌, inl, Bool, true, false, refl, ap, sym, ◌∙◌, subst, [], ◌∷◌, Option, Some, arith, ◌==◌, cond, None}
-use Rattle.std.specs.Prelude.{slice_get, map}
+use Rattle.std.specs.Prelude.{◌&&◌, slice_get, map}
 use Rattle.tx_code.specs.Renaming.{itself, renamed_row}
 use Rattle.tx_code.specs.declared.instr.Instr.TheVariants.{Push, FuncAddr, CallIndirect, Ret}
 use Rattle.tx_code.specs.Objects.{BodyView}
@@ -55,7 +56,7 @@ call_fits safe = record {
     address = function 1;
     callee = pointer (function 1) one_signature;
     gives = true;
-    found = by_pointer (function 1) one_signature refl;
+    found = by_pointer (function 1) one_signature refl refl;
     words = [];
     under = [];
     temporaries = [];
@@ -74,7 +75,7 @@ call_fits safe = record {
         fits = λ t is may. record {
           answers = no_answers;
           right = λ n handler answer e. absurd cc;
-          found = record { lag = 3; temporaries = []; is = refl; some = omega arith; short = omega arith };
+          found = record { lag = 2; temporaries = []; is = refl; short = omega arith };
         };
       };
       opens = refl;
@@ -135,6 +136,11 @@ found_whole true n e =
     subst (λ z. Whole pointed_names pointed_book z 0 true) same_number (record { body = one_body; there = refl; takes = refl; gives_so = refl })
 found_whole false n e = absurd cc
 
+takes_none : (n count : ℕ) (gives : Bool) → ((count == 0) && gives) ≡ true → Whole pointed_names pointed_book n 0 true → Whole pointed_names pointed_book n count gives
+takes_none n count gives e w =
+    let both = and_parts (count == 0) gives e in
+    subst (λ z. Whole pointed_names pointed_book n count z) (sym both.1) (subst (λ z. Whole pointed_names pointed_book n z true) (sym (eqb-true count 0 both.0)) w)
+
 body_there : (n : ℕ) (body : BodyView) → ◌≡◌ {A = Option BodyView} (Some (body_of n)) (Some body) → body_of n ≡ body
 body_there n body e = cc
 
@@ -153,10 +159,9 @@ pointed_links = record {
   checked = λ n safe body e. pointed_checked n safe;
   names = λ n safe. record { globals = λ s m e. absurd cc; functions = λ s m e. ap function_address (called_right s m e); classes = λ s m e. absurd cc; types = λ s t e. absurd cc; addresses = λ n. refl; slots = λ s class e a slot. absurd cc; spawned = λ a. refl; signatures = λ s sig e a. refl; methods = λ s class slot a n e. absurd cc };
   called = λ n safe name callee e. called_right name callee e;
-  plain_there = λ n safe index name count callee i e. (body_of (number_of callee), refl);
-  safe_there = λ n safe index name count callee i e. (body_of (number_of callee), refl);
-  pointed = λ a n sig e. found_whole (a == function_address 1) n e;
-  slotted = λ a class slot n e. absurd cc;
+  plain_there = λ n safe name callee e. (body_of (number_of callee), refl);
+  pointed = λ a n sig count gives t e. takes_none n count gives t (found_whole (a == function_address 1) n e);
+  slotted = λ a class slot n count gives t e. absurd cc;
   safe_bodies = λ n. all_safe n;
 }
   where

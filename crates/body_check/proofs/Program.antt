@@ -205,25 +205,25 @@ module _ (p : Program) (names : Names) (b : Bounds) (book : Book) (id : ℕ) (li
     abbrev calls_found : Bool → Option ℕ → List Term → List Term → Act
     calls_found into o words under = code.if_some o (code.traps BadCall) (λ m. code.checked_act names m (code.in_transaction frame fs) (code.entered_act names m into (words_of p h.func x words) (under_frame under) fs))
 
-    pointer_at : (into : Bool) (count : ℕ) (gives : Bool) (a : ℕ) (sig : Signature) → count ≡ book.takes_as sig → gives ≡ book.gives_as sig → (words under : List Term) (ws : List Waiting) (k : List Form) → count_of words ≡ count
+    pointer_at : (into : Bool) (count : ℕ) (gives : Bool) (a : ℕ) (sig : Signature) → book.takes_as sig count gives ≡ true → (words under : List Term) (ws : List Waiting) (k : List Form) → count_of words ≡ count
         → Behind p b book gives false h note.facts note.index note.place under ws k → (into ≡ true → no_atomic (note.place.opens ++ code.blocks_in fs) ≡ false) → (t : State) → Path (source p) note.lead s t → note.lead + 1 ≤ b.half
         → (o : Option ℕ) → p.pointed a sig ≡ o → t ≡ enter_pointed p (here_of p h.func x ws) (words_of p h.func x words) o (below p h.func x k r.rest) → step_act names (Runs frame fs) ≡ calls_found into o words under → Makes rank s (Runs frame fs)
-    pointer_at into count gives a sig i j words under ws k counts behind cover t path short None is g e =
+    pointer_at into count gives a sig takes words under ws k counts behind cover t path short None is g e =
         leads (room short) path (stop_meets p names b (Together p names b book id) (λ s c y. stopped y) (Trapped BadCall) t (Runs frame fs) (record { here = here_of p h.func x ws; others = below p h.func x k r.rest; is = g }) e)
-    pointer_at into count gives a sig i j words under ws k counts behind cover t path short (Some m) is g e =
-        found_at into m (book.takes_as sig) (book.gives_as sig) (links.pointed a m sig is) words under ws k (counts ∙ i) (subst (λ z. Behind p b book z false h note.facts note.index note.place under ws k) j behind) cover t path short g e
+    pointer_at into count gives a sig takes words under ws k counts behind cover t path short (Some m) is g e =
+        found_at into m count gives (links.pointed a m sig count gives takes is) words under ws k counts behind cover t path short g e
 
     found_call : (into : Bool) (name count : ℕ) (address : Term) (callee : Callee) (gives : Bool) → Found p b book h note.facts name address callee count gives → (words under : List Term) (ws : List Waiting) (k : List Form) → count_of words ≡ count
         → Behind p b book gives false h note.facts note.index note.place under ws k → (into ≡ true → no_atomic (note.place.opens ++ code.blocks_in fs) ≡ false) → (t : State) → Path (source p) note.lead s t → note.lead + 1 ≤ b.half
         → t ≡ invoke p (here_of p h.func x ws) (callee_of p h.func x callee) (words_of p h.func x words) (below p h.func x k r.rest)
         → step_act names (Runs frame fs) ≡ calls_found into (names.called ((names.numbering n).ty name) (eval p h.func x address)) words under → Makes rank s (Runs frame fs)
-    found_call into name count address callee gives (by_pointer a sig named) words under ws k counts behind cover t path short g e =
-        pointer_at into (book.takes_as sig) (book.gives_as sig) (eval p h.func x a) sig refl refl words under ws k counts behind cover t path short (p.pointed (eval p h.func x a) sig) refl g
+    found_call into name count address callee gives (by_pointer a sig named takes) words under ws k counts behind cover t path short g e =
+        pointer_at into count gives (eval p h.func x a) sig takes words under ws k counts behind cover t path short (p.pointed (eval p h.func x a) sig) refl g
         (e ∙ ap (λ z. calls_found into z words under) ((links.names n safe).signatures name sig named (eval p h.func x a)))
-    found_call into name count address callee gives (by_slot class slot a named among) words under ws k counts behind cover t path short g e =
+    found_call into name count address callee gives (by_slot class slot a named takes among) words under ws k counts behind cover t path short g e =
         let fact = holds_among p h.func x (has_function class slot a) note.facts among r.stands.holds in
         let m = fact.0 in
-        found_at into m (book.slot_takes class slot) (book.slot_gives class slot) (links.slotted (eval p h.func x a) class slot m fact.1) words under ws k counts behind cover t path short
+        found_at into m count gives (links.slotted (eval p h.func x a) class slot m count gives takes fact.1) words under ws k counts behind cover t path short
         (g ∙ ap (λ (z : Option ℕ). enter_found (here_of p h.func x ws) (words_of p h.func x words) (p.func (number_found z)) (below p h.func x k r.rest)) fact.1)
         (e ∙ ap (λ z. calls_found into z words under) (ap (λ (z : Option ℕ). names.called ((names.numbering n).ty name) (function_address (number_found z) % 2 ^ 64)) fact.1
         ∙ (ap (λ z. names.called ((names.numbering n).ty name) z) (mod-eq_of_lt (small.slots (eval p h.func x a) class slot m fact.1)) ∙ (links.names n safe).methods name class slot (eval p h.func x a) m named fact.1)))
@@ -264,10 +264,14 @@ module _ (p : Program) (names : Names) (b : Bounds) (book : Book) (id : ℕ) (li
     plain_move a is short foreseen fits = note_move p names numbers h b book.thrown home (limit p names b book id) r.rest fs small (Together p names b book id) stands stops flying_in current current_type is_body (links.names n safe) rank s top r.stands a is foreseen (room short)
         (subst (λ z. Fits p h.func b h.notes book.thrown numbers h.rows note.facts note.lead z (followed h.table note.facts note.index a note.place (advanced p h.func no_answers note.lead note.outcome))) r.stands.ranked fits)
 
+    some_of : (o : Option BodyView) → is_some o ≡ true → (body : BodyView) × (o ≡ Some body)
+    some_of None e = absurd cc
+    some_of (Some body) e = (body, refl)
+
     at_instr : (a : Instr) → slice_get h.body.code note.index ≡ Some a → note.lead + 1 ≤ b.half → is_stuck (advanced p h.func no_answers note.lead note.outcome) ≡ false
         → StepFits p b book h note.facts note.lead note.rank note.index a note.place (advanced p h.func no_answers note.lead note.outcome) → Makes rank s (Runs top fs)
-    at_instr (Call name k) is short foreseen fits = on_top (call_at false name k (λ i. absurd (true≢false (sym i))) short foreseen fits (links.plain_there n safe note.index name k fits.callee is fits.named) (stepped (Call name k) is))
-    at_instr (TCall name k) is short foreseen fits = on_top (call_at true name k (λ i. covers_callee fits.0) short foreseen fits.1 (links.safe_there n safe note.index name k fits.1.callee is fits.1.named) (stepped (TCall name k) is))
+    at_instr (Call name k) is short foreseen fits = on_top (call_at false name k (λ i. absurd (true≢false (sym i))) short foreseen fits (links.plain_there n safe name fits.callee fits.named) (stepped (Call name k) is))
+    at_instr (TCall name k) is short foreseen fits = on_top (call_at true name k (λ i. covers_callee fits.0) short foreseen fits.1 (some_of (names.body (p.number h.func.unit fits.1.callee) true) (sym (links.safe_bodies (p.number h.func.unit fits.1.callee)) ∙ fits.2)) (stepped (TCall name k) is))
     at_instr (CallIndirect name k) is short foreseen fits = on_top (found_call_at false name k (λ i. absurd (true≢false (sym i))) short foreseen fits (stepped (CallIndirect name k) is))
     at_instr (TCallIndirect name k) is short foreseen fits = on_top (found_call_at true name k (λ i. covers_callee fits.0) short foreseen fits.1 (stepped (TCallIndirect name k) is))
     at_instr (Ret zero) is short foreseen fits = on_top (none_at_return short foreseen (ap book.gives (sym numbered) ∙ fits.0) fits.1 (stepped (Ret zero) is))
@@ -315,7 +319,7 @@ module _ (p : Program) (names : Names) (b : Bounds) (book : Book) (id : ℕ) (li
     leaves_function answers right out i =
         let a = advance p own.func r.values answers r.rest small r.are_words right out.lag r.outcome s r.shows (ap is_stuck out.is) in
         out_move p names b book id links small own_home out.lag rank own.func r.values thrown r.type (here_of p own.func r.values out.temporaries) (book.gives n) own.func.stops s a.to (Unwinds (coded numbers thrown) frame_there fs) frame_there fs r.rest refl (links.stops n safe)
-        r.callers (subst (λ z. Path (source p) z s a.to) a.long a.path) out.some out.short (subst (λ z. Shows p own.func r.values r.rest z a.to) out.is a.shows) i
+        r.callers (subst (λ z. Path (source p) z s a.to) a.long a.path) out.short (subst (λ z. Shows p own.func r.values r.rest z a.to) out.is a.shows) i
 
     rows_are : rows_in names own_home ≡ own.rows
     rows_are = ap (λ z. map (renamed_row (names.numbering n)) (code.rows_of z)) r.there ∙ links.rows n safe r.body r.there

@@ -20,13 +20,14 @@ use Rattle.src_mean.specs.Exceptions as exceptions
 use Rattle.src_mean.specs.Source.{source as thread_of, enter, halt, leave, empty_stack}
 use Rattle.src_mean.specs.Source as source
 use Rattle.symbolic_source.specs.Terms.{Term, Exception, number, variable, unknown, Values, eval, exception_of}
-use Rattle.symbolic_source.specs.Frames.{Waiting as Kept, Frame as Form, value, throws, Passes, Then, Gives, Leaves, words_of, below, here_of}
+use Rattle.symbolic_source.specs.Frames.{Waiting as Kept, Frame as Form, value, throws, Passes, Then, Gives, words_of, below, here_of}
 use Rattle.symbolic_source.specs.Outcomes.{silent, Outcome, goes, Shows}
-use Rattle.symbolic_source.specs.Steps.{advanced}
+use Rattle.symbolic_source.specs.Steps.{left, advanced}
 use Rattle.symbolic_source.specs.Small.{IsSmall, AreWords, Advanced, is_stuck}
 use Rattle.symbolic_source.specs.Replacing.{in_terms, in_waitings, in_frames}
 use Rattle.symbolic_source.proofs.TermLemmas.{term_below}
 use Rattle.symbolic_source.proofs.Advance.{advance}
+use Rattle.symbolic_source.proofs.Shown.{left_shown}
 use Rattle.symbolic_source.proofs.Replaced.{here_replaced, frames_replaced}
 use Rattle.symbolic_code.specs.Places.{Place, coded, all_coded, frame_at, replied, later, with_operands, place_later}
 use Rattle.symbolic_code.proofs.Later.{words_later, frame_later}
@@ -347,24 +348,30 @@ module _ (p : Program) (names : Names) (b : Bounds) (book : Book) (id : ℕ) (li
 
   -- the exception comes to the caller
   caller_flies : (lag rank : ℕ) (e : exceptions.Exception) (type : book.thrown e.typ ≡ true) (s t : State) (c : code.State) (gives : Bool) (n : ℕ) (safe : Bool) (base : ℕ) (w : Waits p names b book id gives false n safe base) (fs : List Frame) (rest : List frames.Frame) (covered : Covered p names b book id safe fs)
-      → Callers p names b book id (book.gives n) (held n safe).func.stops fs rest → Path (thread_of p) lag s t → 1 ≤ lag → lag + 1 ≤ b.longest
+      → Callers p names b book id (book.gives n) (held n safe).func.stops fs rest → Path (thread_of p) lag s t → lag + 1 ≤ b.longest
       → t ≡ frames.at Silent (here_of p (held n safe).func w.values w.temporaries) (frames.Leaves (frames.throws e) ∷ below p (held n safe).func w.values w.others rest)
       → step_act names c ≡ code.goes (Unwinds (coded numbers e) (waiting_frame p names b book id gives false n safe base w) fs) → Moves rank s c
-  caller_flies lag rank e type s t c gives n safe base w fs rest covered callers path some short g i =
+  caller_flies lag rank e type s t c gives n safe base w fs rest covered callers path short g i =
       let f = (held n safe).func in
       let y : Values = record { word = w.values.word; exception = exception_first e w.values.exception; base = w.values.base; limit = w.values.limit } in
-      let shows : Shows p f y rest (goes silent (in_waitings rising w.temporaries) (Leaves (throws (unknown 0)) ∷ in_frames rising w.others)) t =
-      g ∙ ap₂ (λ a d. frames.at Silent a (frames.Leaves (frames.throws e) ∷ d)) (sym (here_replaced p f rising y rest w.temporaries)) (sym (frames_replaced p f rising y rest w.others)) in
-      both_go lag rank (w.behind.thrown refl).rank s t c (Unwinds (coded numbers e) (waiting_frame p names b book id gives false n safe base w) fs) path some (less lag short) i (w.behind.thrown refl).low
-      (subst (λ z. Pairs (w.behind.thrown refl).rank t (Unwinds (coded numbers e) z fs)) (frame_replaced p f numbers rising y (home_of id n safe base) w.index (with_operands w.place w.under))
-      (flies_in n safe base w.body w.there fs rest covered callers t y w.are_words (w.based.0, w.based.1, first_thrown e type w.values.exception w.based.2) (in_facts rising w.facts) (facts_placed p f rising y w.facts w.holds) w.index (in_place rising (with_operands w.place w.under)) (unknown 0) (goes silent (in_waitings rising w.temporaries) (Leaves (throws (unknown 0)) ∷ in_frames rising w.others)) (w.behind.thrown refl) type shows))
+      let o = left (in_waitings rising w.temporaries) (throws (unknown 0)) (in_frames rising w.others) in
+      let u = leave (here_of p f w.values w.temporaries) (frames.throws e) (below p f w.values w.others rest) in
+      let shows : Shows p f y rest (left (in_waitings rising w.temporaries) (throws (unknown 0)) (in_frames rising w.others)) u =
+      subst (λ z. Shows p f y rest o z) (ap₂ (λ a d. leave a (frames.throws e) d) (here_replaced p f rising y rest w.temporaries) (frames_replaced p f rising y rest w.others))
+      (left_shown p f y rest (in_waitings rising w.temporaries) (throws (unknown 0)) (in_frames rising w.others)) in
+      both_go (lag + 1) rank (w.behind.thrown refl).rank s u c (Unwinds (coded numbers e) (waiting_frame p names b book id gives false n safe base w) fs) (joined (thread_of p) path (subst (λ z. Path (thread_of p) 1 z u) (sym g) (step {n = 0} refl here))) (one lag) short i (w.behind.thrown refl).low
+      (subst (λ z. Pairs (w.behind.thrown refl).rank u (Unwinds (coded numbers e) z fs)) (frame_replaced p f numbers rising y (home_of id n safe base) w.index (with_operands w.place w.under))
+      (flies_in n safe base w.body w.there fs rest covered callers u y w.are_words (w.based.0, w.based.1, first_thrown e type w.values.exception w.based.2) (in_facts rising w.facts) (facts_placed p f rising y w.facts w.holds) w.index (in_place rising (with_operands w.place w.under)) (unknown 0) o (w.behind.thrown refl) type shows))
+    where
+      one : (n : ℕ) → 1 ≤ n + 1
+      one n = omega arith
 
   pub out_move : (home : Home) (lag rank : ℕ) (f : Func) (x : Values) (e : exceptions.Exception) (type : book.thrown e.typ ≡ true) (hand : frames.Here) (gives stops : Bool) (s t : State) (c : code.State) (top : Frame) (fs : List Frame) (rest : List frames.Frame) → top.home ≡ home → names.no_except home.func ≡ stops
-      → Callers p names b book id gives stops fs rest → Path (thread_of p) lag s t → 1 ≤ lag → lag + 1 ≤ b.longest → t ≡ leave hand (frames.throws e) rest
+      → Callers p names b book id gives stops fs rest → Path (thread_of p) lag s t → lag + 1 ≤ b.longest → t ≡ leave hand (frames.throws e) rest
       → step_act names c ≡ code.leave_act names (coded numbers e) top fs → Moves rank s c
-  out_move home lag rank f x e type hand gives true s t c top fs rest own stop (nobody main stopping is_main) path some short g i = terminates lag rank s t c hand _ path short g i
-  out_move home lag rank f x e type hand gives false s t c top fs rest own stop (nobody main stopping is_main) path some short g i = thread_terminates lag rank e s t c main path short g i
-  out_move home lag rank f x e type hand gives true s t c top fs rest own stop (waits_for {fs = gs} {rest = more} n safe base w covered callers) path some short g i =
+  out_move home lag rank f x e type hand gives true s t c top fs rest own stop (nobody main stopping is_main) path short g i = terminates lag rank s t c hand _ path short g i
+  out_move home lag rank f x e type hand gives false s t c top fs rest own stop (nobody main stopping is_main) path short g i = thread_terminates lag rank e s t c main path short g i
+  out_move home lag rank f x e type hand gives true s t c top fs rest own stop (waits_for {fs = gs} {rest = more} n safe base w covered callers) path short g i =
       terminates lag rank s t c hand _ path short g (i ∙ ap (λ (z : Bool). if z then Ends (Stop Terminate) else code.goes (Unwinds (coded numbers e) (waiting_frame p names b book id gives true n safe base w) gs)) (ap (λ (z : Home). names.no_except z.func) own ∙ stop))
-  out_move home lag rank f x e type hand gives false s t c top fs rest own stop (waits_for {fs = gs} {rest = more} n safe base w covered callers) path some short g i =
-      caller_flies lag rank e type s t c gives n safe base w gs more covered callers path some short g (i ∙ ap (λ (z : Bool). if z then Ends (Stop Terminate) else code.goes (Unwinds (coded numbers e) (waiting_frame p names b book id gives false n safe base w) gs)) (ap (λ (z : Home). names.no_except z.func) own ∙ stop))
+  out_move home lag rank f x e type hand gives false s t c top fs rest own stop (waits_for {fs = gs} {rest = more} n safe base w covered callers) path short g i =
+      caller_flies lag rank e type s t c gives n safe base w gs more covered callers path short g (i ∙ ap (λ (z : Bool). if z then Ends (Stop Terminate) else code.goes (Unwinds (coded numbers e) (waiting_frame p names b book id gives false n safe base w) gs)) (ap (λ (z : Home). names.no_except z.func) own ∙ stop))

@@ -1,6 +1,7 @@
 -- The notes of the worked program with a virtual call fit.
+use Rattle.std.proofs.lemmas.Bool.{and_parts, eqb-true}
 use Rattle.std.proofs.Common.{ℕ, zero, suc, ◌≡◌, ◌^◌, ◌<◌, ◌==◌, cond, inl, inr, Bool, true, false, refl, ap, sym, ◌∙◌, subst, [], ◌∷◌, Option, Some, None, arith}
-use Rattle.std.specs.Prelude.{slice_get, map}
+use Rattle.std.specs.Prelude.{◌&&◌, slice_get, map}
 use Rattle.tx_code.specs.declared.instr.Instr.TheVariants.{Push, Dup, Swap, FrameAddr, Load, Store, Slot, CallIndirect, Ret}
 use Rattle.tx_code.specs.Objects.{BodyView}
 use Rattle.tx_code.specs.Renaming.{itself, renamed_row}
@@ -51,7 +52,7 @@ asking_fits_4 safe = record { instr = Swap; is = refl; short = omega arith; fore
 
 asking_fits_5 : (safe : Bool) → Fit 0 safe asking_note_5
 unfolding bounds same
-asking_fits_5 safe = record { instr = CallIndirect 0 1; is = refl; short = omega arith; foreseen = refl; fits = record { address = found_function; callee = virtual 0 0 (variable 0); gives = true; found = by_slot 0 0 (variable 0) refl (inl refl); words = local 0 ∷ []; under = []; temporaries = []; others = behind_call; outcome_is = refl; operands_are = refl; behind = record { back = record { lands = equally virtual_program asking_func bounds asking_notes (λ t. true) (record { at = 6; note = asking_note_6; is = refl; there = refl; lag = 1; terms = same; types = λ n. tt; same_place = refl; same_facts = tt; same_outcome = refl; foreseen = refl; low = omega arith }); some = omega arith; short = omega arith }; thrown = λ may. record { rank = 0; low = omega arith; fits = λ t is so. record { answers = no_answers; right = λ n handler answer e. absurd cc; found = record { lag = 3; temporaries = []; is = refl; some = omega arith; short = omega arith } } }; opens = refl; caught = refl; type = tt } } }
+asking_fits_5 safe = record { instr = CallIndirect 0 1; is = refl; short = omega arith; foreseen = refl; fits = record { address = found_function; callee = virtual 0 0 (variable 0); gives = true; found = by_slot 0 0 (variable 0) refl refl (inl refl); words = local 0 ∷ []; under = []; temporaries = []; others = behind_call; outcome_is = refl; operands_are = refl; behind = record { back = record { lands = equally virtual_program asking_func bounds asking_notes (λ t. true) (record { at = 6; note = asking_note_6; is = refl; there = refl; lag = 1; terms = same; types = λ n. tt; same_place = refl; same_facts = tt; same_outcome = refl; foreseen = refl; low = omega arith }); some = omega arith; short = omega arith }; thrown = λ may. record { rank = 0; low = omega arith; fits = λ t is so. record { answers = no_answers; right = λ n handler answer e. absurd cc; found = record { lag = 2; temporaries = []; is = refl; short = omega arith } } }; opens = refl; caught = refl; type = tt } } }
 
 asking_fits_6 : (safe : Bool) → Fit 0 safe asking_note_6
 unfolding bounds same
@@ -116,6 +117,11 @@ only_one false n e = absurd cc
 whole_one : Whole virtual_names virtual_book 1 1 true
 whole_one = record { body = told_body; there = refl; takes = refl; gives_so = refl }
 
+takes_one : (n count : ℕ) (gives : Bool) → ((count == 1) && gives) ≡ true → Whole virtual_names virtual_book n 1 true → Whole virtual_names virtual_book n count gives
+takes_one n count gives e w =
+    let both = and_parts (count == 1) gives e in
+    subst (λ z. Whole virtual_names virtual_book n count z) (sym both.1) (subst (λ z. Whole virtual_names virtual_book n z true) (sym (eqb-true count 1 both.0)) w)
+
 pub virtual_links : Links virtual_program virtual_names bounds virtual_book
 virtual_links = record {
   bodies = λ n safe body e. body_there n body e;
@@ -131,10 +137,9 @@ virtual_links = record {
   checked = λ n safe body e. virtual_checked n safe;
   names = λ n safe. record { globals = λ s m e. absurd cc; functions = λ s m e. absurd cc; classes = λ s m e. refl; types = λ s t e. absurd cc; addresses = λ n. refl; slots = λ s class e a slot. refl; spawned = λ a. refl; signatures = λ s sig e a. absurd cc; methods = λ s class slot a n h e. subst (λ z. at_address (function_address z) ≡ Some z) (only_one (a == 5) n e) refl };
   called = λ n safe name callee e. absurd cc;
-  plain_there = λ n safe index name count callee i e. absurd cc;
-  safe_there = λ n safe index name count callee i e. absurd cc;
-  pointed = λ a n sig e. absurd cc;
-  slotted = λ a class slot n e. subst (λ z. Whole virtual_names virtual_book z 1 true) (only_one (a == 5) n e) whole_one;
+  plain_there = λ n safe name callee e. absurd cc;
+  pointed = λ a n sig count gives t e. absurd cc;
+  slotted = λ a class slot n count gives t e. takes_one n count gives t (subst (λ z. Whole virtual_names virtual_book z 1 true) (only_one (a == 5) n e) whole_one);
   safe_bodies = λ n. all_safe n;
 }
   where

@@ -11,9 +11,9 @@ use Rattle.src_mean.specs.Linked.{Program}
 use Rattle.src_mean.specs.Exceptions.{cancels}
 use Rattle.src_mean.specs.Source.{is_safe, empty_stack}
 use Rattle.symbolic_source.specs.Terms.{Term, Exception, number, variable, slot_function, unknown}
-use Rattle.symbolic_source.specs.Frames.{Waiting, Frame, value, throws, returns, Callee, known as known_func, virtual, pointer, Passes, Then, Gives, Leaves, handled, blocks_in}
+use Rattle.symbolic_source.specs.Frames.{Waiting, Frame, value, throws, returns, Callee, known as known_func, virtual, pointer, Passes, Then, Gives, handled, blocks_in}
 use Rattle.symbolic_source.specs.Outcomes.{silent, Outcome, goes, hands, goes_out, calls}
-use Rattle.symbolic_source.specs.Steps.{advanced}
+use Rattle.symbolic_source.specs.Steps.{left, advanced}
 use Rattle.symbolic_source.specs.Small.{is_stuck}
 use Rattle.symbolic_source.specs.Replacing.{in_terms, in_waitings, in_frames}
 use Rattle.symbolic_code.specs.Facts.{Fact, has_function, in_facts, Among}
@@ -31,11 +31,9 @@ pub record Book : Type 0 where
   pub numbers : Typ → ℕ
   -- the types of exceptions that are thrown
   pub thrown : Typ → Bool
-  -- the same for the functions of a type, and for those in a slot of a class
-  pub takes_as : Signature → ℕ
-  pub gives_as : Signature → Bool
-  pub slot_takes : (class slot : ℕ) → ℕ
-  pub slot_gives : (class slot : ℕ) → Bool
+  -- the functions of a type, or those in a slot of a class, take so many words, and hand back a word or none
+  pub takes_as : Signature → (count : ℕ) → (gives : Bool) → Bool
+  pub slot_takes : (class slot count : ℕ) → (gives : Bool) → Bool
 
 -- so many words are taken off one by one, so that the first, which lies lowest, comes first; and the words under them
 abbrev pub taken_off : ℕ → List Term → List Term → Option (List Term × List Term)
@@ -78,7 +76,7 @@ module _ (p : Program) (b : Bounds) (book : Book) where
   -- how the caller goes on where an exception comes out of the callee
   abbrev pub ThrownWith : Held → List Fact → ℕ → Place → List Term → List Waiting → List Frame → Type 0
   ThrownWith h known i q under ws k =
-      Flies p h.func b h.notes book.thrown book.numbers h.rows (in_facts rising known) i (in_place rising (with_operands q under)) (unknown 0) (goes silent (in_waitings rising ws) (Leaves (throws (unknown 0)) ∷ in_frames rising k))
+      Flies p h.func b h.notes book.thrown book.numbers h.rows (in_facts rising known) i (in_place rising (with_operands q under)) (unknown 0) (left (in_waitings rising ws) (throws (unknown 0)) (in_frames rising k))
 
   -- what a call leaves behind it, where the words of the call have been taken off: the function hands back a word or none, and lets no exception out or may do so
   pub record Behind (gives stops : Bool) (h : Held) (known : List Fact) (index : ℕ) (q : Place) (under : List Term) (ws : List Waiting) (k : List Frame) : Type 0 where
@@ -103,9 +101,9 @@ module _ (p : Program) (b : Bounds) (book : Book) where
 
   -- the word that a call by an address finds its function with, where the functions that can be found take so many words, and hand back a word or none
   pub data Found (h : Held) (known : List Fact) (name : ℕ) : Term → Callee → (count : ℕ) → (gives : Bool) → Type 0 where
-    by_pointer : (address : Term) (sig : Signature) → h.table.signature_of name ≡ Some sig → Found h known name address (pointer address sig) (book.takes_as sig) (book.gives_as sig)
-    by_slot : (class slot : ℕ) (address : Term) → h.table.is_slot name class slot ≡ true → Among (has_function class slot address) known
-        → Found h known name (slot_function class slot address) (virtual class slot address) (book.slot_takes class slot) (book.slot_gives class slot)
+    by_pointer : {count : ℕ} {gives : Bool} (address : Term) (sig : Signature) → h.table.is_signature name sig ≡ true → book.takes_as sig count gives ≡ true → Found h known name address (pointer address sig) count gives
+    by_slot : {count : ℕ} {gives : Bool} (class slot : ℕ) (address : Term) → h.table.is_slot name class slot ≡ true → book.slot_takes class slot count gives ≡ true → Among (has_function class slot address) known
+        → Found h known name (slot_function class slot address) (virtual class slot address) count gives
 
   pub record CallingFound (h : Held) (known : List Fact) (index : ℕ) (q : Place) (o : Outcome) (name count : ℕ) : Type 0 where
     pub address : Term
@@ -127,7 +125,7 @@ module _ (p : Program) (b : Bounds) (book : Book) where
   -- what each instruction asks
   abbrev pub StepFits : Held → (known : List Fact) → (lead rank index : ℕ) → Instr → Place → Outcome → Type 0
   StepFits h known lead rank index (Call name n) q o = Calling h known index q o name n
-  StepFits h known lead rank index (TCall name n) q o = (covers h.safe q.opens ≡ true) × Calling h known index q o name n
+  StepFits h known lead rank index (TCall name n) q o = (covers h.safe q.opens ≡ true) × (c : Calling h known index q o name n) × (is_safe (p.func (p.number h.func.unit c.callee)) ≡ true)
   StepFits h known lead rank index (CallIndirect name n) q o = CallingFound h known index q o name n
   StepFits h known lead rank index (TCallIndirect name n) q o = (covers h.safe q.opens ≡ true) × CallingFound h known index q o name n
   StepFits h known lead rank index (Ret zero) q o = (book.gives h.number ≡ false) × Returning false q o
@@ -181,14 +179,13 @@ pub record Links (p : Program) (x : Names) (b : Bounds) (book : Book) : Type 0 w
   pub checked : (n : ℕ) (safe : Bool) (body : BodyView) → x.body n safe ≡ Some body → Checked p b book (book.held n safe)
   pub names : (n : ℕ) (safe : Bool) → AreNames p (book.held n safe).func book.numbers x (x.numbering n) (book.held n safe).table
   pub called : (n : ℕ) (safe : Bool) (name callee : ℕ) → (book.held n safe).table.function_of name ≡ Some callee → (x.numbering n).func name ≡ p.number (book.held n safe).func.unit callee
-  -- what is called is there: the plain body, or the safe one
-  pub plain_there : (n : ℕ) (safe : Bool) (index name count callee : ℕ) → slice_get (book.held n safe).body.code index ≡ Some (Call name count) → (book.held n safe).table.function_of name ≡ Some callee
+  -- what has a name is there
+  pub plain_there : (n : ℕ) (safe : Bool) (name callee : ℕ) → (book.held n safe).table.function_of name ≡ Some callee
       → (body : BodyView) × (x.body (p.number (book.held n safe).func.unit callee) false ≡ Some body)
-  pub safe_there : (n : ℕ) (safe : Bool) (index name count callee : ℕ) → slice_get (book.held n safe).body.code index ≡ Some (TCall name count) → (book.held n safe).table.function_of name ≡ Some callee
-      → (body : BodyView) × (x.body (p.number (book.held n safe).func.unit callee) true ≡ Some body)
-  -- what an address finds is there, takes its words, and has a safe body where the source has
-  pub pointed : (a n : ℕ) (sig : Signature) → p.pointed a sig ≡ Some n → Whole x book n (book.takes_as sig) (book.gives_as sig)
-  pub slotted : (a class slot n : ℕ) → p.slot a class slot ≡ Some n → Whole x book n (book.slot_takes class slot) (book.slot_gives class slot)
+  -- what an address finds is there, and takes its words
+  pub pointed : (a n : ℕ) (sig : Signature) (count : ℕ) (gives : Bool) → book.takes_as sig count gives ≡ true → p.pointed a sig ≡ Some n → Whole x book n count gives
+  pub slotted : (a class slot n count : ℕ) (gives : Bool) → book.slot_takes class slot count gives ≡ true → p.slot a class slot ≡ Some n → Whole x book n count gives
+  -- a function has a safe body where the source has
   pub safe_bodies : (n : ℕ) → is_safe (p.func n) ≡ is_some (x.body n true)
 
 -- where a thread begins: main hands back a word and takes none, any other function none and one; its frame fits the stack of the thread

@@ -164,7 +164,7 @@ abbrev pub named_type : ℕ → Option Typ
 named_type n = cond (n == 0) (Some number_typ) None
 
 abbrev pub catch_table : Table
-catch_table = record { global_of = λ n. None; function_of = λ n. None; class_of = λ n. None; type_of = named_type; signature_of = λ n. None; is_slot = λ n c s. false }
+catch_table = record { global_of = λ n. None; function_of = λ n. None; class_of = λ n. None; type_of = named_type; is_signature = λ n sig. false; is_slot = λ n c s. false }
 
 abbrev pub catch_book : Book
 catch_book = record {
@@ -174,8 +174,6 @@ catch_book = record {
   stops = λ n. false;
   numbers = number_of_type;
   thrown = λ t. true;
-  takes_as = λ sig. 0;
-  gives_as = λ sig. false;
-  slot_takes = λ c s. 0;
-  slot_gives = λ c s. false;
+  takes_as = λ sig count gives. false;
+  slot_takes = λ class slot count gives. false;
 }

@@ -212,7 +212,7 @@ notes_of zero = main_notes
 notes_of (suc n) = own_notes
 
 abbrev pub array_table : Table
-array_table = record { global_of = λ n. None; function_of = named; class_of = λ n. None; type_of = λ n. None; signature_of = λ n. None; is_slot = λ n c s. false }
+array_table = record { global_of = λ n. None; function_of = named; class_of = λ n. None; type_of = λ n. None; is_signature = λ n sig. false; is_slot = λ n c s. false }
 
 abbrev pub array_book : Book
 array_book = record {
@@ -222,8 +222,6 @@ array_book = record {
   stops = lets_none_out;
   numbers = number_of_type;
   thrown = λ t. true;
-  takes_as = λ sig. 0;
-  gives_as = λ sig. false;
-  slot_takes = λ c s. 0;
-  slot_gives = λ c s. false;
+  takes_as = λ sig count gives. false;
+  slot_takes = λ class slot count gives. false;
 }

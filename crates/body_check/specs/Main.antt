@@ -76,7 +76,7 @@ abbrev pub second_note : Note
 second_note = record { index = 1; place = with_operands (bare 0) (number 0 ∷ []); facts = []; outcome = advanced main_program main_func no_answers 4 main_begun; lead = 1; rank = 0 }
 
 abbrev pub no_names : Table
-no_names = record { global_of = λ n. None; function_of = λ n. None; class_of = λ n. None; type_of = λ n. None; signature_of = λ n. None; is_slot = λ n c s. false }
+no_names = record { global_of = λ n. None; function_of = λ n. None; class_of = λ n. None; type_of = λ n. None; is_signature = λ n sig. false; is_slot = λ n c s. false }
 
 -- a type that supports cancellation has number 1, any other 0
 abbrev pub number_of_type : Typ → ℕ
@@ -90,8 +90,6 @@ main_book = record {
   stops = λ n. false;
   numbers = number_of_type;
   thrown = λ t. true;
-  takes_as = λ sig. 0;
-  gives_as = λ sig. false;
-  slot_takes = λ c s. 0;
-  slot_gives = λ c s. false;
+  takes_as = λ sig count gives. false;
+  slot_takes = λ class slot count gives. false;
 }

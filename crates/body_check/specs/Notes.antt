@@ -146,12 +146,11 @@ module _ (p : Program) (f : Func) (b : Bounds) (notes : List Note) (thrown : Typ
     pub lands : Lands (in_facts later known) no_answers index (opened_later (holding q (flying e)) (rest_of q.opens)) (given p f no_answers (in_waitings later temporaries) (variable 0) (in_frames later others))
     pub at_once : lands.lag ≡ 0
 
-  -- the exception leaves the function
+  -- the exception leaves the function: one silent step more, and the source is where the caller, or the end of the thread, has it
   pub record Outward (answers : Answers) (e : Exception) (o : Outcome) : Type 0 where
     pub lag : ℕ
     pub temporaries : List Waiting
     pub is : advanced p f answers lag o ≡ goes_out (throws e) temporaries
-    pub some : 1 ≤ lag
     pub short : lag + 1 ≤ b.longest
 
   -- what each sort of row asks

@@ -112,7 +112,7 @@ notes_of zero = call_note ∷ back_note ∷ []
 notes_of (suc n) = push_note ∷ ret_note ∷ []
 
 abbrev pub own_names : Table
-own_names = record { global_of = λ n. None; function_of = named; class_of = λ n. None; type_of = λ n. None; signature_of = λ n. None; is_slot = λ n c s. false }
+own_names = record { global_of = λ n. None; function_of = named; class_of = λ n. None; type_of = λ n. None; is_signature = λ n sig. false; is_slot = λ n c s. false }
 
 abbrev pub pair_book : Book
 pair_book = record {
@@ -122,8 +122,6 @@ pair_book = record {
   stops = λ n. false;
   numbers = number_of_type;
   thrown = λ t. true;
-  takes_as = λ sig. 0;
-  gives_as = λ sig. false;
-  slot_takes = λ c s. 0;
-  slot_gives = λ c s. false;
+  takes_as = λ sig count gives. false;
+  slot_takes = λ class slot count gives. false;
 }

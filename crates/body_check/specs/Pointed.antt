@@ -1,5 +1,5 @@
 -- A whole program with a call by an address: `int one() { return 1; } int main() { return (*&one)(); }`, with its code and its notes.
-use Rattle.std.specs.Prelude.{ℕ, zero, suc, ◌==◌, cond, true, false, List, [], ◌∷◌, Option, Some, None}
+use Rattle.std.specs.Prelude.{◌&&◌, ℕ, zero, suc, ◌==◌, cond, true, false, List, [], ◌∷◌, Option, Some, None}
 use Rattle.tx_ints.specs.declared.kinds.IntKind.TheVariants.{Int}
 use Rattle.tx_code.specs.declared.instr.Instr.TheVariants.{FuncAddr, CallIndirect, Ret}
 use Rattle.tx_code.specs.Objects.{BodyView}
@@ -103,7 +103,7 @@ notes_of zero = address_note ∷ call_note ∷ back_note ∷ []
 notes_of (suc n) = push_note ∷ ret_note ∷ []
 
 abbrev pub own_names : Table
-own_names = record { global_of = λ n. None; function_of = named; class_of = λ n. None; type_of = λ n. None; signature_of = λ n. Some one_signature; is_slot = λ n c s. false }
+own_names = record { global_of = λ n. None; function_of = named; class_of = λ n. None; type_of = λ n. None; is_signature = λ n sig. true; is_slot = λ n c s. false }
 
 abbrev pub pointed_book : Book
 pointed_book = record {
@@ -113,8 +113,6 @@ pointed_book = record {
   stops = λ n. false;
   numbers = number_of_type;
   thrown = λ t. true;
-  takes_as = λ sig. 0;
-  gives_as = λ sig. true;
-  slot_takes = λ c s. 0;
-  slot_gives = λ c s. false;
+  takes_as = λ sig count gives. (count == 0) && gives;
+  slot_takes = λ class slot count gives. false;
 }

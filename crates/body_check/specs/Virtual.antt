@@ -1,5 +1,5 @@
 -- A whole program with a virtual call: `int main() { return e.one(); }`, where the function in the slot is found by what the object `e`, a local, has at its address, with its code and its notes.
-use Rattle.std.specs.Prelude.{ℕ, zero, suc, ◌==◌, cond, true, false, List, [], ◌∷◌, Option, Some, None}
+use Rattle.std.specs.Prelude.{◌&&◌, ℕ, zero, suc, ◌==◌, cond, true, false, List, [], ◌∷◌, Option, Some, None}
 use Rattle.tx_ints.specs.declared.kinds.IntKind.TheVariants.{Int, ULong}
 use Rattle.tx_code.specs.declared.instr.Instr.TheVariants.{Push, Dup, Swap, FrameAddr, Load, Store, Slot, CallIndirect, Ret}
 use Rattle.tx_code.specs.Objects.{BodyView}
@@ -156,7 +156,7 @@ notes_of zero = asking_notes
 notes_of (suc n) = told_notes
 
 abbrev pub own_names : Table
-own_names = record { global_of = λ n. None; function_of = λ n. None; class_of = λ n. Some 0; type_of = λ n. None; signature_of = λ n. None; is_slot = λ n c s. true }
+own_names = record { global_of = λ n. None; function_of = λ n. None; class_of = λ n. Some 0; type_of = λ n. None; is_signature = λ n sig. false; is_slot = λ n c s. true }
 
 abbrev pub virtual_book : Book
 virtual_book = record {
@@ -166,8 +166,6 @@ virtual_book = record {
   stops = λ n. false;
   numbers = number_of_type;
   thrown = λ t. true;
-  takes_as = λ sig. 0;
-  gives_as = λ sig. true;
-  slot_takes = λ c s. 1;
-  slot_gives = λ c s. true;
+  takes_as = λ sig count gives. false;
+  slot_takes = λ class slot count gives. (count == 1) && gives;
 }

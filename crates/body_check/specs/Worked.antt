@@ -53,7 +53,7 @@ abbrev pub entered : Program → Func → ℕ → Point
 entered p f n = point 0 (record { operands = variables 0 n; opens = []; caught = []; hold = nothing }) (advanced p f no_answers 1 (goes silent [] (Passes (variables 0 n) f.words ∷ Then value f.body ∷ [])))
 
 abbrev pub itself : Table
-itself = record { global_of = λ n. Some n; function_of = λ n. Some n; class_of = λ n. Some n; type_of = λ n. None; signature_of = λ n. None; is_slot = λ n c s. false }
+itself = record { global_of = λ n. Some n; function_of = λ n. Some n; class_of = λ n. Some n; type_of = λ n. None; is_signature = λ n sig. false; is_slot = λ n c s. false }
 
 -- the point at which the outcome has gone on for so many silent steps
 abbrev pub outcome_at : Program → Func → ℕ → Option Point → Option Outcome

@@ -29,7 +29,7 @@ ghost use Rattle.body_check.specs.Pair.{pair_program, pair_names};
 ghost use Rattle.body_check.specs.Worked.{sum_func, sum_code, sum_run, outcome_at, operands_at};
 
 /// Where the notes of each body fit, the code has the events of its source from `main` on, calls, returns and exceptions
-/// included, within a bound on its steps. Calls by an address and threads that are started have no notes yet.
+/// included, within a bound on its steps.
 pub fn checked_programs_keep_their_events()
     ensures same { (p : Program) (names : Names) (b : Bounds) (book : Book) → Links p names b book → IsSmall p → Begins p names book 0 p.main [] →
         SameEvents (source p) (thread names) (main_state p) (starts names 0 p.main []) }

@@ -30,7 +30,7 @@ use Rattle.src_mean.specs.Frames.{State}
 use Rattle.src_mean.specs.Frames as frames
 use Rattle.src_mean.specs.Source.{applied, right_value, stored_bytes, thread_signature}
 use Rattle.src_mean.specs.Source as source
-use Rattle.symbolic_source.specs.Terms.{Term, number, variable, local, global, function, table, sum, product, low_byte, converted_to, result, Exception, unknown, made, Puts, untouched, put, Values, word_or_zero, number_found, eval, exception_of, bytes_put, plus_number, one_less}
+use Rattle.symbolic_source.specs.Terms.{at_offset, Term, number, variable, local, global, function, table, sum, product, low_byte, converted_to, result, Exception, unknown, made, Puts, untouched, put, Values, word_or_zero, number_found, eval, exception_of, bytes_put, plus_number, one_less}
 use Rattle.symbolic_source.specs.Frames.{Waiting, Exit, throws, returns, breaks, continues, words_of, below, here_of}
 use Rattle.symbolic_source.specs.Frames as symbolic
 use Rattle.symbolic_source.specs.Outcomes.{Doing, reads, writes, puts_out, takes_in, joins, begins_atomic, begins_sync, ends_block, leaves_block, Outcome, goes, chooses, results, finds, spawns, rethrows, halts, Shows, event_of}
@@ -271,25 +271,33 @@ module _ (p : Program) (f : Func) (numbers : Typ → ℕ) (x : Values) (home : H
   if_term true w go a s h = h refl
   if_term false w go a s h = tt
 
-  less_by : (t : Bool) (m n : ℕ) (w : Term) (to : ℕ → Term) → nat_le n m ≡ t → (n ≤ m → (word (to m) + (2 ^ 64 - n)) % 2 ^ 64 ≡ word (to (m - n))) → cond t (Some (to (m - n))) None ≡ Some w → (word (to m) + (2 ^ 64 - n)) % 2 ^ 64 ≡ word w
-  less_by true m n w to is h e =
+  less_by : (t : Bool) (v m n : ℕ) (w : Term) (to : ℕ → Term) → nat_le n m ≡ t → (n ≤ m → (v + (2 ^ 64 - n)) % 2 ^ 64 ≡ word (to (m - n))) → cond t (Some (to (m - n))) None ≡ Some w → (v + (2 ^ 64 - n)) % 2 ^ 64 ≡ word w
+  less_by true v m n w to is h e =
       let same : to (m - n) ≡ w = cc in
       h (leb-true n m is) ∙ ap (λ z. word z) same
-  less_by false m n w to is h e = absurd cc
+  less_by false v m n w to is h e = absurd cc
+
+  offset_word : (t : Bool) (a : Term) (n : ℕ) → (n == 0) ≡ t → (word a + n) % 2 ^ 64 ≡ word (cond t a (sum a (number n)))
+  unfolding source.plus
+  offset_word true a n e = ap (λ z. (word a + z) % 2 ^ 64) (eqb-true n 0 e) ∙ (ap (λ z. z % 2 ^ 64) (nothing (word a)) ∙ mod-eq_of_lt (term_below p f x bounded a))
+    where
+      nothing : (n : ℕ) → n + 0 ≡ n
+      nothing n = omega arith
+  offset_word false a n e = sym (add-mod-mod (word a) n (2 ^ 64))
 
   minus_is : (a : Term) (n : ℕ) (w : Term) → n < 2 ^ 64 → minus_number a n ≡ Some w → (word a + (2 ^ 64 - n)) % 2 ^ 64 ≡ word w
   unfolding source.plus
-  minus_is (number m) n w g e = less_by (nat_le n m) m n w (λ z. number z) refl (λ h. lower m n h g) e
+  minus_is (number m) n w g e = less_by (nat_le n m) (m % 2 ^ 64) m n w (λ z. number z) refl (λ h. lower m n h g) e
     where
       lower : (m n : ℕ) → n ≤ m → n < 2 ^ 64 → (m % 2 ^ 64 + (2 ^ 64 - n)) % 2 ^ 64 ≡ (m - n) % 2 ^ 64
       lower m n h g = omega (arith, h, g)
-  minus_is (local m) n w g e = less_by (nat_le n m) m n w (λ z. local z) refl (λ h. lower x.base m n h g) e
+  minus_is (local m) n w g e = less_by (nat_le n m) ((x.base + m) % 2 ^ 64) m n w (λ z. local z) refl (λ h. lower x.base m n h g) e
     where
       lower : (b m n : ℕ) → n ≤ m → n < 2 ^ 64 → ((b + m) % 2 ^ 64 + (2 ^ 64 - n)) % 2 ^ 64 ≡ (b + (m - n)) % 2 ^ 64
       lower b m n h g = omega (arith, h, g)
-  minus_is (sum a (number m)) n w g e = less_by (nat_le n m) m n w (λ z. sum a (number z)) refl (λ h. lower (word a) m n h g) e
+  minus_is (sum a (number m)) n w g e = less_by (nat_le n m) ((word a + m % 2 ^ 64) % 2 ^ 64) m n w (λ z. at_offset a z) refl (λ h. lower (word a) m n h g ∙ offset_word ((m - n) == 0) a (m - n) refl) e
     where
-      lower : (b m n : ℕ) → n ≤ m → n < 2 ^ 64 → ((b + m % 2 ^ 64) % 2 ^ 64 + (2 ^ 64 - n)) % 2 ^ 64 ≡ (b + (m - n) % 2 ^ 64) % 2 ^ 64
+      lower : (b m n : ℕ) → n ≤ m → n < 2 ^ 64 → ((b + m % 2 ^ 64) % 2 ^ 64 + (2 ^ 64 - n)) % 2 ^ 64 ≡ (b + (m - n)) % 2 ^ 64
       lower b m n h g = omega (arith, h, g)
   minus_is a n w g e = absurd cc
 

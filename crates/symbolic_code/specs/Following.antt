@@ -23,7 +23,7 @@ use Rattle.src_mean.specs.Linked.{Func, Program}
 use Rattle.src_mean.specs.Frames.{State}
 use Rattle.src_mean.specs.Frames as frames
 use Rattle.src_mean.specs.Source.{applied, trap_of, rethrow, thread_signature}
-use Rattle.symbolic_source.specs.Terms.{Term, number, variable, local, global, function, table, slot_function, sum, product, low_byte, converted_to, result, field, Exception, unknown, made, Puts, untouched, put, Values, eval, exception_of, plus_number, one_less}
+use Rattle.symbolic_source.specs.Terms.{Term, number, variable, local, global, function, table, slot_function, sum, product, low_byte, converted_to, result, field, Exception, unknown, made, Puts, untouched, put, Values, eval, exception_of, at_offset, plus_number, one_less}
 use Rattle.symbolic_source.specs.Frames.{Waiting, Exit, throws, returns, breaks, continues, Replied, below, here_of}
 use Rattle.symbolic_source.specs.Frames as symbolic
 use Rattle.symbolic_source.specs.Outcomes.{Doing, reads, writes, puts_out, takes_in, joins, spawns_thread, begins_atomic, begins_sync, ends_block, leaves_block, Outcome, goes, chooses, results, finds, spawns, rethrows, halts, Shows, Stops, event_of}
@@ -38,7 +38,8 @@ pub record Table : Type 0 where
   pub function_of : ℕ → Option ℕ
   pub class_of : ℕ → Option ℕ
   pub type_of : ℕ → Option Typ
-  pub signature_of : ℕ → Option Signature
+  -- a type of functions is this one; the name of a type in code does not tell safety, so that one name may stand for two
+  pub is_signature : (name : ℕ) → Signature → Bool
   -- a type of functions is that of a slot of a class
   pub is_slot : (name class slot : ℕ) → Bool
 
@@ -142,11 +143,11 @@ aborts o = refused
 
 -- ---- operators and jumps
 
--- a number less, where it is seen that none is borrowed
+-- a number less, where it is seen that none is borrowed; where nothing is left in a sum, what it is added to
 abbrev pub minus_number : Term → ℕ → Option Term
 minus_number (number m) n = cond (nat_le n m) (Some (number (m - n))) None
 minus_number (local m) n = cond (nat_le n m) (Some (local (m - n))) None
-minus_number (sum a (number m)) n = cond (nat_le n m) (Some (sum a (number (m - n)))) None
+minus_number (sum a (number m)) n = cond (nat_le n m) (Some (at_offset a (m - n))) None
 minus_number a n = None
 
 abbrev pub less_one : List Fact → Term → ℕ → Option Term
@@ -320,5 +321,5 @@ pub record AreNames (p : Program) (f : Func) (numbers : Typ → ℕ) (names : co
   pub addresses : (n : ℕ) → names.func_address n ≡ function_address n
   pub slots : (s class : ℕ) → t.class_of s ≡ Some class → (a slot : ℕ) → names.slot_of (numbering.class s) a slot ≡ p.slot a class slot
   pub spawned : (a : ℕ) → names.spawned a ≡ p.pointed a thread_signature
-  pub signatures : (s : ℕ) (sig : Signature) → t.signature_of s ≡ Some sig → (a : ℕ) → names.called (numbering.ty s) a ≡ p.pointed a sig
+  pub signatures : (s : ℕ) (sig : Signature) → t.is_signature s sig ≡ true → (a : ℕ) → names.called (numbering.ty s) a ≡ p.pointed a sig
   pub methods : (s class slot a n : ℕ) → t.is_slot s class slot ≡ true → p.slot a class slot ≡ Some n → names.called (numbering.ty s) (function_address n) ≡ Some n
