@@ -18,14 +18,13 @@ ghost use Rattle.elab_decls.specs.Says.{changed, counted};
 ghost use Rattle.elab_decls.specs.Enums.{valued_shown, found_value as found_value_of, written_value as written_value_of};
 
 use crate::names::{close_enum, count_enumerators, enum_named, enum_type, enumerator_made};
-use crate::scratch::copy_work;
 use cpp_types::At;
 use elab_expr::below::{
     ElabFault, Env, IllRule, NodeId, NodeKind, Nodes, Operand, TNode, Tokens, Work, arithmetic,
     constant, elab_types_node_at as node_at, first_kid, ill, node_at as typed_node_at, place,
     spelling, value, value_of_word,
 };
-use elab_expr::chosen_expression;
+use elab_expr::{chosen_expression, copy_work};
 use std::alloc::Global;
 
 /// The value of an enumerator, and where it stands.

@@ -6,7 +6,6 @@ pub mod enums;
 pub mod functions;
 pub mod globals;
 pub mod names;
-mod scratch;
 
 pub use enums::enum_declared;
 pub use functions::{agrees, define_function, function_declared};

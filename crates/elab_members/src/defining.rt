@@ -14,8 +14,8 @@ use class_members::first_same;
 use class_table::texts::{text_between, token_end};
 use elab_decls::{agrees, define_function};
 use elab_implicit::below::{
-    ElabFault, Env, Header, IllRule, Storage, Tokens, has_function, ill,
-    is_destructor_name, text_sized,
+    ElabFault, Env, Header, IllRule, Storage, Tokens, has_function, ill, is_destructor_name,
+    text_sized,
 };
 use std::alloc::{AllocError, Global};
 

@@ -15,11 +15,11 @@ ghost use Rattle.elab_members.specs.Whole.{late_with, late_function as late_func
 
 use crate::methods::method_body;
 use crate::syntax::kids_in;
+use class_members::first_same;
 use class_table::kids::rest_from;
 use class_table::method_of;
 use class_table::methods::Method;
 use class_table::texts::body_in;
-use class_members::first_same;
 use elab_implicit::below::{
     At, ElabFault, Env, FuncKind, Header, Home, IllRule, MakeLambdas, NodeId, NodeKind, Nodes,
     State, Tokens, elab_types_node_at as node_at, ill, place,

@@ -14,8 +14,8 @@ ghost use Rattle.elab_units.specs.Begun.{one_or_two, long_typ, program_with, tra
 
 pub use crate::known::Classes;
 use elab_entry::below::{
-    At, Builtin, Entity, EntityKind, Env, FnTy, FuncDecl, FuncKind, FuncRec, Functions, IntKind, Label,
-    Labels, Linkage, Returns, Safety, Scopes, Shape, State, Ty, TypeNames, Work, plain_type,
+    At, Builtin, Entity, EntityKind, Env, FnTy, FuncDecl, FuncKind, FuncRec, Functions, IntKind,
+    Label, Labels, Linkage, Returns, Safety, Scopes, Shape, State, Ty, TypeNames, Work, plain_type,
     pointer_to,
 };
 use std::alloc::{AllocError, Global};

@@ -27,8 +27,8 @@ use crate::joining::{Placed, joined_bodies};
 use crate::readable::readable_unit;
 use class_table::class_text;
 use elab_entry::below::{
-    Body, ClassDef, ClassRec, FuncDecl, Functions, NodeId, NodeKind, Nodes, Shape, TFunc, TGlobal, Tokens, Ty,
-    TypeNames, UnitTree, is_class_type, spelling, type_named,
+    Body, ClassDef, ClassRec, FuncDecl, Functions, NodeId, NodeKind, Nodes, Shape, TFunc, TGlobal,
+    Tokens, Ty, TypeNames, UnitTree, is_class_type, spelling, type_named,
 };
 use elab_globals::symbol_of;
 use std::alloc::{AllocError, Global};
