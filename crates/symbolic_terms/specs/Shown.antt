@@ -1,0 +1,213 @@
+-- The frames, outcomes, places and facts that data show, at a bound program. What stands last in a list of the code is the innermost or the newest, and comes first.
+use Rattle.std.specs.Prelude.{ℕ, List, map, reverse, drop}
+use Rattle.cpp_tree.specs.cpp_types.Typ.{typ_of}
+use Rattle.cpp_tree.specs.tx_events.Thread as threads
+use Rattle.cpp_tree.specs.declared.program.Program.{Program}
+use Rattle.cpp_tree.specs.Trees.{typ_in}
+use Rattle.src_mean.specs.Linked.{Func}
+use Rattle.src_mean.specs.Source.{called_signature}
+use Rattle.src_bind.specs.declared.bound_program.Bound.{Bound}
+use Rattle.src_bind.specs.Bounds.{given}
+use Rattle.src_frames.specs.Trees.{tree_shown, kids_shown}
+use Rattle.src_frames.specs.Shown.{owner_shown, change_shown, open_shown}
+use Rattle.symbolic_source.specs.Terms as words
+use Rattle.symbolic_source.specs.Frames as frames
+use Rattle.symbolic_source.specs.Outcomes as outcomes
+use Rattle.symbolic_code.specs.Places as code
+use Rattle.symbolic_code.specs.Facts as facts
+use Rattle.src_frames.specs.declared.frames.Open.{Open}
+use Rattle.symbolic_terms.specs.Words.{term_of, exception_of, puts_of, terms_of, operands_of, exceptions_of}
+use Rattle.symbolic_terms.specs.declared.frames.Spot.{Spot}
+use Rattle.symbolic_terms.specs.declared.frames.Spot.TheVariants.{Word, Tree}
+use Rattle.symbolic_terms.specs.declared.frames.Waiting.{Waiting}
+use Rattle.symbolic_terms.specs.declared.frames.Way.{Way}
+use Rattle.symbolic_terms.specs.declared.frames.Way.TheVariants.{Value as ForValue, Into}
+use Rattle.symbolic_terms.specs.declared.frames.Exit.{Exit}
+use Rattle.symbolic_terms.specs.declared.frames.Exit.TheVariants.{Throws as Throwing, Returns, Breaks, Continues}
+use Rattle.symbolic_terms.specs.declared.frames.Callee.{Callee}
+use Rattle.symbolic_terms.specs.declared.frames.Callee.TheVariants.{Known, Virtual, Pointer as ByPointer, Builtin as BuiltIn}
+use Rattle.symbolic_terms.specs.declared.frames.Frame.{Frame}
+use Rattle.symbolic_terms.specs.declared.frames.Frame.TheVariants.{Run, Address, Then, Gives, Leaves, Value, Call, Object, Statement, Block, Exception as AtException}
+use Rattle.symbolic_terms.specs.declared.frames.ValueFrame.{ValueFrame}
+use Rattle.symbolic_terms.specs.declared.frames.ValueFrame.TheVariants.{Loads, Loaded, Replied, StoreTo, Converts, Right, Apply, Choose, AssignTo, UpdateAt, UpdateOld, UpdateBy, CopyTo, CopyBy, From}
+use Rattle.symbolic_terms.specs.declared.frames.CallFrame.{CallFrame}
+use Rattle.symbolic_terms.specs.declared.frames.CallFrame.TheVariants.{Words, Object as ObjectOf, Slot, Pointer, Passes}
+use Rattle.symbolic_terms.specs.declared.frames.ObjectFrame.{ObjectFrame}
+use Rattle.symbolic_terms.specs.declared.frames.ObjectFrame.TheVariants.{Full, Keeps, Scope, Waits, InitAt, Cleans, Due, Destroys, Parts, Each}
+use Rattle.symbolic_terms.specs.declared.frames.StatementFrame.{StatementFrame}
+use Rattle.symbolic_terms.specs.declared.frames.StatementFrame.TheVariants.{Items, Test, Body, Step, Picks, Compares, Switches, Returning}
+use Rattle.symbolic_terms.specs.declared.frames.BlockFrame.{BlockFrame}
+use Rattle.symbolic_terms.specs.declared.frames.BlockFrame.TheVariants.{Opens, Within, Closes}
+use Rattle.symbolic_terms.specs.declared.frames.ExceptionFrame.{ExceptionFrame}
+use Rattle.symbolic_terms.specs.declared.frames.ExceptionFrame.TheVariants.{Throws, Fills, Filled, Tries, Trying, Takes, Taking, Handling}
+use Rattle.symbolic_terms.specs.declared.outcomes.Doing.{Doing}
+use Rattle.symbolic_terms.specs.declared.outcomes.Doing.TheVariants.{Silent, Reads, Writes, PutsOut, TakesIn, Joins, BeginsAtomic, BeginsSync, EndsBlock, LeavesBlock}
+use Rattle.symbolic_terms.specs.declared.outcomes.Rest.{Rest}
+use Rattle.symbolic_terms.specs.declared.outcomes.Outcome.{Outcome}
+use Rattle.symbolic_terms.specs.declared.outcomes.Outcome.TheVariants.{Stuck, Goes, Hands, GoesOut, Chooses', Results', Finds', Calls, Spawns, Rethrows, Halts}
+use Rattle.symbolic_terms.specs.declared.places.Hold.{Hold}
+use Rattle.symbolic_terms.specs.declared.places.Hold.TheVariants.{Nothing, Making, Flying}
+use Rattle.symbolic_terms.specs.declared.places.Place.{Place}
+use Rattle.symbolic_terms.specs.declared.places.Fact.{Fact}
+use Rattle.symbolic_terms.specs.declared.places.Fact.TheVariants.{NotZero, HasFunction}
+
+-- Frames
+
+abbrev pub way_of : Way → frames.Way
+way_of ForValue = frames.value
+way_of (Into target source) = frames.into (term_of target) (term_of source)
+
+abbrev pub exit_of : Exit → frames.Exit
+exit_of (Throwing e) = frames.throws (exception_of e)
+exit_of (Returns w) = frames.returns (term_of w)
+exit_of Breaks = frames.breaks
+exit_of Continues = frames.continues
+
+abbrev pub block_of : BlockFrame → Program → frames.Frame
+block_of (Opens block t) p = frames.Opens (open_shown block) (tree_shown p t)
+block_of (Within block) p = frames.Within (open_shown block)
+block_of (Closes block) p = frames.Closes (open_shown block)
+
+module _ (p : Program) where
+  abbrev pub spot_of : Spot → frames.Spot
+  spot_of (Word w) = frames.at_word (term_of w)
+  spot_of (Tree t) = frames.at_tree (tree_shown p t)
+
+  abbrev pub waiting_of : Waiting → frames.Waiting
+  waiting_of w = record { address = spot_of w.address; destroys = kids_shown p w.destroys }
+
+  abbrev pub all_waiting : List Waiting → List frames.Waiting
+  all_waiting ws = map waiting_of (reverse ws)
+
+  abbrev pub callee_of : Callee → frames.Callee
+  callee_of (Known n) = frames.known n
+  callee_of (Virtual class slot address) = frames.virtual class slot (term_of address)
+  callee_of (ByPointer address t) = frames.pointer (term_of address) (called_signature (typ_in (tree_shown p t)))
+  callee_of (BuiltIn b) = frames.builtin b
+
+  abbrev pub value_of : ValueFrame → frames.Frame
+  value_of (Loads kind volatile) = frames.Loads kind volatile
+  value_of (Loaded kind) = frames.Loaded kind
+  value_of Replied = frames.Replied
+  value_of (StoreTo address kind volatile answer) = frames.StoreTo (term_of address) kind volatile (term_of answer)
+  value_of (Converts kind) = frames.Converts kind
+  value_of (Right op kind t) = frames.Right op kind (tree_shown p t)
+  value_of (Apply op kind left) = frames.Apply op kind (term_of left)
+  value_of (Choose way chosen other) = frames.Choose (way_of way) (tree_shown p chosen) (tree_shown p other)
+  value_of (AssignTo kind volatile t) = frames.AssignTo kind volatile (tree_shown p t)
+  value_of (UpdateAt c t) = frames.UpdateAt (change_shown c) (tree_shown p t)
+  value_of (UpdateOld c address t) = frames.UpdateOld (change_shown c) (term_of address) (tree_shown p t)
+  value_of (UpdateBy c address old) = frames.UpdateBy (change_shown c) (term_of address) (term_of old)
+  value_of (CopyTo source init) = frames.CopyTo (tree_shown p source) (tree_shown p init)
+  value_of (CopyBy target init) = frames.CopyBy (term_of target) (tree_shown p init)
+  value_of (From target init) = frames.From (term_of target) (tree_shown p init)
+
+  -- of the words that go into the frame of the function at hand so many have gone
+  abbrev pub call_of : Func → CallFrame → frames.Frame
+  call_of f (Words callee before rest) = frames.Words (callee_of callee) (terms_of before.items) (kids_shown p rest)
+  call_of f (ObjectOf before class slot pointer rest) = frames.Object (terms_of before.items) class slot pointer (kids_shown p rest)
+  call_of f (Slot before class slot rest) = frames.Slot (terms_of before.items) class slot (kids_shown p rest)
+  call_of f (Pointer before t rest) = frames.Pointer (terms_of before.items) (called_signature (typ_in (tree_shown p t))) (kids_shown p rest)
+  call_of f (Passes words from) = frames.Passes (drop from (terms_of words.items)) (drop from f.words)
+
+  abbrev pub object_of : ObjectFrame → frames.Frame
+  object_of (Full outer) = frames.Full (all_waiting outer.items)
+  object_of (Keeps w) = frames.Keeps (spot_of w.address) (kids_shown p w.destroys)
+  object_of (Scope owner always waiting) = frames.Scope (owner_shown owner) always (all_waiting waiting.items)
+  object_of (Waits owner w) = frames.Waits (owner_shown owner) (spot_of w.address) (kids_shown p w.destroys)
+  object_of (InitAt init destroys) = frames.InitAt (tree_shown p init) (kids_shown p destroys)
+  object_of (Cleans waiting) = frames.Cleans (all_waiting waiting.items)
+  object_of (Due kids) = frames.Due (kids_shown p kids)
+  object_of (Destroys number address stride left) = frames.Destroys number (term_of address) stride (term_of left)
+  object_of (Parts kids target source) = frames.Parts (kids_shown p kids) (term_of target) (term_of source)
+  object_of (Each init destroys stride left target source) = frames.Each (tree_shown p init) (kids_shown p destroys) stride (term_of left) (term_of target) (term_of source)
+
+  abbrev pub statement_of : StatementFrame → frames.Frame
+  statement_of (Items kids) = frames.Items (kids_shown p kids)
+  statement_of (Test l) = frames.Test (tree_shown p l.test) (tree_shown p l.body) (tree_shown p l.step)
+  statement_of (Body l) = frames.Body (tree_shown p l.test) (tree_shown p l.body) (tree_shown p l.step)
+  statement_of (Step l) = frames.Step (tree_shown p l.test) (tree_shown p l.body) (tree_shown p l.step)
+  statement_of (Picks kids) = frames.Picks (kids_shown p kids)
+  statement_of (Compares word label behind items) = frames.Compares (term_of word) label (kids_shown p behind) (kids_shown p items)
+  statement_of Switches = frames.Switches
+  statement_of Returning = frames.Returning
+
+  abbrev pub throwing_of : ExceptionFrame → frames.Frame
+  throwing_of (Throws typ fields) = frames.Throws (typ_of typ) (kids_shown p fields)
+  throwing_of (Fills typ from fields puts) = frames.Fills (typ_of typ) (term_of from) (kids_shown p fields) (puts_of puts)
+  throwing_of (Filled typ from offset kind fields puts) = frames.Filled (typ_of typ) (term_of from) offset kind (kids_shown p fields) (puts_of puts)
+  throwing_of (Tries handlers) = frames.Tries (kids_shown p handlers)
+  throwing_of (Trying e handler others) = frames.Trying (exception_of e) (tree_shown p handler) (kids_shown p others)
+  throwing_of (Takes e base fields) = frames.Takes (exception_of e) (term_of base) (kids_shown p fields)
+  throwing_of (Taking e base offset kind) = frames.Taking (exception_of e) (term_of base) offset kind
+  throwing_of (Handling e) = frames.Handling (exception_of e)
+
+  module _ (f : Func) where
+    abbrev pub frame_of : Frame → frames.Frame
+    frame_of (Run way t) = frames.Run (way_of way) (tree_shown p t)
+    frame_of (Address w) = frames.Address (term_of w)
+    frame_of (Then way t) = frames.Then (way_of way) (tree_shown p t)
+    frame_of (Gives w) = frames.Gives (term_of w)
+    frame_of (Leaves x) = frames.Leaves (exit_of x)
+    frame_of (Value v) = value_of v
+    frame_of (Call c) = call_of f c
+    frame_of (Object o) = object_of o
+    frame_of (Statement s) = statement_of s
+    frame_of (Block b) = block_of b p
+    frame_of (AtException e) = throwing_of e
+
+    unfoldable pub frames_of : List Frame → List frames.Frame
+    frames_of fs = map frame_of (reverse fs)
+
+    -- Outcomes
+
+    abbrev pub doing_of : Doing → outcomes.Doing
+    doing_of Silent = outcomes.silent
+    doing_of (Reads address size volatile) = outcomes.reads (term_of address) size volatile
+    doing_of (Writes address kind word volatile) = outcomes.writes (term_of address) kind (term_of word) volatile
+    doing_of (PutsOut byte) = outcomes.puts_out (term_of byte)
+    doing_of TakesIn = outcomes.takes_in
+    doing_of (Joins id) = outcomes.joins (term_of id)
+    doing_of (BeginsAtomic kind) = outcomes.begins_atomic kind
+    doing_of BeginsSync = outcomes.begins_sync
+    doing_of (EndsBlock block) = outcomes.ends_block (open_shown block)
+    doing_of (LeavesBlock block exit) = outcomes.leaves_block (open_shown block) (exit_of exit)
+
+    abbrev pub outcome_of : Outcome → outcomes.Outcome
+    outcome_of Stuck = outcomes.stuck
+    outcome_of (Goes doing rest) = outcomes.goes (doing_of doing) (all_waiting rest.temporaries.items) (frames_of rest.frames.items)
+    outcome_of (Hands w temporaries) = outcomes.hands (term_of w) (all_waiting temporaries.items)
+    outcome_of (GoesOut exit temporaries) = outcomes.goes_out (exit_of exit) (all_waiting temporaries.items)
+    outcome_of (Chooses' w p zero q other) = outcomes.chooses (term_of w) (outcome_of zero) (outcome_of other)
+    outcome_of (Results' op kind a b q o) = outcomes.results op kind (term_of a) (term_of b) (outcome_of o)
+    outcome_of (Finds' class slot address q o) = outcomes.finds class slot (term_of address) (outcome_of o)
+    outcome_of (Calls callee words rest) = outcomes.calls (callee_of callee) (terms_of words.items) (all_waiting rest.temporaries.items) (frames_of rest.frames.items)
+    outcome_of (Spawns address argument rest) = outcomes.spawns (term_of address) (term_of argument) (all_waiting rest.temporaries.items) (frames_of rest.frames.items)
+    outcome_of (Rethrows rest) = outcomes.rethrows (all_waiting rest.temporaries.items) (frames_of rest.frames.items)
+    outcome_of (Halts end) = outcomes.halts end
+
+-- Places
+
+abbrev pub hold_of : Hold → code.Hold
+hold_of Nothing = code.nothing
+hold_of (Making typ puts) = code.making (typ_of typ) (puts_of puts)
+hold_of (Flying e) = code.flying (exception_of e)
+
+abbrev pub opens_of : List Open → List threads.Open
+opens_of opens = map open_shown (reverse opens)
+
+abbrev pub place_of : Place → code.Place
+place_of q = record { operands = operands_of q.operands.items; opens = opens_of q.opens.items; caught = exceptions_of q.caught.items; hold = hold_of q.hold }
+
+-- Facts, of which the last one stands last, and comes first
+
+abbrev pub fact_of : Fact → facts.Fact
+fact_of (NotZero w) = facts.not_zero (term_of w)
+fact_of (HasFunction class slot address) = facts.has_function class slot (term_of address)
+
+abbrev pub facts_of : List Fact → List facts.Fact
+facts_of ks = map fact_of (reverse ks)
+
+-- the program of a bound program
+abbrev pub program_in : Bound → Program
+program_in b = (given b).program

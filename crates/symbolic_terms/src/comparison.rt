@@ -1,0 +1,202 @@
+//! Whether terms are the same.
+
+ghost use Rattle.std.specs.Prelude.{◌≡◌, IsTrue, ◌↔◌};
+ghost use Rattle.symbolic_code.specs.Same.{same_term as is_same_term, same_exception as is_same_exception};
+ghost use Rattle.symbolic_terms.specs.Words.{term_of, exception_of, puts_of, terms_of};
+
+use crate::terms::{Exception, Puts, Term};
+use cpp_types::same;
+
+/// Whether two exceptions are one unknown one. Exceptions that were made are not compared.
+pub fn same_exception(left: &Exception, right: &Exception) -> bool
+    ensures { result ≡ is_same_exception (exception_of left.now) (exception_of right.now) }
+{
+    match (left, right) {
+        (Exception::Unknown(m), Exception::Unknown(n)) => *m == *n,
+        _ => false,
+    }
+}
+
+/// Whether two terms are the same, as the definitions of the checker compare them.
+pub fn same_term(left: &Term, right: &Term) -> bool
+    ensures { result ≡ is_same_term (term_of left.now) (term_of right.now) }
+{
+    match (left, right) {
+        (Term::Number(m), Term::Number(n)) => *m == *n,
+        (Term::Variable(m), Term::Variable(n)) => *m == *n,
+        (Term::Local(m), Term::Local(n)) => *m == *n,
+        (Term::Global(m), Term::Global(n)) => *m == *n,
+        (Term::Function(m), Term::Function(n)) => *m == *n,
+        (Term::Table(m), Term::Table(n)) => *m == *n,
+        (
+            Term::SlotFunction {
+                class,
+                slot,
+                address,
+            },
+            Term::SlotFunction {
+                class: other_class,
+                slot: other_slot,
+                address: other_address,
+            },
+        ) => *class == *other_class && *slot == *other_slot && same_term(address, other_address),
+        (Term::Sum(a, b), Term::Sum(c, d)) => same_term(a, c) && same_term(b, d),
+        (Term::Product(a, b), Term::Product(c, d)) => same_term(a, c) && same_term(b, d),
+        (Term::Before(a), Term::Before(c)) => same_term(a, c),
+        (Term::LowByte(a), Term::LowByte(c)) => same_term(a, c),
+        (Term::Converted(j, a), Term::Converted(k, c)) => *j == *k && same_term(a, c),
+        (
+            Term::Applied {
+                op,
+                kind,
+                left: a,
+                right: b,
+            },
+            Term::Applied {
+                op: other_op,
+                kind: other_kind,
+                left: c,
+                right: d,
+            },
+        ) => *op == *other_op && *kind == *other_kind && same_term(a, c) && same_term(b, d),
+        (
+            Term::Field {
+                exception,
+                offset,
+                size,
+            },
+            Term::Field {
+                exception: other_exception,
+                offset: other_offset,
+                size: other_size,
+            },
+        ) => {
+            same_exception(exception, other_exception)
+                && *offset == *other_offset
+                && *size == *other_size
+        }
+        _ => false,
+    }
+}
+
+/// Whether two terms are one, with all that was put into exceptions.
+#[cycle(equal)]
+pub fn equal_terms(left: &Term, right: &Term) -> bool
+    ensures { IsTrue result ↔ (term_of left.now ≡ term_of right.now) }
+{
+    match (left, right) {
+        (Term::Number(m), Term::Number(n)) => *m == *n,
+        (Term::Variable(m), Term::Variable(n)) => *m == *n,
+        (Term::Local(m), Term::Local(n)) => *m == *n,
+        (Term::Global(m), Term::Global(n)) => *m == *n,
+        (Term::Function(m), Term::Function(n)) => *m == *n,
+        (Term::Table(m), Term::Table(n)) => *m == *n,
+        (
+            Term::SlotFunction {
+                class,
+                slot,
+                address,
+            },
+            Term::SlotFunction {
+                class: other_class,
+                slot: other_slot,
+                address: other_address,
+            },
+        ) => *class == *other_class && *slot == *other_slot && equal_terms(address, other_address),
+        (Term::Sum(a, b), Term::Sum(c, d)) => equal_terms(a, c) && equal_terms(b, d),
+        (Term::Product(a, b), Term::Product(c, d)) => equal_terms(a, c) && equal_terms(b, d),
+        (Term::Before(a), Term::Before(c)) => equal_terms(a, c),
+        (Term::LowByte(a), Term::LowByte(c)) => equal_terms(a, c),
+        (Term::Converted(j, a), Term::Converted(k, c)) => *j == *k && equal_terms(a, c),
+        (
+            Term::Applied {
+                op,
+                kind,
+                left: a,
+                right: b,
+            },
+            Term::Applied {
+                op: other_op,
+                kind: other_kind,
+                left: c,
+                right: d,
+            },
+        ) => *op == *other_op && *kind == *other_kind && equal_terms(a, c) && equal_terms(b, d),
+        (
+            Term::Field {
+                exception,
+                offset,
+                size,
+            },
+            Term::Field {
+                exception: other_exception,
+                offset: other_offset,
+                size: other_size,
+            },
+        ) => {
+            *offset == *other_offset
+                && *size == *other_size
+                && equal_exceptions(exception, other_exception)
+        }
+        _ => false,
+    }
+}
+
+/// Whether two exceptions are one.
+#[cycle(equal)]
+pub fn equal_exceptions(left: &Exception, right: &Exception) -> bool
+    ensures { IsTrue result ↔ (exception_of left.now ≡ exception_of right.now) }
+{
+    match (left, right) {
+        (Exception::Unknown(m), Exception::Unknown(n)) => *m == *n,
+        (Exception::Made(ty, puts), Exception::Made(other_ty, other_puts)) => {
+            same(ty, other_ty) && equal_puts(puts, other_puts)
+        }
+        _ => false,
+    }
+}
+
+/// Whether the same words were put at the same places in the same order.
+#[cycle(equal)]
+pub fn equal_puts(left: &Puts, right: &Puts) -> bool
+    ensures { IsTrue result ↔ (puts_of left.now ≡ puts_of right.now) }
+{
+    match (left, right) {
+        (Puts::Untouched, Puts::Untouched) => true,
+        (
+            Puts::Put {
+                offset,
+                size,
+                word,
+                others,
+            },
+            Puts::Put {
+                offset: other_offset,
+                size: other_size,
+                word: other_word,
+                others: other_others,
+            },
+        ) => {
+            *offset == *other_offset
+                && *size == *other_size
+                && equal_terms(word, other_word)
+                && equal_puts(others, other_others)
+        }
+        _ => false,
+    }
+}
+
+/// Whether two lists of terms are one.
+pub fn equal_lists(left: &[Term], right: &[Term]) -> bool
+    ensures { IsTrue result ↔ (terms_of left.now ≡ terms_of right.now) }
+{
+    if left.len() != right.len() {
+        return false;
+    }
+    for (i, term) in left.iter().enumerate() {
+        if !equal_terms(term, &right[i]) {
+            return false;
+        }
+    }
+    true
+}

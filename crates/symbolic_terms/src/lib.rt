@@ -1,0 +1,14 @@
+//! Words, exceptions, frames and outcomes of the symbolic source, and places of the symbolic code, as data.
+//!
+//! `specs/Shown.antt` says which term, frame, outcome or place of the definitions a value shows.
+#![tactic(auto)]
+
+pub mod comparison;
+pub mod copies;
+pub mod frames;
+pub mod outcomes;
+pub mod places;
+pub mod refusal;
+pub mod replacing;
+pub mod sums;
+pub mod terms;
