@@ -1,0 +1,4 @@
+pub mod Children
+pub mod Found
+pub mod Beginning
+pub mod CodeRuns
