@@ -13,6 +13,7 @@ ghost use Rattle.symbolic_source.specs.Small.{IsSmall};
 ghost use Rattle.body_check.specs.Notes.{Bounds};
 ghost use Rattle.body_check.specs.Calls.{Book, Links};
 ghost use Rattle.checked_runs.specs.Beginnings.{AllBegin, CanStart};
+ghost use Rattle.checked_runs.specs.Starting.{starting_program, starting_names};
 
 /// Where the notes of each body fit and all threads can begin, a replay of the code's threads is one of the source's, whole
 /// blocks and threads that are started included: in the same order, on any memory and input, to the same world but for the
@@ -33,4 +34,12 @@ pub fn runs_of_checked_code()
 /// Threads can begin where their functions are there, take and hand back what threads do, and have frames that fit a stack.
 pub fn threads_begin()
     ensures { (p : Program) (names : Names) (b : Bounds) (book : Book) → Links p names b book → CanStart p names book → AllBegin p names book }
+{}
+
+/// `void f(long a) { } int main() { return spawn(&f, 0); }` is such a program: its code runs as its source does.
+pub fn worked_start()
+    ensures { (layout : MemoryLayout) → layout.limit ≤ THREAD_LIMIT → (memory : ℕ → ℕ) (input order : List ℕ) (world : World CodeState) →
+        Replays (thread starting_names) layout (first_world memory input (starts starting_names 0 0 [])) order world →
+        (threads : ℕ → Option (Alive SourceState)) ×
+        Replays (source starting_program) layout (first_world memory input (main_state starting_program)) order (with_threads world threads) }
 {}
