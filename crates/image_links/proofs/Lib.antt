@@ -1,0 +1,5 @@
+pub mod Found
+pub mod Looked
+pub mod Linking
+pub mod Agreed
+pub mod Small
