@@ -1,5 +1,5 @@
 -- A run of the worked program that starts a thread.
-use Rattle.std.proofs.Common.{ℕ, pos, ◌≡◌, ◌≤◌, refl, List, [], ◌∷◌, Option, Some, arith}
+use Rattle.std.proofs.Common.{ℕ, pos, ◌≤◌, refl, List, [], ◌∷◌, Option, arith}
 use Rattle.tx_events.specs.declared.TheConstants.{THREAD_LIMIT}
 use Rattle.tx_events.specs.declared.End.TheVariants.{Exit}
 use Rattle.tx_events.specs.Memory.{MemoryLayout, no_bytes, can_access, is_mapped, is_aligned}
