@@ -1,6 +1,11 @@
 -- A whole program that starts a thread: `void f(long a) { } int main() { return spawn(&f, 0); }`, with its code and its notes.
-use Rattle.std.specs.Prelude.{◌&&◌, ℕ, zero, suc, ◌==◌, not, Bool, true, false, List, [], ◌∷◌, Some, None}
+use Rattle.std.specs.Prelude.{◌≡◌, ◌&&◌, ℕ, zero, suc, ◌==◌, not, Bool, true, false, List, [], ◌∷◌, Some, None}
 use Rattle.tx_ints.specs.declared.kinds.IntKind.TheVariants.{Int, Long}
+use Rattle.tx_events.specs.declared.TheConstants.{THREAD_LIMIT}
+use Rattle.tx_events.specs.declared.End.{End}
+use Rattle.tx_events.specs.Memory.{no_bytes}
+use Rattle.tx_events.specs.Thread.{Thread}
+use Rattle.tx_events.specs.World.{World, Replays, first_world}
 use Rattle.tx_code.specs.declared.instr.Instr.TheVariants.{FuncAddr, Push, Spawn, Ret, FrameAddr, Swap, Store}
 use Rattle.tx_code.specs.Objects.{BodyView}
 use Rattle.tx_code.specs.Renaming.{itself}
@@ -148,3 +153,9 @@ starting_book = record {
   takes_as = λ sig count gives. (count == 1) && not gives;
   slot_takes = λ c s count gives. false;
 }
+
+-- threads that begin so run in this order, on a memory of zeros and without input, to this end
+pub record RunsTo {S : Type 0} (a : Thread S) (main : S) (order : List ℕ) (end : End) : Type 0 where
+  pub world : World S
+  pub replays : Replays a (record { globals = 0; limit = THREAD_LIMIT }) (first_world no_bytes [] main) order world
+  pub end_is : world.end ≡ Some end
