@@ -1,5 +1,5 @@
 -- Sums, products and differences by the variant that the code sees.
-use Rattle.std.proofs.Common.{◌≡◌, eqb-true, arith, ℕ, zero, suc, Bool, true, false, cond, ◌==◌, Option, Some, None, List, [], ◌∷◌, refl, sym, ap, ◌∙◌, Box, Global}
+use Rattle.std.proofs.Common.{◌≡◌, eqb-true, arith, ℕ, zero, suc, true, false, cond, Some, None, refl, ap, Box, Global}
 use Rattle.symbolic_source.specs.Terms.{Term, number, sum, product, before, at_offset, plus_number, one_less}
 use Rattle.symbolic_source.specs.Replacing.{joined, summed, multiplied}
 use Rattle.symbolic_source.specs.Steps.{element_at}

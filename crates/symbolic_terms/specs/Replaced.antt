@@ -1,5 +1,5 @@
 -- What comes in the place of variables.
-use Rattle.std.specs.Prelude.{ℕ, suc, Option, Some, None, slice_get}
+use Rattle.std.specs.Prelude.{suc, Option, Some, None, slice_get}
 use Rattle.symbolic_source.specs.Terms as symbolic
 use Rattle.symbolic_source.specs.Replacing as source
 use Rattle.symbolic_code.specs.Places.{later}

@@ -1,5 +1,5 @@
 -- The frames, outcomes, places and facts that data show, at a bound program. What stands last in a list of the code is the innermost or the newest, and comes first.
-use Rattle.std.specs.Prelude.{ℕ, List, map, reverse, drop}
+use Rattle.std.specs.Prelude.{List, map, reverse, drop}
 use Rattle.cpp_tree.specs.cpp_types.Typ.{typ_of}
 use Rattle.cpp_tree.specs.tx_events.Thread as threads
 use Rattle.cpp_tree.specs.declared.program.Program.{Program}
@@ -10,7 +10,6 @@ use Rattle.src_bind.specs.declared.bound_program.Bound.{Bound}
 use Rattle.src_bind.specs.Bounds.{given}
 use Rattle.src_frames.specs.Trees.{tree_shown, kids_shown}
 use Rattle.src_frames.specs.Shown.{owner_shown, change_shown, open_shown}
-use Rattle.symbolic_source.specs.Terms as words
 use Rattle.symbolic_source.specs.Frames as frames
 use Rattle.symbolic_source.specs.Outcomes as outcomes
 use Rattle.symbolic_code.specs.Places as code
@@ -42,7 +41,6 @@ use Rattle.symbolic_terms.specs.declared.frames.ExceptionFrame.{ExceptionFrame}
 use Rattle.symbolic_terms.specs.declared.frames.ExceptionFrame.TheVariants.{Throws, Fills, Filled, Tries, Trying, Takes, Taking, Handling}
 use Rattle.symbolic_terms.specs.declared.outcomes.Doing.{Doing}
 use Rattle.symbolic_terms.specs.declared.outcomes.Doing.TheVariants.{Silent, Reads, Writes, PutsOut, TakesIn, Joins, BeginsAtomic, BeginsSync, EndsBlock, LeavesBlock}
-use Rattle.symbolic_terms.specs.declared.outcomes.Rest.{Rest}
 use Rattle.symbolic_terms.specs.declared.outcomes.Outcome.{Outcome}
 use Rattle.symbolic_terms.specs.declared.outcomes.Outcome.TheVariants.{Stuck, Goes, Hands, GoesOut, Chooses', Results', Finds', Calls, Spawns, Rethrows, Halts}
 use Rattle.symbolic_terms.specs.declared.places.Hold.{Hold}

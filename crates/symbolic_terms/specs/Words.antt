@@ -1,5 +1,5 @@
 -- The terms and exceptions that data show.
-use Rattle.std.specs.Prelude.{ℕ, List, [], ◌∷◌, map, reverse}
+use Rattle.std.specs.Prelude.{List, map, reverse}
 use Rattle.cpp_tree.specs.cpp_types.Typ.{typ_of}
 use Rattle.symbolic_source.specs.Terms as symbolic
 use Rattle.symbolic_terms.specs.declared.terms.Term.{Term}

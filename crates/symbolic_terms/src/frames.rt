@@ -111,11 +111,20 @@ pub enum ValueFrame {
         old: Term,
     },
     /// The value is the target.
-    CopyTo { source: TreeAt, init: TreeAt },
+    CopyTo {
+        source: TreeAt,
+        init: TreeAt,
+    },
     /// It is the source.
-    CopyBy { target: Term, init: TreeAt },
+    CopyBy {
+        target: Term,
+        init: TreeAt,
+    },
     /// It is the source, and nothing is given.
-    From { target: Term, init: TreeAt },
+    From {
+        target: Term,
+        init: TreeAt,
+    },
 }
 
 /// What a call is at.
@@ -149,14 +158,19 @@ pub enum CallFrame {
         rest: KidsAt,
     },
     /// Words that go into the frame of the function at hand, from the one with this index on.
-    Passes { words: Vec<Term>, from: usize },
+    Passes {
+        words: Vec<Term>,
+        from: usize,
+    },
 }
 
 /// What is done for objects and their destruction.
 #[derive(Drop)]
 pub enum ObjectFrame {
     /// A full-expression, and the temporaries of the one around it, the newest last.
-    Full { outer: Vec<Waiting> },
+    Full {
+        outer: Vec<Waiting>,
+    },
     /// Put these among the temporaries that wait.
     Keeps(Waiting),
     /// The objects that wait are destroyed always, or only on an exception. The newest stands last.
@@ -168,7 +182,10 @@ pub enum ObjectFrame {
     /// Put these among those that wait.
     Waits(Owner, Waiting),
     /// The value is the address.
-    InitAt { init: TreeAt, destroys: KidsAt },
+    InitAt {
+        init: TreeAt,
+        destroys: KidsAt,
+    },
     /// The newest, which stands last, is destroyed first.
     Cleans(Vec<Waiting>),
     /// The value is the address.
@@ -231,7 +248,10 @@ pub enum BlockFrame {
 #[derive(Drop)]
 pub enum ExceptionFrame {
     /// The value is what is thrown, or the address of it.
-    Throws { typ: Ty, fields: KidsAt },
+    Throws {
+        typ: Ty,
+        fields: KidsAt,
+    },
     Fills {
         typ: Ty,
         from: Term,

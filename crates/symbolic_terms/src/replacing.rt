@@ -167,11 +167,7 @@ pub fn replaced_puts(alloc: Global, with: &Replacing, puts: &Puts) -> Result<Put
 }
 
 /// A list of terms with terms in the place of their variables.
-pub fn replaced_terms(
-    alloc: Global,
-    with: &Replacing,
-    terms: &[Term],
-) -> Result<Vec<Term>, Refusal>
+pub fn replaced_terms(alloc: Global, with: &Replacing, terms: &[Term]) -> Result<Vec<Term>, Refusal>
     ensures { IfOk result (λ c. terms_of c.items ≡ in_terms (replacing_of with.now) (terms_of terms.now)) }
 {
     let mut replaced = Vec::new(alloc);

@@ -139,12 +139,7 @@ pub fn multiplied(alloc: Global, left: Term, right: Term) -> Result<Term, Refusa
 
 /// The element of an array with this number, where elements lie this far apart.
 #[tactic(auto, using(crate::proofs::Plain::plain_element, crate::proofs::Plain::zero_element))]
-pub fn element_at(
-    alloc: Global,
-    address: Term,
-    number: Term,
-    stride: u32,
-) -> Result<Term, Refusal>
+pub fn element_at(alloc: Global, address: Term, number: Term, stride: u32) -> Result<Term, Refusal>
     ensures { IfOk result (λ s. term_of s ≡ element_of (term_of address) (term_of number) stride) }
 {
     if is_zero(&number) {

@@ -1,5 +1,5 @@
 use Rattle.std.proofs.Common.{ap, ◌∙◌}
-use Rattle.symbolic_terms.specs.Words.{term_of, terms_of}
+use Rattle.symbolic_terms.specs.Words.{terms_of}
 use Rattle.symbolic_terms.specs.Replaced.{replacing_of}
 use Rattle.symbolic_terms.proofs.Changed.{changed_more}
 use Rattle.symbolic_terms.proofs.replacing.replaced_terms.Goals as goal
