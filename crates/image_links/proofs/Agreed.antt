@@ -153,13 +153,13 @@ module _ (i : ImageView) (g : Given) (h : agrees i g ≡ true) where
   has_room : (id size : ℕ) → size ≤ most_frame → nat_lt (empty_stack id).limit ((empty_stack id).end + size) ≡ false
   has_room id size l = grind (arith, l)
 
-  frame_within : (n : ℕ) → n < length i.funcs → (func_of i p t n).size ≤ most_frame
+  frame_within : (n : ℕ) → n < length i.funcs → (func_of p n).size ≤ most_frame
   frame_within n l =
       let f = is_there i.funcs n l in
       let s = told.there n f.0 f.1 in
       subst (λ (z : Option Func). (unwrap_or z no_func).size ≤ most_frame) (sym s.is) s.within
 
-  gives_there : (n : ℕ) → func_gives i p t n ≡ true → (f : ImageFuncView) × (slice_get i.funcs n ≡ Some f)
+  gives_there : (n : ℕ) → func_gives i n ≡ true → (f : ImageFuncView) × (slice_get i.funcs n ≡ Some f)
   gives_there n e = by_func (slice_get i.funcs n) refl e
     where
       by_func : (o : Option ImageFuncView) → slice_get i.funcs n ≡ o → option_map_or (λ (f : ImageFuncView). gives_of f.ty == 1) o false ≡ true → (f : ImageFuncView) × (slice_get i.funcs n ≡ Some f)
@@ -169,23 +169,23 @@ module _ (i : ImageView) (g : Given) (h : agrees i g ≡ true) where
   module _ (notes : ℕ → Bool → List Note) (typs : ℕ → Bool → List Typ) where
     main_begins : Begins p (names_of i) (linked_book i g notes typs) 0 p.main []
     main_begins =
-        let a = and_parts (i.main == p.main) ((func_takes i p t i.main == 0) && func_gives i p t i.main) main_right in
-        let c = and_parts (func_takes i p t i.main == 0) (func_gives i p t i.main) a.1 in
+        let a = and_parts (i.main == p.main) ((func_takes p i.main == 0) && func_gives i i.main) main_right in
+        let c = and_parts (func_takes p i.main == 0) (func_gives i i.main) a.1 in
         let same : i.main ≡ p.main = eqb-true i.main p.main a.0 in
-        subst (λ z. Begins p (names_of i) (linked_book i g notes typs) 0 z []) same (begins (gives_there i.main c.1) (eqb-true (func_takes i p t i.main) 0 c.0) c.1)
+        subst (λ z. Begins p (names_of i) (linked_book i g notes typs) 0 z []) same (begins (gives_there i.main c.1) (eqb-true (func_takes p i.main) 0 c.0) c.1)
       where
-        begins : (f : ImageFuncView) × (slice_get i.funcs i.main ≡ Some f) → func_takes i p t i.main ≡ 0 → func_gives i p t i.main ≡ true → Begins p (names_of i) (linked_book i g notes typs) 0 i.main []
+        begins : (f : ImageFuncView) × (slice_get i.funcs i.main ≡ Some f) → func_takes p i.main ≡ 0 → func_gives i i.main ≡ true → Begins p (names_of i) (linked_book i g notes typs) 0 i.main []
         begins f takes gives =
             let l = slice_get_within i.funcs i.main f.0 f.1 in
             let body = plain_is i p t told notes typs i.main l in
-            record { body = body.0; there = body.1; gives = gives; takes = takes; starts = refl; ends = refl; room = has_room 0 (func_of i p t i.main).size (frame_within i.main l) }
+            record { body = body.0; there = body.1; gives = gives; takes = takes; starts = refl; ends = refl; room = has_room 0 (func_of p i.main).size (frame_within i.main l) }
 
     thread_begins : (id a n word : ℕ) → (id == 0) ≡ false → p.pointed a thread_signature ≡ Some n → Begins p (names_of i) (linked_book i g notes typs) id n (word ∷ [])
     thread_begins id a n word other e =
         let passing = (and_parts (all_places (λ n. same_number ((names_of i).spawned (func_address n)) (p.pointed (func_address n) thread_signature)) 0 i.funcs) (pointed_pass i p t thread_signature 1 false) threads).1 in
         let w = pointed_whole i p t told notes typs a n thread_signature 1 false passing e in
         let l = (told.pointed a n thread_signature e).1 in
-        record { body = w.body; there = w.there; gives = w.gives_so ∙ sym other; takes = w.takes; starts = refl; ends = refl; room = has_room id (func_of i p t n).size (frame_within n l) }
+        record { body = w.body; there = w.there; gives = w.gives_so ∙ sym other; takes = w.takes; starts = refl; ends = refl; room = has_room id (func_of p n).size (frame_within n l) }
 
 pub linked_where_agreed : (i : ImageView) (g : Given) → agrees i g ≡ true → AreLinked i g
 linked_where_agreed i g h b notes typs checked = record {

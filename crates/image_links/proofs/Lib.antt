@@ -1,3 +1,6 @@
+mod Spellings
+mod Bases
+mod Results
 pub mod Found
 pub mod Looked
 pub mod Linking

@@ -68,14 +68,14 @@ module _ (i : ImageView) (p : Program) (t : TypedProgram) (told : Told i p t) (n
   abbrev book : Book
   book = book_of i p t notes typs
 
-  frame_same : (n : ℕ) → (names_of i).frame n ≡ (func_of i p t n).size
+  frame_same : (n : ℕ) → (names_of i).frame n ≡ (func_of p n).size
   frame_same n = by_func (slice_get i.funcs n) refl
     where
       by_func : (o : Option ImageFuncView) → slice_get i.funcs n ≡ o → option_map_or (λ (f : ImageFuncView). f.frame) o 0 ≡ (unwrap_or (p.func n) no_func).size
       by_func None is = ap (λ (z : Option Func). (unwrap_or z no_func).size) (sym (told.past n is))
       by_func (Some f) is = let s = told.there n f is in s.frame ∙ ap (λ (z : Option Func). (unwrap_or z no_func).size) (sym s.is)
 
-  stops_same : (n : ℕ) → (names_of i).no_except n ≡ (func_of i p t n).stops
+  stops_same : (n : ℕ) → (names_of i).no_except n ≡ (func_of p n).stops
   stops_same n = by_func (slice_get i.funcs n) refl
     where
       by_func : (o : Option ImageFuncView) → slice_get i.funcs n ≡ o → option_map_or (λ (f : ImageFuncView). f.no_except) o false ≡ (unwrap_or (p.func n) no_func).stops
@@ -89,7 +89,7 @@ module _ (i : ImageView) (p : Program) (t : TypedProgram) (told : Told i p t) (n
       by_func None is = ap is_safe (told.past n is)
       by_func (Some f) is = let s = told.there n f is in ap is_safe s.is ∙ sym s.safe
 
-  func_is : (n : ℕ) (safe : Bool) (body : BodyView) → (names_of i).body n safe ≡ Some body → p.func n ≡ Some (func_of i p t n)
+  func_is : (n : ℕ) (safe : Bool) (body : BodyView) → (names_of i).body n safe ≡ Some body → p.func n ≡ Some (func_of p n)
   func_is n safe body e =
       let f = body_found i n safe body e in
       let s = told.there n f.0 f.1 in
@@ -126,16 +126,16 @@ module _ (i : ImageView) (p : Program) (t : TypedProgram) (told : Told i p t) (n
   method_is s class slot a n h e =
       let at = told.slotted a class slot n e in
       let found : p.slot (class_address at.0) class slot ≡ Some n = ap (λ z. p.slot z class slot) (sym at.1) ∙ e in
-      number_same ((names_of i).called s (func_address n)) (Some n) (ap (λ o. is_of_type i p t s o) (sym found) ∙ all_first (λ d. is_of_type i p t s (p.slot (class_address d) class slot)) i.classes at.0 h at.2)
+      number_same ((names_of i).called s (func_address n)) (Some n) (ap (λ o. is_of_type i s o) (sym found) ∙ all_first (λ d. is_of_type i s (p.slot (class_address d) class slot)) i.classes at.0 h at.2)
 
-  names_are : (n : ℕ) (safe : Bool) → AreNames p (func_of i p t n) (type_number i p t) (names_of i) ((names_of i).numbering n) (table_of i p t (func_of i p t n).unit (typs n safe))
+  names_are : (n : ℕ) (safe : Bool) → AreNames p (func_of p n) (type_number i p t) (names_of i) ((names_of i).numbering n) (table_of i p t (func_of p n).unit (typs n safe))
   names_are n safe = record {
-    globals = λ s m e. sym (eqb-true (p.global (func_of i p t n).unit m) (global_address s) (first_is (λ m. p.global (func_of i p t n).unit m == global_address s) 0 (globals_in t (func_of i p t n).unit) m e));
-    functions = λ s m e. ap func_address (sym (function_is (func_of i p t n).unit s m e).1);
-    classes = λ s c e. sym (eqb-true (p.table c) (class_address s) (class_is (λ c. p.table c == class_address s) (classes_in t (func_of i p t n).unit) c e));
+    globals = λ s m e. sym (eqb-true (p.global (func_of p n).unit m) (global_address s) (first_is (λ m. p.global (func_of p n).unit m == global_address s) 0 (globals_in t (func_of p n).unit) m e));
+    functions = λ s m e. ap func_address (sym (function_is (func_of p n).unit s m e).1);
+    classes = λ s c e. sym (eqb-true (p.table c) (class_address s) (class_is (λ c. p.table c == class_address s) (classes_in t (func_of p n).unit) c e));
     types = λ s typ e. sym (eqb-true (type_number i p t typ) s (typ_is (λ typ. type_number i p t typ == s) (typs n safe) typ e));
     addresses = λ m. refl;
-    slots = λ s c e a slot. told.slots (func_of i p t n).unit s c e a slot;
+    slots = λ s c e a slot. told.slots (func_of p n).unit s c e a slot;
     spawned = λ a. spawned_same a;
     signatures = λ s sig e a. signature_same s sig e a;
     methods = λ s class slot a m e f. method_is s class slot a m e f;
@@ -145,10 +145,10 @@ module _ (i : ImageView) (p : Program) (t : TypedProgram) (told : Told i p t) (n
 
   whole_by : (n count : ℕ) (gives : Bool) → passes_as i p t count gives (Some n) ≡ true → Whole (names_of i) book n count gives
   whole_by n count gives e =
-      let a = and_parts (nat_lt n (length i.funcs)) ((func_takes i p t n == count) && flag_eq (func_gives i p t n) gives) e in
-      let c = and_parts (func_takes i p t n == count) (flag_eq (func_gives i p t n) gives) a.1 in
+      let a = and_parts (nat_lt n (length i.funcs)) ((func_takes p n == count) && flag_eq (func_gives i n) gives) e in
+      let c = and_parts (func_takes p n == count) (flag_eq (func_gives i n) gives) a.1 in
       let body = plain_is n (ltb-true n (length i.funcs) a.0) in
-      record { body = body.0; there = body.1; takes = eqb-true (func_takes i p t n) count c.0; gives_so = flag_same (func_gives i p t n) gives c.1 }
+      record { body = body.0; there = body.1; takes = eqb-true (func_takes p n) count c.0; gives_so = flag_same (func_gives i n) gives c.1 }
 
   pub pointed_whole : (a n : ℕ) (sig : Signature) (count : ℕ) (gives : Bool) → pointed_pass i p t sig count gives ≡ true → p.pointed a sig ≡ Some n → Whole (names_of i) book n count gives
   pointed_whole a n sig count gives h e =
@@ -184,8 +184,8 @@ module _ (i : ImageView) (p : Program) (t : TypedProgram) (told : Told i p t) (n
     one_type = (typ void false false, void_alike);
     checked = λ n safe body e. checked n safe body e;
     names = λ n safe. names_are n safe;
-    called = λ n safe name callee e. sym (function_is (func_of i p t n).unit name callee e).1;
-    plain_there = λ n safe name callee e. let f = function_is (func_of i p t n).unit name callee e in subst (λ z. (body : BodyView) × ((names_of i).body z false ≡ Some body)) (sym f.1) (plain_is name f.0);
+    called = λ n safe name callee e. sym (function_is (func_of p n).unit name callee e).1;
+    plain_there = λ n safe name callee e. let f = function_is (func_of p n).unit name callee e in subst (λ z. (body : BodyView) × ((names_of i).body z false ≡ Some body)) (sym f.1) (plain_is name f.0);
     pointed = λ a n sig count gives h e. pointed_whole a n sig count gives h e;
     slotted = λ a class slot n count gives h e. slotted_whole a class slot n count gives h e;
     safe_bodies = λ n. safe_same n;

@@ -60,12 +60,14 @@ module _ (i : ImageView) (g : Given) where
   units_agree xs = list_all (λ (x : TypedUnit). definitions_agree x.classes) xs
 
   -- the functions that threads may start in
+  abbrev pub spawned_agree : Bool
+  spawned_agree = all_places (λ n. same_number ((names_of i).spawned (func_address n)) (program.pointed (func_address n) thread_signature)) 0 i.funcs
+
   abbrev pub threads_agree : Bool
-  threads_agree = all_places (λ n. same_number ((names_of i).spawned (func_address n)) (program.pointed (func_address n) thread_signature)) 0 i.funcs
-      && pointed_pass i program (typed g) thread_signature 1 false
+  threads_agree = spawned_agree && pointed_pass i program (typed g) thread_signature 1 false
 
   abbrev pub main_agrees : Bool
-  main_agrees = (i.main == program.main) && ((func_takes i program (typed g) i.main == 0) && func_gives i program (typed g) i.main)
+  main_agrees = (i.main == program.main) && ((func_takes program i.main == 0) && func_gives i i.main)
 
   -- equal numbers of functions and of classes, which have 32 bits
   abbrev pub counts_agree : Bool

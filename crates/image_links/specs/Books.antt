@@ -61,31 +61,36 @@ no_func = record { unit = 0; size = 0; places = []; words = []; stops = false; s
 abbrev pub no_body : BodyView
 no_body = record { code = []; rows = []; lines = [] }
 
+-- ---- functions
+
+abbrev pub func_of : Program → ℕ → Func
+func_of p n = unwrap_or (p.func n) no_func
+
+-- how many words a function takes, and whether it hands back a word
+abbrev pub func_takes : Program → ℕ → ℕ
+func_takes p n = length (func_of p n).words
+
+abbrev pub func_gives : ImageView → ℕ → Bool
+func_gives i n = option_map_or (λ (f : ImageFuncView). gives_of f.ty == 1) (slice_get i.funcs n) false
+
+-- what was found, if anything, is of the type with this number
+abbrev pub is_of_type : ImageView → (s : ℕ) → Option ℕ → Bool
+is_of_type i s None = true
+is_of_type i s (Some n) = same_number ((names_of i).called s (func_address n)) (Some n)
+
 module _ (i : ImageView) (p : Program) (t : TypedProgram) where
   -- the number of a type in the image, and one that no type has where it is not there
   abbrev pub type_number : Typ → ℕ
-  type_number typ = spelling_place (spelled p.classes (form_in typ)) i.types
+  type_number ty = spelling_place (spelled p.classes (form_in ty)) i.types
 
   -- the types of which image and program say alike whether they cancel
   abbrev pub cancels_alike : Typ → Bool
-  cancels_alike typ = flag_eq ((names_of i).cancels (type_number typ)) (cancels typ)
-
-  -- ---- functions
-
-  abbrev pub func_of : ℕ → Func
-  func_of n = unwrap_or (p.func n) no_func
-
-  -- how many words a function takes, and whether it hands back a word
-  abbrev pub func_takes : ℕ → ℕ
-  func_takes n = length (func_of n).words
-
-  abbrev pub func_gives : ℕ → Bool
-  func_gives n = option_map_or (λ (f : ImageFuncView). gives_of f.ty == 1) (slice_get i.funcs n) false
+  cancels_alike ty = flag_eq ((names_of i).cancels (type_number ty)) (cancels ty)
 
   -- what was found, if anything, is a function of the image that takes so many words, and hands back a word or none
   abbrev pub passes_as : (count : ℕ) (gives : Bool) → Option ℕ → Bool
   passes_as count gives None = true
-  passes_as count gives (Some n) = nat_lt n (length i.funcs) && ((func_takes n == count) && flag_eq (func_gives n) gives)
+  passes_as count gives (Some n) = nat_lt n (length i.funcs) && ((func_takes p n == count) && flag_eq (func_gives i n) gives)
 
   -- all functions that addresses of functions find by a type do
   abbrev pub pointed_pass : Signature → (count : ℕ) → (gives : Bool) → Bool
@@ -111,19 +116,15 @@ module _ (i : ImageView) (p : Program) (t : TypedProgram) where
 
   -- the type with this number among some that are given
   abbrev pub type_of : List Typ → ℕ → Option Typ
-  type_of typs s = first_typ (λ typ. type_number typ == s) typs
+  type_of typs s = first_typ (λ ty. type_number ty == s) typs
 
   -- the functions of the type with this number are those of the type
   abbrev pub is_signature : ℕ → Signature → Bool
   is_signature s sig = all_places (λ n. same_number ((names_of i).called s (func_address n)) (p.pointed (func_address n) sig)) 0 i.funcs
 
   -- the functions that classes have in a slot are of the type with this number
-  abbrev pub is_of_type : (s : ℕ) → Option ℕ → Bool
-  is_of_type s None = true
-  is_of_type s (Some n) = same_number ((names_of i).called s (func_address n)) (Some n)
-
   abbrev pub is_slot : (s class slot : ℕ) → Bool
-  is_slot s class slot = all_places (λ d. is_of_type s (p.slot (class_address d) class slot)) 0 i.classes
+  is_slot s class slot = all_places (λ d. is_of_type i s (p.slot (class_address d) class slot)) 0 i.classes
 
   abbrev pub table_of : (unit : ℕ) → List Typ → Table
   table_of u typs = record {
@@ -142,10 +143,10 @@ module _ (i : ImageView) (p : Program) (t : TypedProgram) where
 
   abbrev pub book_of : (notes : ℕ → Bool → List Note) → (typs : ℕ → Bool → List Typ) → Book
   book_of notes typs = record {
-    held = λ n safe. record { number = n; safe = safe; func = func_of n; body = body_of n safe; rows = (body_of n safe).rows; notes = notes n safe; table = table_of (func_of n).unit (typs n safe) };
-    gives = func_gives;
-    takes = func_takes;
-    stops = λ n. (func_of n).stops;
+    held = λ n safe. record { number = n; safe = safe; func = func_of p n; body = body_of n safe; rows = (body_of n safe).rows; notes = notes n safe; table = table_of (func_of p n).unit (typs n safe) };
+    gives = λ n. func_gives i n;
+    takes = λ n. func_takes p n;
+    stops = λ n. (func_of p n).stops;
     numbers = type_number;
     thrown = cancels_alike;
     takes_as = pointed_pass;
