@@ -1,10 +1,11 @@
 // Data members (C++14 9.2).
 
-ghost use Rattle.std.specs.Prelude.{◌≡◌, ◌++◌, ◌∷◌, [], IfOk, OnOk, List, map, length};
+ghost use Rattle.std.specs.Prelude.{◌≡◌, ◌++◌, ◌∷◌, [], IfOk, OnOk, List, map, length, slice_get};
 ghost use Rattle.cpp_types.specs.Typ.{typ_of};
 ghost use Rattle.cpp_types.specs.Class.{member_of};
 ghost use Rattle.elab_init.specs.cpp_tree.Typing.{form_in};
 ghost use Rattle.elab_init.specs.elab_ctx.Ctx.{ctx_of, Work, func_of};
+ghost use Rattle.elab_init.specs.elab_ctx.Places.{passes};
 ghost use Rattle.elab_init.specs.elab_ctx.Says.{Tells};
 ghost use Rattle.elab_init.specs.elab_rules.Objects.{element_of};
 ghost use Rattle.elab_init.specs.elab_rules.Types.{is_abstract_type};
@@ -16,7 +17,7 @@ ghost use Rattle.class_members.specs.Parts.{fits_member, is_named};
 use crate::lists::keep_member;
 use crate::records::Members;
 use cpp_types::{At, MemberRec, Shape, Ty, copy};
-use elab_init::below::{ElabFault, Env, FuncDecl, IllRule};
+use elab_init::below::{ElabFault, Env, FuncDecl, Functions, IllRule};
 use elab_init::{element_type, ill};
 use elab_sizes::typ_sized;
 use elab_types::types::{has_auto, is_abstract, is_complete_type};
@@ -90,11 +91,22 @@ fn is_function_named(found: &FuncDecl, class: u32, name: &[u8]) -> bool
     }
 }
 
-fn is_among(funcs: &[FuncDecl], class: u32, name: &[u8]) -> bool
+// Whether the function at a place is a member function of a class with a name.
+fn is_named_at(funcs: &Functions, place: u32, class: u32, name: &[u8]) -> bool
+    ensures { result ≡ passes (λ f. is_named class name.now (func_of f)) (slice_get funcs.now place) }
+{
+    match funcs.get(place as usize) {
+        Some(found) => is_function_named(found, class, name),
+        None => false,
+    }
+}
+
+fn is_among(funcs: &Functions, class: u32, name: &[u8]) -> bool
     ensures { result ≡ has_function_of class name.now (map func_of funcs.now) }
 {
-    for found in funcs {
-        if is_function_named(found, class, name) {
+    let members = funcs.of_class(class);
+    for place in members {
+        if is_named_at(funcs, *place, class, name) {
             return true;
         }
     }

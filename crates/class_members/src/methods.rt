@@ -1,10 +1,11 @@
 // Member functions, constructors and destructors (C++14 9.3, 12.1, 12.4).
 
-ghost use Rattle.std.specs.Prelude.{◌≡◌, IfOk, List, map, is_some, option_map};
+ghost use Rattle.std.specs.Prelude.{◌≡◌, IfOk, List, map, is_some, option_map, slice_get};
 ghost use Rattle.cpp_types.specs.Typ.{signature_of};
 ghost use Rattle.cpp_types.specs.Class.{function_of, member_of};
 ghost use Rattle.elab_init.specs.cpp_tree.Units.{param_of};
 ghost use Rattle.elab_init.specs.elab_ctx.Ctx.{ctx_of, func_of, Work};
+ghost use Rattle.elab_init.specs.elab_ctx.Places.{passes, first_among};
 ghost use Rattle.elab_init.specs.elab_ctx.Says.{Tells};
 ghost use Rattle.elab_init.specs.elab_rules.Names.{same_variable};
 ghost use Rattle.elab_init.specs.elab_rules.Statements.{Body};
@@ -23,7 +24,7 @@ use crate::overriding::{
 use crate::records::{Definition, Header, Home, Marks, Members, Storage};
 use crate::sizes::{header_sized, text_sized};
 use cpp_types::{FuncRec, MemberRec, Safety, copy, copy_function};
-use elab_init::below::{ElabFault, Env, FuncDecl, IllRule, Linkage, TParam};
+use elab_init::below::{ElabFault, Env, FuncDecl, Functions, IllRule, Linkage, TParam};
 use elab_init::ill;
 use elab_types::{Parameter, Qualifiers};
 use std::alloc::{AllocError, Global};
@@ -170,17 +171,44 @@ fn is_same_function(header: &Header, found: &FuncDecl) -> bool
         && same_flag(found.rec.is_const, header.qualifiers.is_const)
 }
 
-// Whether the function was declared before.
-fn is_declared(funcs: &[FuncDecl], header: &Header) -> bool
-    ensures { result ≡ is_some (first_from (is_same_function_of (header_of header.now)) 0 (map func_of funcs.now)) }
+// Whether the function at a place is the one that is declared.
+fn is_same_at(funcs: &Functions, place: u32, header: &Header) -> bool
+    ensures { result ≡ passes (λ f. is_same_function_of (header_of header.now) (func_of f)) (slice_get funcs.now place) }
 {
-    for (i, found) in funcs.iter().enumerate() {
-        let _ = i;
-        if is_same_function(header, found) {
-            return true;
+    match funcs.get(place as usize) {
+        Some(found) => is_same_function(header, found),
+        None => false,
+    }
+}
+
+// The places of the functions of the same class, or of the same name at file scope.
+fn places_like<'a>(funcs: &'a Functions, header: &Header) -> &'a [u32]
+    ensures { first_among (λ f. is_same_function_of (header_of header.now) (func_of f)) funcs.now result.now ≡ first_from (is_same_function_of (header_of header.now)) 0 (map func_of funcs.now) }
+{
+    match header.class {
+        Some(class) => funcs.of_class(class),
+        None => funcs.of_name(&header.name),
+    }
+}
+
+/// The place of the function that is declared, if it was declared before.
+pub fn first_same(funcs: &Functions, header: &Header) -> Option<u32>
+    ensures { result ≡ first_from (is_same_function_of (header_of header.now)) 0 (map func_of funcs.now) }
+{
+    let places = places_like(funcs, header);
+    for place in places {
+        if is_same_at(funcs, *place, header) {
+            return Some(*place);
         }
     }
-    false
+    None
+}
+
+// Whether the function was declared before.
+fn is_declared(funcs: &Functions, header: &Header) -> bool
+    ensures { result ≡ is_some (first_from (is_same_function_of (header_of header.now)) 0 (map func_of funcs.now)) }
+{
+    first_same(funcs, header).is_some()
 }
 
 fn definition_sized(header: &Header, definition: &Option<Definition>) -> Result<bool, ElabFault>

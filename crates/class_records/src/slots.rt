@@ -1,19 +1,19 @@
 // The functions of a class in its record, and its slots (C++14 10.3).
 
-ghost use Rattle.std.specs.Prelude.{◌≡◌, ◌&&◌, ◌++◌, ◌∷◌, [], Some, is_none, IfOk, OnOk, map};
+ghost use Rattle.std.specs.Prelude.{◌≡◌, ◌&&◌, ◌++◌, ◌∷◌, [], Some, is_none, IfOk, OnOk, map, slice_get};
 ghost use Rattle.cpp_types.specs.Class.{classes_of, function_of};
 ghost use Rattle.elab_init.specs.cpp_tree.Units.{slot_of as slot_shown};
 ghost use Rattle.elab_init.specs.elab_ctx.Ctx.{ctx_of, func_of};
 ghost use Rattle.elab_init.specs.elab_rules.Classes.{own_functions as own_functions_of, slot_of as slot_of_of, overrider_from, overriding as overriding_of, new_slots as new_slots_of, slots_of as slots_of_of, slot_function as slot_function_of, same_virtual as same_virtual_of, overridden as overridden_of};
 ghost use Rattle.class_members.specs.Shown.{home_of};
+ghost use Rattle.class_records.specs.Own.{declared_in};
 
 use class_members::overriding::{
     base_slots, is_dynamic, is_safe, overridden, same_virtual, slot_function,
 };
 use class_members::records::Home;
-use class_specials::places::is_member;
 use cpp_types::{ClassRec, FuncRec, copy_function};
-use elab_init::below::{Env, FuncDecl, SlotRec};
+use elab_init::below::{Env, Functions, SlotRec};
 use std::alloc::{AllocError, Global};
 
 fn keep_record(list: &mut Vec<FuncRec>, function: FuncRec) -> Result<(), AllocError>
@@ -50,28 +50,31 @@ fn record_copy(alloc: Global, found: &FuncRec) -> Result<FuncRec, AllocError>
     })
 }
 
-// One more function of a class, where it is one of it.
+// One more function, that at a place.
 fn keep_own(
     alloc: Global,
     list: &mut Vec<FuncRec>,
-    class: u32,
-    found: &FuncDecl,
+    funcs: &Functions,
+    place: u32,
 ) -> Result<(), AllocError>
-    ensures { OnOk result (map function_of list.new.items ≡ map function_of list.old.items ++ own_functions_of class (func_of found.now ∷ [])) }
+    ensures { OnOk result (map function_of list.new.items ≡ map function_of list.old.items ++ declared_in (slice_get funcs.now place)) }
 {
-    if !is_member(found, class) {
-        return Ok(());
+    match funcs.get(place as usize) {
+        Some(found) => {
+            let copied = record_copy(alloc, &found.rec)?;
+            keep_record(list, copied)
+        }
+        None => Ok(()),
     }
-    let copied = record_copy(alloc, &found.rec)?;
-    keep_record(list, copied)
 }
 
-fn own_among(alloc: Global, funcs: &[FuncDecl], class: u32) -> Result<Vec<FuncRec>, AllocError>
+fn own_among(alloc: Global, funcs: &Functions, class: u32) -> Result<Vec<FuncRec>, AllocError>
     ensures { IfOk result (λ v. map function_of v.items ≡ own_functions_of class (map func_of funcs.now)) }
 {
+    let members = funcs.of_class(class);
     let mut list = Vec::new(alloc);
-    for found in funcs {
-        keep_own(alloc, &mut list, class, found)?;
+    for place in members {
+        keep_own(alloc, &mut list, funcs, *place)?;
     }
     Ok(list)
 }

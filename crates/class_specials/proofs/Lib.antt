@@ -1,3 +1,4 @@
 pub mod Defaults
 pub mod Firsts
 pub mod Singles
+pub mod Wanted

@@ -1,12 +1,13 @@
 // What holds of the parts of a class (C++14 12.1, 12.4, 12.8).
 
-ghost use Rattle.std.specs.Prelude.{◌≡◌, ◌&&◌, ◌||◌, not, ℕ, IfOk, map};
+ghost use Rattle.std.specs.Prelude.{◌≡◌, ◌&&◌, ◌||◌, not, ℕ, IfOk, map, slice_get};
 ghost use Rattle.std.specs.List.{list_all, list_any};
 ghost use Rattle.cpp_types.specs.Typ.{typ_of};
 ghost use Rattle.cpp_types.specs.Class.{Member, member_of, held};
 ghost use Rattle.cpp_types.specs.Conversion.{volatile_of};
 ghost use Rattle.elab_init.specs.cpp_tree.Typing.{form_in};
 ghost use Rattle.elab_init.specs.elab_ctx.Ctx.{ctx_of, func_of, special_of, Func};
+ghost use Rattle.elab_init.specs.elab_ctx.Places.{passes};
 ghost use Rattle.elab_init.specs.elab_rules.Initialising.{same_number};
 ghost use Rattle.elab_init.specs.elab_rules.Objects.{traits_at as traits_at_of};
 ghost use Rattle.elab_init.specs.elab_rules.Names.{is_const_typ};
@@ -20,7 +21,7 @@ use class_members::overriding::base_slots;
 use class_members::records::Home;
 use cpp_types::copyability::held_class;
 use cpp_types::{MemberRec, Shape, Ty};
-use elab_init::below::{Env, FuncDecl, Special, Traits, function_at};
+use elab_init::below::{Env, FuncDecl, Functions, Special, Traits, function_at};
 use elab_init::{element_type, traits_at};
 use std::alloc::{AllocError, Global};
 
@@ -385,11 +386,21 @@ fn is_virtual_member(found: &FuncDecl, class: u32) -> bool
     is_member(found, class) && found.rec.is_virtual
 }
 
-fn has_no_virtual(funcs: &[FuncDecl], class: u32) -> bool
+fn is_virtual_at(funcs: &Functions, place: u32, class: u32) -> bool
+    ensures { result ≡ passes (λ f. same_number class (func_of f).class && (func_of f).declared.is_virtual) (slice_get funcs.now place) }
+{
+    match funcs.get(place as usize) {
+        Some(found) => is_virtual_member(found, class),
+        None => false,
+    }
+}
+
+fn has_no_virtual(funcs: &Functions, class: u32) -> bool
     ensures { result ≡ not (list_any (λ (f : Func). same_number class f.class && f.declared.is_virtual) (map func_of funcs.now)) }
 {
-    for found in funcs {
-        if is_virtual_member(found, class) {
+    let members = funcs.of_class(class);
+    for place in members {
+        if is_virtual_at(funcs, *place, class) {
             return false;
         }
     }

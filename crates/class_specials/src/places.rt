@@ -1,11 +1,12 @@
 // Special members that are written, by their places among the functions of the unit (C++14 clause 12).
 
-ghost use Rattle.std.specs.Prelude.{◌≡◌, false, IfOk, Some, map};
+ghost use Rattle.std.specs.Prelude.{◌≡◌, false, IfOk, map, slice_get};
 ghost use Rattle.cpp_types.specs.Typ.{typ_of, typs_of, signature_of, typ, class as class_form, none as no_typs, more as and_typ};
 ghost use Rattle.cpp_types.specs.Equal.{typ_eq, typs_eq};
 ghost use Rattle.cpp_types.specs.Trivial.{is_copy_constructor as is_copy_constructor_of};
 ghost use Rattle.cpp_types.specs.Class.{function_of};
 ghost use Rattle.elab_init.specs.elab_ctx.Ctx.{ctx_of, func_of};
+ghost use Rattle.elab_init.specs.elab_ctx.Places.{passes};
 ghost use Rattle.elab_init.specs.elab_rules.Initialising.{signature_parameters, is_constructor as is_constructor_of, same_number as same_number_of};
 ghost use Rattle.elab_init.specs.elab_rules.Functions.{first_from};
 ghost use Rattle.elab_init.specs.elab_rules.Classes.{own_reference, is_copy_from as is_copy_from_of, written_copy as written_copy_of};
@@ -16,7 +17,7 @@ use class_members::overriding::{is_destructor_name, same_flag};
 use class_members::records::Home;
 use cpp_types::copyability::{is_name, takes_only};
 use cpp_types::{FnTy, FuncRec, Shape, Ty, equal_lists};
-use elab_init::below::{Env, FuncDecl, FuncKind};
+use elab_init::below::{Env, FuncDecl, FuncKind, Functions};
 use std::alloc::AllocError;
 
 /// What function is looked for.
@@ -147,31 +148,33 @@ fn is_wanted(what: Wanted, home: &Home, found: &FuncDecl) -> bool
     }
 }
 
-fn some_place(place: usize) -> Result<Option<u32>, AllocError>
-    ensures { IfOk result (λ o. o ≡ Some place) }
+// Whether the function at a place is the one that is looked for.
+fn is_wanted_at(funcs: &Functions, place: u32, home: &Home, what: Wanted) -> bool
+    ensures { result ≡ passes (λ f. is_wanted_of what (home_of home.now) (func_of f)) (slice_get funcs.now place) }
 {
-    let Ok(place) = u32::try_from(place) else {
-        return Err(AllocError);
-    };
-    Ok(Some(place))
+    match funcs.get(place as usize) {
+        Some(found) => is_wanted(what, home, found),
+        None => false,
+    }
 }
 
-fn first_place(funcs: &[FuncDecl], home: &Home, what: Wanted) -> Result<Option<u32>, AllocError>
-    ensures { IfOk result (λ o. o ≡ first_from (is_wanted_of what (home_of home.now)) 0 (map func_of funcs.now)) }
+fn first_place(funcs: &Functions, home: &Home, what: Wanted) -> Option<u32>
+    ensures { result ≡ first_from (is_wanted_of what (home_of home.now)) 0 (map func_of funcs.now) }
 {
-    for (i, found) in funcs.iter().enumerate() {
-        if is_wanted(what, home, found) {
-            return some_place(i);
+    let members = funcs.of_class(home.number);
+    for place in members {
+        if is_wanted_at(funcs, *place, home, what) {
+            return Some(*place);
         }
     }
-    Ok(None)
+    None
 }
 
 /// The first function of a class that is looked for.
 pub fn written(env: &Env, home: &Home, what: Wanted) -> Result<Option<u32>, AllocError>
     ensures { IfOk result (λ o. o ≡ first_from (is_wanted_of what (home_of home.now)) 0 (ctx_of env.now).funcs) }
 {
-    first_place(&env.funcs, home, what)
+    Ok(first_place(&env.funcs, home, what))
 }
 
 /// The copy constructor that is written: one that takes `const` objects before others.

@@ -78,8 +78,8 @@ pub fn is_aggregate_class(env: &Env, class: u32) -> bool
     ensures { result ≡ is_aggregate_class_of (ctx_of env.now) class }
 {
     has_no_base(env, class)
-        && has_no_virtual(&env.funcs, class)
-        && has_no_constructor(&env.funcs, class)
+        && has_no_virtual(env.funcs.as_slice(), class)
+        && has_no_constructor(env.funcs.as_slice(), class)
 }
 
 /// Whether braces initialise objects of a type; arrays and aggregates.

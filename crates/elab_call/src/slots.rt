@@ -75,7 +75,7 @@ fn slots_at(env: &Env, class: u32) -> &[SlotRec]
 pub fn slot_of_function(env: &Env, class: u32, func: u32) -> Result<u32, AllocError>
     ensures { IfOk result (λ s. s ≡ slot_of_function_of (ctx_of env.now) class func) }
 {
-    let index = index_in_class(&env.funcs, class, func);
+    let index = index_in_class(env.funcs.as_slice(), class, func);
     match slot_at(slots_at(env, class), class, index)? {
         Some(slot) => Ok(slot),
         None => Ok(0),

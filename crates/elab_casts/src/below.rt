@@ -19,6 +19,7 @@ pub use elab_forms::below::EnumRec;
 pub use elab_forms::below::Env;
 pub use elab_forms::below::FuncDecl;
 pub use elab_forms::below::FuncKind;
+pub use elab_forms::below::Functions;
 pub use elab_forms::below::IllRule;
 pub use elab_forms::below::InitCell;
 pub use elab_forms::below::IntKind;

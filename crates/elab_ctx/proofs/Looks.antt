@@ -1,16 +1,13 @@
 -- What a list of typed nodes shows, as it grows: the node of a tree, and trees that stay.
-use Rattle.std.proofs.Common.{◌≡◌, ℕ, zero, suc, ◌+◌, ◌<◌, ◌≤◌, Bool, true, nat_lt, lt-ltb, List, [], ◌∷◌, ◌++◌, length, Some, refl, sym, ◌∙◌, subst, ap, arith, append_assoc, slice_get, append-nil, length-append, get_or, fold}
+use Rattle.std.proofs.Common.{◌≡◌, ℕ, zero, suc, ◌+◌, ◌<◌, true, nat_lt, lt-ltb, List, [], ◌∷◌, ◌++◌, length, Some, refl, sym, ◌∙◌, subst, ap, arith, append_assoc, slice_get, append-nil, length-append, get_or, fold}
 use Rattle.std.proofs.lemmas.List.{get_or_append_left, get_or_push}
 use Rattle.std.proofs.lemmas.Option.{slice_get-get_or}
 use Rattle.std.proofs.lemmas.Bool.{and_parts, ltb-true}
 use Rattle.cpp_tree.specs.cpp_types.Typ.{typ_of}
-use Rattle.cpp_tree.specs.cpp_types.declared.ranks.Cat.{Cat}
-use Rattle.cpp_tree.specs.cpp_types.declared.classes.At.{At}
-use Rattle.cpp_tree.specs.declared.kinds.TKind.{TKind}
 use Rattle.cpp_tree.specs.declared.arena.TNodeId.{TNodeId}
 use Rattle.cpp_tree.specs.declared.arena.TNode.{TNode}
-use Rattle.cpp_tree.specs.Trees.{Tree, node, Trees, none, more, kind_of, typ_in, cat_of, kids_of, literal}
-use Rattle.cpp_tree.specs.Arena.{tree_at, trees_at, with_node, are_below, Grows, Adds}
+use Rattle.cpp_tree.specs.Trees.{Tree, node, kind_of, typ_in, cat_of, kids_of, literal}
+use Rattle.cpp_tree.specs.Arena.{tree_at, trees_at, with_node, are_below, Grows}
 use Rattle.elab_ctx.specs.Says.{place_in, are_within}
 
 -- what a tree has of its node

@@ -1,5 +1,5 @@
 -- Classes whose objects have sizes.
-use Rattle.std.proofs.Common.{◌≡◌, ℕ, Bool, true, false, List, Option, Some, None, is_some, refl, sym, ◌∙◌, ap}
+use Rattle.std.proofs.Common.{◌≡◌, ℕ, true, List, Option, Some, None, is_some, refl, sym, ◌∙◌, ap}
 use Rattle.cpp_tree.specs.cpp_types.Typ.{Form}
 use Rattle.cpp_tree.specs.cpp_types.Class.{Class, InOrder, completion_of, held_form}
 use Rattle.cpp_tree.specs.cpp_types.Order.{all_consistent}

@@ -1,5 +1,5 @@
 -- What is declared where a form stands, and what is made there, as plain data.
-use Rattle.std.specs.Prelude.{ℕ, Bool, List, [], ◌∷◌, ◌++◌, map, drop, length, Option, Some, None, option_map}
+use Rattle.std.specs.Prelude.{ℕ, Bool, List, [], ◌∷◌, ◌++◌, map, drop, length, Option, option_map}
 use Rattle.cpp_tree.specs.cpp_types.Typ.{Typ, typ_of}
 use Rattle.cpp_tree.specs.cpp_types.Class.{Class, Function, classes_of, function_of}
 use Rattle.cpp_tree.specs.cpp_types.declared.classes.At.{At}
@@ -185,7 +185,7 @@ abbrev pub closure_of : ClosureRec → Closure
 closure_of c = record { at = c.at; class = c.class; captures = map capture_of c.captures.items }
 
 abbrev pub ctx_of : Env → Ctx
-ctx_of e = record { source = e.source; scopes = e.scopes; types = map named_of e.types; classes = classes_of e.classes.items; traits = map traits_of e.traits.items; slots = map (λ slots. map slot_of slots.items) e.slots.items; defaults = map (default_of (trees_of e.default_nodes.items)) e.defaults.items; funcs = map func_of e.funcs.items; enumerators = map enumerator_of e.enumerators.items; variables = map variable_of e.variables.items; this = option_map this_of e.this; class = e.class; returns = returns_of e.returns; breaks = e.breaks; continues = e.continues; label = e.label; labels = labels_of e.labels; lambda = option_map lambda_of e.lambda; closures = map closure_of e.closures.items }
+ctx_of e = record { source = e.source; scopes = e.scopes; types = map named_of e.types; classes = classes_of e.classes.items; traits = map traits_of e.traits.items; slots = map (λ slots. map slot_of slots.items) e.slots.items; defaults = map (default_of (trees_of e.default_nodes.items)) e.defaults.items; funcs = map func_of e.funcs; enumerators = map enumerator_of e.enumerators.items; variables = map variable_of e.variables.items; this = option_map this_of e.this; class = e.class; returns = returns_of e.returns; breaks = e.breaks; continues = e.continues; label = e.label; labels = labels_of e.labels; lambda = option_map lambda_of e.lambda; closures = map closure_of e.closures.items }
 
 abbrev pub work_of : WorkRec → Work
 work_of w = record { frame = map typ_of w.frame.items; globals = map global_of w.globals.items }

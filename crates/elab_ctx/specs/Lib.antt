@@ -7,7 +7,9 @@ pub use Rattle.cpp_tree.specs.cpp_types as cpp_types
 pub use Rattle.cpp_tree.specs.tx_events as tx_events
 pub use Rattle.cpp_tree.specs.tx_ints as tx_ints
 pub mod Ctx
+pub mod Indexed
 pub mod Operands
+pub mod Places
 pub mod Says
 pub mod Sized
 pub mod Steps

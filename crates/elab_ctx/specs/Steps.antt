@@ -1,5 +1,5 @@
 -- Steps of elaboration that may be refused, and lists of them.
-use Rattle.std.specs.Prelude.{ℕ, Bool, true, false, List, [], ◌∷◌, Option, Some, None, Result, Ok, Err, slice_get, option_map, unwrap_or}
+use Rattle.std.specs.Prelude.{ℕ, Bool, true, false, List, [], Option, Some, None, Result, Ok, Err, slice_get, option_map, unwrap_or}
 use Rattle.cpp_lex.specs.Tokens.{Lexeme}
 use Rattle.cpp_ast.specs.Trees as syntax
 use Rattle.cpp_ast.specs.declared.arena.At.{At as SyntaxAt}

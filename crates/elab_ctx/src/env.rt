@@ -4,6 +4,7 @@ ghost use Rattle.std.specs.Prelude.{◌≡◌, true};
 ghost use Rattle.cpp_tree.specs.cpp_types.Class.{classes_of};
 ghost use Rattle.cpp_tree.specs.cpp_types.Order.{all_consistent};
 
+use crate::functions::Functions;
 use crate::type_names::TypeNames;
 use cpp_names::Scopes;
 use cpp_tree::below::{At, ClassRec, FuncRec, Ty};
@@ -169,7 +170,7 @@ pub struct Env {
     pub defaults: Vec<DefaultInit>,
     /// The nodes of the default initialisers.
     pub default_nodes: Vec<TNode>,
-    pub funcs: Vec<FuncDecl>,
+    pub funcs: Functions,
     pub enumerators: Vec<EnumRec>,
     /// The variables of the function at hand, in order of declaration.
     pub variables: Vec<Variable>,

@@ -3,9 +3,11 @@
 
 pub mod below;
 pub mod env;
+pub mod functions;
 pub mod lookups;
 pub mod nodes;
 pub mod operand;
+pub mod places;
 pub mod type_names;
 pub mod work;
 
@@ -13,6 +15,7 @@ pub use env::{
     Capture, Closure, DefaultInit, EnumRec, Env, FuncDecl, Label, Labels, Lambda, Returns, Special,
     This, Traits, Variable, Work,
 };
+pub use functions::Functions;
 pub use lookups::{class_at, completion, extent, function_at, size_of, traits_of_class};
 pub use nodes::{kids_at, node_at};
 pub use operand::Operand;

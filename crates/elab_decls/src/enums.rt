@@ -1,6 +1,6 @@
 // Enums as they are written (C++14 7.2).
 
-ghost use Rattle.std.specs.Prelude.{◌≡◌, ◌<◌, List, length, true, pos};
+ghost use Rattle.std.specs.Prelude.{◌≡◌, ◌<◌, List, length, true, pos, IfOk};
 ghost use Rattle.elab_expr.specs.cpp_lex.Tokens.{lexemes_of};
 ghost use Rattle.elab_expr.specs.cpp_ast.Orders.{are_below};
 ghost use Rattle.cpp_types.specs.declared.classes.At.{At as AtOf};
@@ -18,7 +18,6 @@ ghost use Rattle.elab_decls.specs.Says.{changed, counted};
 ghost use Rattle.elab_decls.specs.Enums.{valued_shown, found_value as found_value_of, written_value as written_value_of};
 
 use crate::names::{close_enum, count_enumerators, enum_named, enum_type, enumerator_made};
-use crate::scratch::copy_work;
 use cpp_types::At;
 use elab_expr::below::{
     ElabFault, Env, IllRule, NodeId, NodeKind, Nodes, Operand, TNode, Tokens, Work, arithmetic,
@@ -26,7 +25,9 @@ use elab_expr::below::{
     spelling, value, value_of_word,
 };
 use elab_expr::chosen_expression;
+use elab_growth::cut_back;
 use std::alloc::Global;
+use std::mem;
 
 /// The value of an enumerator, and where it stands.
 #[derive(Clone, Copy)]
@@ -55,21 +56,26 @@ fn operand_value(
     Ok(value_of_word(kind, word))
 }
 
-// The value that is written for an enumerator; what is made for it is not kept.
+// The value that is written for an enumerator; what is made for it is cut off again.
 fn written_value(
     alloc: Global,
     env: &Env,
-    work: &Work,
+    work: &mut Work,
     tokens: &Tokens,
     nodes: &Nodes,
     id: NodeId,
 ) -> Result<Valued, ElabFault>
     requires { id.0 < length nodes.now }
-    ensures { (at : AtOf) → Says valued_shown result (written_value_of (lexemes_of tokens.now) (ctx_of env.now) (work_of work.now) at (tree_at (syntax_of nodes.now) id)) }
+    ensures value { (at : AtOf) → Says valued_shown result (written_value_of (lexemes_of tokens.now) (ctx_of env.now) (work_of work.old) at (tree_at (syntax_of nodes.now) id)) }
+    ensures kept { IfOk result (λ v. work_of work.new ≡ work_of work.old) }
 {
-    let mut scratch = copy_work(alloc, work)?;
-    let o = chosen_expression(alloc, env, &env.closures, tokens, nodes, id, &mut scratch)?;
-    let value = operand_value(alloc, work, &mut scratch.nodes, o)?;
+    let frame = work.frame.len();
+    let globals = work.globals.len();
+    let before = mem::replace(&mut work.nodes, Vec::new(alloc));
+    let o = chosen_expression(alloc, env, &env.closures, tokens, nodes, id, work)?;
+    cut_back(work, frame, globals);
+    let mut own = mem::replace(&mut work.nodes, before);
+    let value = operand_value(alloc, work, &mut own, o)?;
     Ok(Valued { value, at: o.at })
 }
 
@@ -77,7 +83,7 @@ fn written_value(
 fn found_value(
     alloc: Global,
     env: &Env,
-    work: &Work,
+    work: &mut Work,
     tokens: &Tokens,
     nodes: &Nodes,
     parent: NodeId,
@@ -87,7 +93,8 @@ fn found_value(
 ) -> Result<Valued, ElabFault>
     requires within { parent.0 < length nodes.now }
     requires lower { are_below parent.0 ids.now ≡ true }
-    ensures { Says valued_shown result (found_value_of (lexemes_of tokens.now) (ctx_of env.now) (work_of work.now) at next (trees_at (syntax_of nodes.now) ids.now)) }
+    ensures value { Says valued_shown result (found_value_of (lexemes_of tokens.now) (ctx_of env.now) (work_of work.old) at next (trees_at (syntax_of nodes.now) ids.now)) }
+    ensures kept { IfOk result (λ v. work_of work.new ≡ work_of work.old) }
 {
     match first_kid(ids) {
         None => Ok(Valued { value: next, at }),
@@ -99,7 +106,7 @@ fn found_value(
 fn enumerator_declared(
     alloc: Global,
     env: &mut Env,
-    work: &Work,
+    work: &mut Work,
     tokens: &Tokens,
     nodes: &Nodes,
     id: NodeId,
@@ -108,7 +115,7 @@ fn enumerator_declared(
     next: i128,
 ) -> Result<i128, ElabFault>
     requires { id.0 < length nodes.now }
-    ensures { (bodies : List Body) → Says (counted (ctx_of env.new) (work_of work.now) bodies) result (enumerator_declared_of (lexemes_of tokens.now) scoped owner.now (counted (ctx_of env.old) (work_of work.now) bodies next) (tree_at (syntax_of nodes.now) id)) }
+    ensures { (bodies : List Body) → Says (counted (ctx_of env.new) (work_of work.new) bodies) result (enumerator_declared_of (lexemes_of tokens.now) scoped owner.now (counted (ctx_of env.old) (work_of work.old) bodies next) (tree_at (syntax_of nodes.now) id)) }
 {
     let node = node_at(nodes, id);
     let at = place(node.at);
@@ -124,7 +131,7 @@ fn enumerator_declared(
 fn enumerators_declared(
     alloc: Global,
     env: &mut Env,
-    work: &Work,
+    work: &mut Work,
     tokens: &Tokens,
     nodes: &Nodes,
     parent: NodeId,
@@ -134,7 +141,7 @@ fn enumerators_declared(
 ) -> Result<i128, ElabFault>
     requires within { parent.0 < length nodes.now }
     requires lower { are_below parent.0 ids.now ≡ true }
-    ensures { (bodies : List Body) → Says (counted (ctx_of env.new) (work_of work.now) bodies) result (enumerators_declared_of (lexemes_of tokens.now) scoped owner.now (counted (ctx_of env.old) (work_of work.now) bodies (pos 0)) (trees_at (syntax_of nodes.now) ids.now)) }
+    ensures { (bodies : List Body) → Says (counted (ctx_of env.new) (work_of work.new) bodies) result (enumerators_declared_of (lexemes_of tokens.now) scoped owner.now (counted (ctx_of env.old) (work_of work.old) bodies (pos 0)) (trees_at (syntax_of nodes.now) ids.now)) }
 {
     let mut next: i128 = 0;
     for id in ids {
@@ -147,7 +154,7 @@ fn enumerators_declared(
 fn enum_with(
     alloc: Global,
     env: &mut Env,
-    work: &Work,
+    work: &mut Work,
     tokens: &Tokens,
     nodes: &Nodes,
     parent: NodeId,
@@ -158,7 +165,7 @@ fn enum_with(
 ) -> Result<(), ElabFault>
     requires within { parent.0 < length nodes.now }
     requires lower { are_below parent.0 ids.now ≡ true }
-    ensures { (bodies : List Body) → Answers (changed (ctx_of env.new) (work_of work.now) bodies) result (enum_with_of (lexemes_of tokens.now) (changed (ctx_of env.old) (work_of work.now) bodies) at name.now scoped (trees_at (syntax_of nodes.now) ids.now)) }
+    ensures { (bodies : List Body) → Answers (changed (ctx_of env.new) (work_of work.new) bodies) result (enum_with_of (lexemes_of tokens.now) (changed (ctx_of env.old) (work_of work.old) bodies) at name.now scoped (trees_at (syntax_of nodes.now) ids.now)) }
 {
     enum_named(alloc, env, at, name, scoped)?;
     let from = count_enumerators(env)?;
@@ -172,7 +179,7 @@ fn enum_with(
 pub fn enum_declared(
     alloc: Global,
     env: &mut Env,
-    work: &Work,
+    work: &mut Work,
     tokens: &Tokens,
     nodes: &Nodes,
     parent: NodeId,
@@ -182,7 +189,7 @@ pub fn enum_declared(
 ) -> Result<(), ElabFault>
     requires within { parent.0 < length nodes.now }
     requires lower { are_below parent.0 ids.now ≡ true }
-    ensures { (bodies : List Body) → Answers (changed (ctx_of env.new) (work_of work.now) bodies) result (enum_declared_of (lexemes_of tokens.now) (changed (ctx_of env.old) (work_of work.now) bodies) at name.now (trees_at (syntax_of nodes.now) ids.now)) }
+    ensures { (bodies : List Body) → Answers (changed (ctx_of env.new) (work_of work.new) bodies) result (enum_declared_of (lexemes_of tokens.now) (changed (ctx_of env.old) (work_of work.old) bodies) at name.now (trees_at (syntax_of nodes.now) ids.now)) }
 {
     let Some(first) = first_kid(ids) else {
         return enum_with(

@@ -12,19 +12,19 @@ ghost use Rattle.cpp_types.specs.Class.{function_of};
 ghost use Rattle.elab_expr.specs.cpp_tree.Units.{param_of};
 ghost use Rattle.elab_expr.specs.elab_ctx.Ctx.{ctx_of, func_of};
 ghost use Rattle.elab_expr.specs.elab_ctx.Says.{Tells};
-ghost use Rattle.elab_expr.specs.elab_rules.Functions.{safety_of as safety_of_of, same_safety as same_safety_of, linkage_of as linkage_of_of, is_internal as is_internal_of, is_same_function as is_same_function_of, first_from, agrees as agrees_of, param_of as declared_param, function_record as function_record_of, new_function as new_function_of, main_fits as main_fits_of, is_main_type as is_main_type_of, is_none_typs, may_be_c as may_be_c_of, is_function_entity as is_function_entity_of, name_declared as name_declared_of, function_declared as function_declared_of, with_definition as with_definition_of};
+ghost use Rattle.elab_expr.specs.elab_rules.Functions.{safety_of as safety_of_of, same_safety as same_safety_of, linkage_of as linkage_of_of, is_internal as is_internal_of, agrees as agrees_of, param_of as declared_param, function_record as function_record_of, new_function as new_function_of, main_fits as main_fits_of, is_main_type as is_main_type_of, is_none_typs, may_be_c as may_be_c_of, is_function_entity as is_function_entity_of, name_declared as name_declared_of, function_declared as function_declared_of, with_definition as with_definition_of};
 ghost use Rattle.elab_expr.specs.elab_types.Shown.{Says, parameter_of, qualifiers_of};
 ghost use Rattle.class_members.specs.Shown.{Answers, header_of, storage_of};
 ghost use Rattle.elab_decls.specs.Says.{with_exceptions, words_fit as words_fit_of, newly_declared, placed_at};
 
 use crate::declarations::declare;
 use class_members::lists::{add_function, keep_param};
-use class_members::overriding::{same_flag, same_parameters};
-use class_members::{Header, Storage, header_sized};
+use class_members::overriding::same_flag;
+use class_members::{Header, Storage, first_same, header_sized};
 use cpp_types::{At, FnTy, FuncRec, Safety, Shape, Ty, copy, copy_function, equal_types};
 use elab_expr::below::{
     ElabFault, Entity, EntityKind, Env, FuncDecl, IllRule, IntKind, Linkage, OverrideRule,
-    Parameter, Qualifiers, TParam, ill, is_same_variable,
+    Parameter, Qualifiers, TParam, ill,
 };
 use std::alloc::{AllocError, Global};
 
@@ -66,31 +66,6 @@ fn is_internal(linkage: Linkage) -> bool
     ensures { result ≡ is_internal_of linkage }
 {
     matches!(linkage, Linkage::Internal)
-}
-
-// Whether a function is the one that is declared: its name, its class, its parameters and `const` (C++14 13.1).
-fn is_same_function(header: &Header, found: &FuncDecl) -> bool
-    ensures { result ≡ is_same_function_of (header_of header.now) (func_of found.now) }
-{
-    found.rec.name.as_slice() == header.name.as_slice()
-        && is_same_variable(found.class, header.class)
-        && same_parameters(&found.rec.ty, &header.ty)
-        && same_flag(found.rec.is_const, header.qualifiers.is_const)
-}
-
-/// The place of the function that is declared, if it was declared before.
-pub fn first_same(funcs: &[FuncDecl], header: &Header) -> Result<Option<u32>, AllocError>
-    ensures { IfOk result (λ o. o ≡ first_from (is_same_function_of (header_of header.now)) 0 (map func_of funcs.now)) }
-{
-    for (i, found) in funcs.iter().enumerate() {
-        if is_same_function(header, found) {
-            let Ok(place) = u32::try_from(i) else {
-                return Err(AllocError);
-            };
-            return Ok(Some(place));
-        }
-    }
-    Ok(None)
 }
 
 // Whether two functions give values of one type.
@@ -351,7 +326,7 @@ pub fn function_declared(
     main_fits(header)?;
     words_fit(header)?;
     header_sized(env, header)?;
-    match first_same(&env.funcs, header)? {
+    match first_same(&env.funcs, header) {
         Some(place) => {
             // It stands there.
             let Some(found) = env.funcs.get(place as usize) else {
@@ -376,11 +351,6 @@ pub fn define_function(
     ensures { OnOk result (ctx_of env.new ≡ with_definition_of (ctx_of env.old) place (header_of header.now) text.items closed_at) }
 {
     let params = params_from(alloc, &header.params)?;
-    if let Some(found) = env.funcs.get_mut(place as usize) {
-        found.is_defined = true;
-        found.params = params;
-        found.text = text;
-        found.closed_at = closed_at;
-    }
+    env.funcs.define(place as usize, params, text, closed_at);
     Ok(())
 }

@@ -16,7 +16,6 @@ ghost use Rattle.class_members.specs.Shown.{Answers, storage_of};
 ghost use Rattle.elab_decls.specs.Says.{definable as definable_of, celled as celled_of, global_made as global_made_of, state_of};
 
 use crate::declarations::{define_global, global_declarable, global_named, is_trivial_class};
-use crate::scratch::copy_types;
 use class_members::Storage;
 use cpp_types::{At, Cat, Ty, copy};
 use elab_braces::object_by;
@@ -24,6 +23,7 @@ use elab_expr::below::{
     ElabFault, Env, IllRule, NodeId, Nodes, TKind, TNode, TNodeId, Tokens, Work, add_leaf,
     class_number, element_type, first_kid, ill, is_complete_type,
 };
+use elab_expr::copy_types;
 use elab_globals::cells_of;
 use std::alloc::{AllocError, Global};
 

@@ -6,9 +6,8 @@ pub mod enums;
 pub mod functions;
 pub mod globals;
 pub mod names;
-mod scratch;
 
 pub use enums::enum_declared;
-pub use functions::{agrees, define_function, first_same, function_declared};
+pub use functions::{agrees, define_function, function_declared};
 pub use globals::global_declared;
 pub use names::alias_declared;

@@ -30,6 +30,7 @@ pub use elab_stmt::below::EntityKind;
 pub use elab_stmt::below::Env;
 pub use elab_stmt::below::FuncDecl;
 pub use elab_stmt::below::FuncKind;
+pub use elab_stmt::below::Functions;
 pub use elab_stmt::below::IllRule;
 pub use elab_stmt::below::IntKind;
 pub use elab_stmt::below::Kids;

@@ -18,6 +18,7 @@ pub use elab_rows::below::EnumRec;
 pub use elab_rows::below::Env;
 pub use elab_rows::below::FuncDecl;
 pub use elab_rows::below::FuncKind;
+pub use elab_rows::below::Functions;
 pub use elab_rows::below::IllRule;
 pub use elab_rows::below::InitCell;
 pub use elab_rows::below::IntKind;

@@ -6,7 +6,8 @@ pub mod declarators;
 pub mod expressions;
 mod forms;
 mod literals;
-mod scratch;
+pub mod scratch;
 
 pub use declarators::{declared, parameter, parameters, type_id, type_of_specifiers};
 pub use expressions::{chosen_expression, expression, operands};
+pub use scratch::{copy_types, copy_work};

@@ -8,7 +8,8 @@ ghost use Rattle.elab_rows.specs.elab_ctx.Ctx.{work_of};
 use elab_rows::below::{InitCell, TGlobal, Ty, Work, copy};
 use std::alloc::{AllocError, Global};
 
-fn copy_types(alloc: Global, types: &[Ty]) -> Result<Vec<Ty>, AllocError>
+/// The same types once more.
+pub fn copy_types(alloc: Global, types: &[Ty]) -> Result<Vec<Ty>, AllocError>
     ensures { IfOk result (λ v. map typ_of v.items ≡ map typ_of types.now) }
 {
     let mut copies = Vec::new(alloc);

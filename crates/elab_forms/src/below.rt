@@ -19,6 +19,7 @@ pub use elab_make::below::EnumRec;
 pub use elab_make::below::Env;
 pub use elab_make::below::FuncDecl;
 pub use elab_make::below::FuncKind;
+pub use elab_make::below::Functions;
 pub use elab_make::below::IllRule;
 pub use elab_make::below::InitCell;
 pub use elab_make::below::IntKind;

@@ -78,7 +78,7 @@ pub fn stands_in_slot(env: &Env, func: u32) -> bool
 {
     match class_of(env, func) {
         Some(class) => {
-            let index = index_in_class(&env.funcs, class, func);
+            let index = index_in_class(env.funcs.as_slice(), class, func);
             is_in_slot(&env.slots, class, index)
         }
         None => false,

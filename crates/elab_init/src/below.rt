@@ -5,8 +5,8 @@ pub use cpp_types::{
 };
 pub use elab_conv::below::{
     BinOp, BlockKind, Builtin, Cand, Capture, CellKind, ClassDef, Closure, DefaultInit, ElabFault,
-    Entity, EntityKind, EnumRec, Env, FuncDecl, FuncKind, IllRule, InitCell, IntKind, Label,
-    Labels, Lambda, LimitKind, Linkage, NameFault, Node, NodeId, NodeKind, Nodes, Operand,
+    Entity, EntityKind, EnumRec, Env, FuncDecl, FuncKind, Functions, IllRule, InitCell, IntKind,
+    Label, Labels, Lambda, LimitKind, Linkage, NameFault, Node, NodeId, NodeKind, Nodes, Operand,
     OverrideRule, Program, Returns, Scopes, SlotRec, Special, TFunc, TGlobal, TKind, TNode,
     TNodeId, TParam, This, Token, Tokens, Traits, TypeNames, Unit, UnitTree, Variable, Work,
     add_binary, add_item, add_leaf, add_node, add_unary, class_at, completion, convert,

@@ -1,6 +1,6 @@
 // Which function of several is meant (C++14 13.3).
 
-ghost use Rattle.std.specs.Prelude.{◌≡◌, ◌<◌, ◌^◌, ◌++◌, ◌∷◌, [], ◌&&◌, IfOk, OnOk, map, length, true, false, None, Some, if◌then◌else◌};
+ghost use Rattle.std.specs.Prelude.{◌≡◌, ◌<◌, ◌^◌, ◌++◌, ◌∷◌, [], ◌&&◌, IfOk, OnOk, map, length, slice_get, true, false, None, Some, if◌then◌else◌};
 ghost use Rattle.cpp_types.specs.Typ.{typ_of, typs_of, shape_form, typ, ref};
 ghost use Rattle.cpp_types.specs.Class.{classes_of};
 ghost use Rattle.elab_conv.specs.cpp_overload.Overload.{candidate_of, argument_of};
@@ -8,6 +8,7 @@ ghost use Rattle.elab_conv.specs.cpp_overload.Choosing.{chosen};
 ghost use Rattle.elab_conv.specs.cpp_tree.Arena.{trees_of};
 ghost use Rattle.elab_conv.specs.cpp_tree.Notation.{plain};
 ghost use Rattle.elab_conv.specs.elab_ctx.Ctx.{ctx_of, func_of, special_of};
+ghost use Rattle.elab_conv.specs.elab_ctx.Places.{passes};
 ghost use Rattle.elab_conv.specs.elab_ctx.Operands.{operand_in, operands_in, are_in};
 ghost use Rattle.elab_conv.specs.elab_ctx.Says.{Tells};
 ghost use Rattle.elab_conv.specs.elab_rules.Initialising.{argument, arguments, candidate, candidates_at, maker, func_at, owner_form, is_constructor, trivial_copy, copy_candidates, constructors as constructors_of, makers as makers_of, makes as makes_of, places_from, parameters_at as parameters_at_of, meant as meant_of};
@@ -15,8 +16,8 @@ ghost use Rattle.elab_conv.specs.elab_rules.Initialising.{argument, arguments, c
 use crate::types::traits_at;
 use cpp_types::{At, ClassRec, FnTy, Shape, Ty, copy, copy_function};
 use elab_conv::below::{
-    Arg, Cand, ElabFault, Env, FuncDecl, FuncKind, IllRule, NoBest, Operand, Special, TNode,
-    choose, function_at, node_at,
+    Arg, Cand, ElabFault, Env, FuncDecl, FuncKind, Functions, IllRule, NoBest, Operand, Special,
+    TNode, choose, function_at, node_at,
 };
 use std::alloc::{AllocError, Global};
 
@@ -141,13 +142,10 @@ fn makes(kind: FuncKind) -> bool
 }
 
 // Adds a place where a test holds.
-fn keep_if(list: &mut Vec<u32>, holds: bool, i: usize) -> Result<(), AllocError>
-    ensures { OnOk result (list.new.items ≡ (if holds then list.old.items ++ i ∷ [] else list.old.items)) }
+fn keep_if(list: &mut Vec<u32>, holds: bool, place: u32) -> Result<(), AllocError>
+    ensures { OnOk result (list.new.items ≡ (if holds then list.old.items ++ place ∷ [] else list.old.items)) }
 {
     if holds {
-        let Ok(place) = u32::try_from(i) else {
-            return Err(AllocError);
-        };
         list.push(place)?;
     }
     Ok(())
@@ -160,17 +158,28 @@ pub fn constructors(alloc: Global, env: &Env, class: u32) -> Result<Vec<u32>, Al
     places_of_constructors(alloc, &env.funcs, class)
 }
 
+// Whether the function at a place is a constructor of a class.
+fn constructs_at(funcs: &Functions, place: u32, class: u32) -> bool
+    ensures { result ≡ passes (λ f. is_constructor class (func_of f)) (slice_get funcs.now place) }
+{
+    match funcs.get(place as usize) {
+        Some(found) => constructs(found, class),
+        None => false,
+    }
+}
+
 fn places_of_constructors(
     alloc: Global,
-    funcs: &[FuncDecl],
+    funcs: &Functions,
     class: u32,
 ) -> Result<Vec<u32>, AllocError>
     ensures { IfOk result (λ places. places.items ≡ places_from (is_constructor class) 0 (map func_of funcs.now)) }
 {
+    let members = funcs.of_class(class);
     let mut list = Vec::new(alloc);
-    for (i, found) in funcs.iter().enumerate() {
-        let holds = constructs(found, class);
-        keep_if(&mut list, holds, i)?;
+    for place in members {
+        let holds = constructs_at(funcs, *place, class);
+        keep_if(&mut list, holds, *place)?;
     }
     Ok(list)
 }

@@ -6,7 +6,7 @@ use Rattle.elab_lambdas.specs.declared.undoing.Checkpoint.{Checkpoint}
 
 -- how much is known and made
 abbrev pub checkpoint_in : StateRec → Checkpoint
-checkpoint_in st = record { classes = length st.env.classes.items; traits = length st.env.traits.items; slots = length st.env.slots.items; funcs = length st.env.funcs.items; globals = length st.work.globals.items; bodies = length st.bodies.items }
+checkpoint_in st = record { classes = length st.env.classes.items; traits = length st.env.traits.items; slots = length st.env.slots.items; funcs = length st.env.funcs; globals = length st.work.globals.items; bodies = length st.bodies.items }
 
 -- only so much is left
 abbrev pub undone_to : Checkpoint → State → State

@@ -31,6 +31,7 @@ pub use elab_scopes::below::EntityKind;
 pub use elab_scopes::below::Env;
 pub use elab_scopes::below::FuncDecl;
 pub use elab_scopes::below::FuncKind;
+pub use elab_scopes::below::Functions;
 pub use elab_scopes::below::IllRule;
 pub use elab_scopes::below::IntKind;
 pub use elab_scopes::below::Kids;

@@ -22,6 +22,7 @@ pub use elab_init::below::EnumRec;
 pub use elab_init::below::Env;
 pub use elab_init::below::FuncDecl;
 pub use elab_init::below::FuncKind;
+pub use elab_init::below::Functions;
 pub use elab_init::below::IllRule;
 pub use elab_init::below::InitCell;
 pub use elab_init::below::IntKind;

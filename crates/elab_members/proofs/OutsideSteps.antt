@@ -1,5 +1,5 @@
 -- Members that are defined outside their class, step by step.
-use Rattle.std.proofs.Common.{◌≡◌, ◌∙◌, ◌+◌, ℕ, zero, suc, Bool, true, false, List, [], ◌∷◌, drop, slice_get, slice_set, unwrap_or, Option, Some, None, Result, Ok, Err, refl, sym, ap, subst, arith, if◌then◌else◌, ◌<◌, ◌≤◌, length, map, get_or}
+use Rattle.std.proofs.Common.{◌≡◌, ◌∙◌, ◌+◌, ℕ, zero, suc, Bool, true, false, List, [], ◌∷◌, drop, slice_get, slice_set, unwrap_or, Option, Some, None, Result, Ok, Err, refl, sym, ap, subst, arith, if◌then◌else◌}
 use Rattle.elab_entry.specs.cpp_types.Typ.{Typ, void}
 use Rattle.elab_entry.specs.cpp_types.declared.classes.At.{At}
 use Rattle.elab_entry.specs.cpp_lex.Tokens.{Lexeme}
@@ -12,10 +12,8 @@ use Rattle.elab_entry.specs.cpp_tree.declared.program.FuncKind.TheVariants.{Plai
 use Rattle.elab_entry.specs.cpp_tree.declared.faults.ElabFault.{ElabFault}
 use Rattle.elab_entry.specs.cpp_tree.declared.faults.ElabFault.TheVariants.{Ill}
 use Rattle.elab_entry.specs.cpp_tree.declared.faults.IllRule.TheVariants.{BadDeclaration, OutOfProfile}
-use Rattle.elab_entry.specs.elab_ctx.Ctx.{Ctx, Work, Func, func_of}
-use Rattle.elab_entry.specs.elab_ctx.declared.env.FuncDecl.{FuncDecl}
+use Rattle.elab_entry.specs.elab_ctx.Ctx.{Ctx, Work, Func}
 use Rattle.elab_entry.specs.cpp_tree.declared.program.Linkage.TheVariants.{Inline}
-use Rattle.std.proofs.lemmas.List.{length-map}
 use Rattle.elab_entry.specs.elab_ctx.Steps.{and_then, expect}
 use Rattle.elab_entry.specs.elab_ctx.Says.{Faults}
 use Rattle.elab_entry.specs.elab_rules.Initialising.{func_at, no_function}
@@ -128,31 +126,10 @@ says_kind show r s st at x ClosureCall ts h m = absurd cc
 
 -- A function whose definition says that it is inline
 
-past : {A : Type 0} (xs : List A) (i : ℕ) (y : A) → length xs ≤ i → xs ≡ slice_set xs i y
-past [] i y h = refl
-past (x ∷ xs) zero y h = absurd (omega arith)
-past (x ∷ xs) (suc i) y h = ap (λ z. x ∷ z) (past xs i y (omega arith))
-
 set_same : {A : Type 0} (xs : List A) (i : ℕ) (d : A) → slice_set xs i (unwrap_or (slice_get xs i) d) ≡ xs
 set_same [] i d = refl
 set_same (x ∷ xs) zero d = refl
 set_same (x ∷ xs) (suc i) d = ap (λ z. x ∷ z) (set_same xs i d)
-
-map_set : (xs : List FuncDecl) (i : ℕ) (y : FuncDecl) → map func_of (slice_set xs i y) ≡ slice_set (map func_of xs) i (func_of y)
-map_set [] i y = refl
-map_set (x ∷ xs) zero y = refl
-map_set (x ∷ xs) (suc i) y = ap (λ (z : List Func). func_of x ∷ z) (map_set xs i y)
-
-shown_there : (xs : List FuncDecl) (i : ℕ) (x : FuncDecl) → i < length xs → x ≡ get_or xs i x → func_at (map func_of xs) i ≡ func_of x
-shown_there [] i x h e = absurd (omega arith)
-shown_there (y ∷ ys) zero x h e = ap func_of (sym e)
-shown_there (y ∷ ys) (suc i) x h e = shown_there ys i x (omega arith) e
-
-pub inline_set : (xs : List FuncDecl) (i : ℕ) (x : FuncDecl) → i < length xs → x ≡ get_or xs i x → map func_of (slice_set xs i (record x { linkage = Inline })) ≡ slice_set (map func_of xs) i (inline_at (map func_of xs) i)
-inline_set xs i x h e = map_set xs i (record x { linkage = Inline }) ∙ ap (λ (z : Func). slice_set (map func_of xs) i (record z { linkage = Inline })) (sym (shown_there xs i x h e))
-
-pub inline_past : (xs : List FuncDecl) (i : ℕ) → length xs ≤ i → map func_of xs ≡ slice_set (map func_of xs) i (inline_at (map func_of xs) i)
-inline_past xs i h = past (map func_of xs) i (inline_at (map func_of xs) i) (subst (λ (n : ℕ). n ≤ i) (sym (length-map xs func_of)) h)
 
 pub inline_linked : (c : Ctx) (i : ℕ) (x : Storage) (fs : List Func) → x.is_inline ≡ true → fs ≡ slice_set c.funcs i (inline_at c.funcs i) → record c { funcs = fs } ≡ linked_definition c i x
 inline_linked c i x fs h e = ap (λ (z : List Func). record c { funcs = z }) e ∙ sym (ap (λ (b : Bool). record c { funcs = slice_set c.funcs i (if b then record (func_at c.funcs i) { linkage = Inline } else func_at c.funcs i) }) h)

@@ -1,21 +1,21 @@
 // What is known of a member function behind its definition outside the class (C++14 9.3 p2).
 
-ghost use Rattle.std.specs.Prelude.{◌≡◌, map, slice_set, IfOk, OnOk};
+ghost use Rattle.std.specs.Prelude.{◌≡◌, IfOk, OnOk};
 ghost use Rattle.elab_entry.specs.cpp_lex.Tokens.{lexemes_of};
-ghost use Rattle.elab_entry.specs.elab_ctx.Ctx.{ctx_of, func_of};
+ghost use Rattle.elab_entry.specs.elab_ctx.Ctx.{ctx_of};
 ghost use Rattle.elab_entry.specs.elab_ctx.Says.{Tells};
 ghost use Rattle.elab_entry.specs.elab_rules.Members.{outside_words as outside_words_of, outside_text as outside_text_of, linked_definition};
 ghost use Rattle.elab_entry.specs.elab_types.Shown.{Says};
 ghost use Rattle.class_members.specs.Shown.{header_of, storage_of};
 ghost use Rattle.elab_decls.specs.Says.{placed_at};
-ghost use Rattle.elab_members.specs.Outside.{inline_at, outside_found as outside_found_of, outside_place as outside_place_of, outside_declared as outside_declared_of};
+ghost use Rattle.elab_members.specs.Outside.{outside_found as outside_found_of, outside_place as outside_place_of, outside_declared as outside_declared_of};
 
+use class_members::first_same;
 use class_table::texts::{text_between, token_end};
-use elab_decls::{agrees, define_function, first_same};
-use elab_entry::below::FuncDecl;
+use elab_decls::{agrees, define_function};
 use elab_implicit::below::{
-    ElabFault, Env, Header, IllRule, Linkage, Storage, Tokens, has_function, ill,
-    is_destructor_name, text_sized,
+    ElabFault, Env, Header, IllRule, Storage, Tokens, has_function, ill, is_destructor_name,
+    text_sized,
 };
 use std::alloc::{AllocError, Global};
 
@@ -70,22 +70,10 @@ fn outside_place(env: &Env, class: u32, header: &Header) -> Result<u32, ElabFaul
     if !has_function(env, class, &header.name) {
         return Err(ill(header.at, IllRule::NoMember));
     }
-    let Some(func) = first_same(&env.funcs, header)? else {
+    let Some(func) = first_same(&env.funcs, header) else {
         return Err(ill(header.at, IllRule::TypeDiffers));
     };
     outside_found(env, header, func)
-}
-
-// A function is inline.
-fn make_inline(list: &mut Vec<FuncDecl>, func: u32)
-    ensures { map func_of list.new.items ≡ slice_set (map func_of list.old.items) func (inline_at (map func_of list.old.items) func) }
-{
-    match list.get_mut(func as usize) {
-        Some(found) => {
-            found.linkage = Linkage::Inline;
-        }
-        None => {}
-    }
 }
 
 // A function whose definition says so is inline.
@@ -95,7 +83,7 @@ fn link_inline(env: &mut Env, func: u32, storage: Storage)
     if !storage.is_inline {
         return;
     }
-    make_inline(&mut env.funcs, func);
+    env.funcs.make_inline(func as usize);
 }
 
 /// The function that a member with a header defines, from its first token to its last one. It is defined now.

@@ -15,11 +15,11 @@ ghost use Rattle.elab_members.specs.Whole.{late_with, late_function as late_func
 
 use crate::methods::method_body;
 use crate::syntax::kids_in;
+use class_members::first_same;
 use class_table::kids::rest_from;
 use class_table::method_of;
 use class_table::methods::Method;
 use class_table::texts::body_in;
-use elab_decls::first_same;
 use elab_implicit::below::{
     At, ElabFault, Env, FuncKind, Header, Home, IllRule, MakeLambdas, NodeId, NodeKind, Nodes,
     State, Tokens, elab_types_node_at as node_at, ill, place,
@@ -30,7 +30,7 @@ use std::alloc::Global;
 fn place_of_header(env: &Env, header: &Header) -> Result<u32, ElabFault>
     ensures { Tells result (place_of_header_of (ctx_of env.now) (header_of header.now)) }
 {
-    match first_same(&env.funcs, header)? {
+    match first_same(&env.funcs, header) {
         Some(func) => Ok(func),
         None => Err(ill(header.at, IllRule::NoMember)),
     }

@@ -64,7 +64,7 @@ fn own_member<'a>(
     let field = field_at(class, members_at(&env.classes, class), name)?;
     match field {
         Some(found) => Ok(Some(found)),
-        None => match first_method(&env.funcs, class, name)? {
+        None => match first_method(&env.funcs, class, name) {
             Some(first) => Ok(Some(FoundMember::Methods(first))),
             None => Ok(None),
         },

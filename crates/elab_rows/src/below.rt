@@ -17,6 +17,7 @@ pub use elab_casts::below::EnumRec;
 pub use elab_casts::below::Env;
 pub use elab_casts::below::FuncDecl;
 pub use elab_casts::below::FuncKind;
+pub use elab_casts::below::Functions;
 pub use elab_casts::below::IllRule;
 pub use elab_casts::below::InitCell;
 pub use elab_casts::below::IntKind;

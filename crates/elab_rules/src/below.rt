@@ -11,7 +11,7 @@ pub use elab_ctx::below::{
     held_class, offset, promote, same, size_align, usual, value_of_word, word_of,
 };
 pub use elab_ctx::{
-    Capture, Closure, DefaultInit, EnumRec, Env, FuncDecl, Label, Labels, Lambda, Operand, Returns,
-    Special, This, Traits, TypeNames, Variable, Work, add_item, class_at, completion, extent,
-    function_at, kids_at, node_at, size_of, traits_of_class,
+    Capture, Closure, DefaultInit, EnumRec, Env, FuncDecl, Functions, Label, Labels, Lambda,
+    Operand, Returns, Special, This, Traits, TypeNames, Variable, Work, add_item, class_at,
+    completion, extent, function_at, kids_at, node_at, size_of, traits_of_class,
 };

@@ -19,13 +19,13 @@ ghost use Rattle.elab_scopes.specs.Says.{Does};
 
 use crate::nodes::leaf_statement;
 use crate::reading::operand;
-use crate::scratch::copy_work;
 use crate::state::State;
 use elab_expr::below::{
     At, ElabFault, Env, IllRule, IntKind, Label, Labels, NodeId, Nodes, Operand, TGlobal, TKind,
     TNode, TNodeId, Tokens, Work, constant, convert, ill, initial, kind_of, node_at, value,
     value_of_word,
 };
+use elab_expr::copy_work;
 use std::alloc::{AllocError, Global};
 use std::mem;
 

@@ -11,7 +11,6 @@ pub mod nodes;
 pub mod reading;
 pub mod returns;
 pub mod scopes;
-mod scratch;
 pub mod simple;
 pub mod state;
 

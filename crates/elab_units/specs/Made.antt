@@ -23,7 +23,7 @@ with_bodies i (f ∷ fs) bs = with_body f (body_of i bs) ∷ with_bodies (suc i)
 -- a state in which this was made, and these are the classes
 abbrev pub state_with : State → Made → List Class → State
 state_with st m classes = record {
-  ctx = record st.ctx { types = map named_of m.types; classes = classes; funcs = map func_of m.funcs.items };
+  ctx = record st.ctx { types = map named_of m.types; classes = classes; funcs = map func_of m.funcs };
   work = record st.work { globals = map global_of m.globals.items };
   bodies = map body_shown m.bodies.items;
 }

@@ -14,8 +14,8 @@ ghost use Rattle.elab_units.specs.Begun.{one_or_two, long_typ, program_with, tra
 
 pub use crate::known::Classes;
 use elab_entry::below::{
-    At, Builtin, Entity, EntityKind, Env, FnTy, FuncDecl, FuncKind, FuncRec, IntKind, Label,
-    Labels, Linkage, Returns, Safety, Scopes, Shape, State, Ty, TypeNames, Work, plain_type,
+    At, Builtin, Entity, EntityKind, Env, FnTy, FuncDecl, FuncKind, FuncRec, Functions, IntKind,
+    Label, Labels, Linkage, Returns, Safety, Scopes, Shape, State, Ty, TypeNames, Work, plain_type,
     pointer_to,
 };
 use std::alloc::{AllocError, Global};
@@ -111,8 +111,8 @@ fn thread_type(alloc: Global) -> Result<Ty, AllocError>
 }
 
 // The functions that every unit knows.
-fn builtins(alloc: Global) -> Result<Vec<FuncDecl>, AllocError>
-    ensures { IfOk result (λ v. map func_of v.items ≡ builtins_of) }
+fn builtins(alloc: Global) -> Result<Functions, AllocError>
+    ensures { IfOk result (λ v. map func_of v ≡ builtins_of) }
 {
     let one_int = types_of(alloc, int_type(), None)?;
     let again = types_of(alloc, int_type(), None)?;
@@ -122,7 +122,7 @@ fn builtins(alloc: Global) -> Result<Vec<FuncDecl>, AllocError>
     let get = builtin(alloc, Builtin::GetChar, b"getchar", none, int_type())?;
     let spawn = builtin(alloc, Builtin::Spawn, b"__txcc_spawn", spawned, int_type())?;
     let join = builtin(alloc, Builtin::Join, b"__txcc_join", again, void_type())?;
-    let mut list = Vec::new(alloc);
+    let mut list = Functions::new(alloc);
     list.push(put)?;
     list.push(get)?;
     list.push(spawn)?;

@@ -426,7 +426,7 @@ fn named_declaration(
         NodeKind::EnumSpecifier => enum_declared(
             alloc,
             &mut st.env,
-            &st.work,
+            &mut st.work,
             tokens,
             nodes,
             id,

@@ -27,8 +27,8 @@ use crate::joining::{Placed, joined_bodies};
 use crate::readable::readable_unit;
 use class_table::class_text;
 use elab_entry::below::{
-    Body, ClassDef, ClassRec, FuncDecl, NodeId, NodeKind, Nodes, Shape, TFunc, TGlobal, Tokens, Ty,
-    TypeNames, UnitTree, is_class_type, spelling, type_named,
+    Body, ClassDef, ClassRec, FuncDecl, Functions, NodeId, NodeKind, Nodes, Shape, TFunc, TGlobal,
+    Tokens, Ty, TypeNames, UnitTree, is_class_type, spelling, type_named,
 };
 use elab_globals::symbol_of;
 use std::alloc::{AllocError, Global};
@@ -262,7 +262,7 @@ fn definitions_in(
 #[derive(Drop)]
 pub struct Made {
     pub types: TypeNames,
-    pub funcs: Vec<FuncDecl>,
+    pub funcs: Functions,
     pub globals: Vec<TGlobal>,
     pub bodies: Vec<Body>,
 }
@@ -282,7 +282,7 @@ pub fn unit_shown(
 {
     let defined = definitions_in(alloc, tokens, nodes, &made.types, ids)?;
     let joined = joined_bodies(alloc, made.bodies)?;
-    let funcs = funcs_shown(alloc, made.funcs, joined.bodies, classes)?;
+    let funcs = funcs_shown(alloc, made.funcs.into_list(), joined.bodies, classes)?;
     readable_unit(UnitTree {
         nodes: joined.nodes,
         funcs,

@@ -6,6 +6,7 @@ use Rattle.std.specs.List.{list_all}
 use Rattle.std.proofs.lemmas.Bool.{eqb-true, eqb-false, eq-eqb, ne_eqb, cases_eq, cases_Bool, cases_lt, true≢false, false≢true, and_parts, not-true}
 use Rattle.std.proofs.lemmas.List.{get_or-set_same, get_or-set_other}
 use Rattle.std.proofs.lemmas.Option.{slice_get_past, slice_get_read, slice_get-get_or, none-some, same_Some}
+use Rattle.tx_events.proofs.ListLemmas.{get_set}
 use Rattle.own_table.specs.declared.TheConstants.{STRIPES}
 use Rattle.own_table.specs.Bits.{has_bit}
 use Rattle.own_table.specs.declared.hold.HoldRec.{HoldRec}
@@ -20,19 +21,6 @@ use Rattle.own_table.proofs.ThreadSets.{has_bit_none, bit_from_not_zero}
 use Rattle.own_table.proofs.RecordLists.{found_is, list_all-at, record_of-own}
 use Rattle.std.specs.BinaryHeap.{heap_items, heap_len, heap_capacity}
 use Rattle.own_table.specs.Stripes.{records_in, records_at, hold_at, words_in, words_at, IsPlaced, HasSpare}
-
-pub get_set : {X : Type 0} (xs : List X) (i : ℕ) (v : X) (t : ℕ) → i < length xs → slice_get (set xs i v) t ≡ cond (t == i) (Some v) (slice_get xs t)
-get_set {X} xs i v t h =
-    let l : length (set xs i v) ≡ length xs = length-set xs i v in
-    elim (t == i) as (λ b. (t == i) ≡ b → slice_get (set xs i v) t ≡ cond b (Some v) (slice_get xs t)) [
-      | true ↦ λ e.
-          let at : slice_get (set xs i v) i ≡ Some v = slice_get-get_or (set xs i v) i v (subst (λ n. i < n) (sym l) h) ∙ ap Some (get_or-set_same xs i v v h) in
-          ap (λ n. slice_get (set xs i v) n) (eqb-true t i e) ∙ at
-      | false ↦ λ e. elim (cases_lt t (length xs)) [
-        | inl p ↦ slice_get-get_or (set xs i v) t v (subst (λ n. t < n) (sym l) p) ∙ (ap Some (get_or-set_other xs i t v v (eqb-false t i e)) ∙ sym (slice_get-get_or xs t v p))
-        | inr p ↦ slice_get_past (set xs i v) t (subst (λ n. n ≤ t) (sym l) p) ∙ sym (slice_get_past xs t p)
-      ]
-    ] refl
 
 pub records_at-set : (xs : List Stripe) (i : ℕ) (v : Stripe) (s : ℕ) → i < length xs → records_at (set xs i v) s ≡ cond (s == i) v.records.items (records_at xs s)
 records_at-set xs i v s h = ap records_in (get_set xs i v s h) ∙ elim (s == i) as (λ b. records_in (cond b (Some v) (slice_get xs s)) ≡ cond b v.records.items (records_at xs s)) [ true ↦ refl | false ↦ refl ]

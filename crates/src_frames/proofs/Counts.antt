@@ -1,5 +1,5 @@
 -- How many atomic blocks are open in frames.
-use Rattle.std.proofs.Common.{◌≡◌, ◌∙◌, ℕ, zero, suc, ◌+◌, ◌<◌, ◌≤◌, List, [], ◌∷◌, ◌++◌, length, get_or, set, sym, ap, refl, arith, take, true, false, cond, ne_eqb}
+use Rattle.std.proofs.Common.{◌≡◌, ◌∙◌, ℕ, zero, suc, ◌+◌, ◌<◌, ◌≤◌, List, [], ◌∷◌, ◌++◌, length, get_or, set, sym, ap, arith, take, true, false, cond, ne_eqb}
 use Rattle.std.specs.Prelude.{Bool, ◌==◌}
 use Rattle.std.proofs.Math.Seq.{take-suc, take-length}
 use Rattle.cpp_tree.specs.tx_events.Thread.{no_atomic}

@@ -6,3 +6,4 @@ pub mod Digits
 pub mod Caught
 pub mod Steps
 pub mod Counts
+pub mod Handlers

@@ -1,20 +1,18 @@
 -- Frames, of which the innermost stands last, as the list of them.
 use Rattle.std.proofs.Common.{◌≡◌, ◌∙◌, ℕ, zero, suc, ◌<◌, List, [], ◌∷◌, ◌++◌, length, get_or, set, sym, ap, refl, arith, take, drop, append_assoc, true, false, cond}
-use Rattle.std.specs.Prelude.{map, reverse, Option, Some, None, slice_get, option_map}
+use Rattle.std.specs.Prelude.{map, reverse, Some, slice_get}
 use Rattle.std.proofs.lemmas.List.{reverse-append, map-append, append-nil}
 use Rattle.std.proofs.lemmas.Option.{get_or_from_slice_get}
 use Rattle.std.proofs.Math.Seq.{take-suc, drop-cons, take-length, drop-length}
 use Rattle.cpp_tree.specs.declared.program.Program.{Program}
-use Rattle.cpp_tree.specs.tx_events.Thread.{no_atomic}
 use Rattle.src_mean.specs.Frames as frames
 use Rattle.src_bind.specs.Tables.{Given}
-use Rattle.src_frames.specs.declared.frames.Exception.{Exception}
 use Rattle.src_frames.specs.declared.frames.Waiting.{Waiting}
 use Rattle.src_frames.specs.declared.frames.Owner.{Owner}
 use Rattle.src_frames.specs.declared.frames.Frame.{Frame}
-use Rattle.src_frames.specs.Shown.{frame_shown, frames_shown, exception_shown, owner_shown, waiting_shown, all_waiting}
-use Rattle.src_frames.specs.Sorts.{first_of, handling, is_atomic, is_scope_of, waits_too}
-use Rattle.src_frames.proofs.Sorts.{handled_step, no_atomic_step, puts_step}
+use Rattle.src_frames.specs.Shown.{frame_shown, frames_shown, owner_shown, waiting_shown, all_waiting}
+use Rattle.src_frames.specs.Sorts.{is_scope_of, waits_too}
+use Rattle.src_frames.proofs.Sorts.{puts_step}
 
 -- a frame on the others
 pub shown_push : (g : Given) (fs : List Frame) (f : Frame) → frames_shown g (fs ++ f ∷ []) ≡ frame_shown g f ∷ frames_shown g fs
@@ -64,20 +62,6 @@ module _ (g : Given) (fs : List Frame) (n m : ℕ) (f : Frame) (e : m ≡ suc n)
   bottom : frames_shown g (drop n fs) ≡ frames_shown g (drop m fs) ++ frame_shown g f ∷ []
   bottom = shown_drop g fs n f h ∙ ap (λ z. frames_shown g (drop (suc n) fs) ++ frame_shown g z ∷ []) (sym i) ∙ ap (λ z. frames_shown g (drop z fs) ++ frame_shown g f ∷ []) (sym e)
 
-  -- the handler of the frame with this index
-  pub handled_here : (x : Exception) → Some x ≡ handling f → Some (exception_shown g.program x) ≡ frames.handled (frames_shown g (take m fs))
-  handled_here x k = sym (ap frames.handled top ∙ handled_step g f (frames_shown g (take n fs)) ∙ ap (λ (z : Option Exception). first_of (option_map (exception_shown g.program) z) (frames.handled (frames_shown g (take n fs)))) (sym k))
-
-  pub handled_below : None ≡ handling f → frames.handled (frames_shown g (take n fs)) ≡ frames.handled (frames_shown g (take m fs))
-  handled_below k = sym (ap frames.handled top ∙ handled_step g f (frames_shown g (take n fs)) ∙ ap (λ (z : Option Exception). first_of (option_map (exception_shown g.program) z) (frames.handled (frames_shown g (take n fs)))) (sym k))
-
-  -- a block that is open in the frame with this index
-  pub atomic_here : true ≡ is_atomic f → false ≡ no_atomic (frames.blocks_of (frames_shown g (take m fs)))
-  atomic_here k = sym (ap (λ z. no_atomic (frames.blocks_of z)) top ∙ no_atomic_step g f (frames_shown g (take n fs)) ∙ ap (λ z. cond z false (no_atomic (frames.blocks_of (frames_shown g (take n fs))))) (sym k))
-
-  pub atomic_below : false ≡ is_atomic f → no_atomic (frames.blocks_of (frames_shown g (take n fs))) ≡ no_atomic (frames.blocks_of (frames_shown g (take m fs)))
-  atomic_below k = sym (ap (λ z. no_atomic (frames.blocks_of z)) top ∙ no_atomic_step g f (frames_shown g (take n fs)) ∙ ap (λ z. cond z false (no_atomic (frames.blocks_of (frames_shown g (take n fs))))) (sym k))
-
   -- the frame with this index is no scope of the owner
   pub scope_below : (o : Owner) (w : frames.Waiting) → false ≡ is_scope_of o f → frames_shown g (drop m fs) ++ frames.puts (owner_shown o) w (frames_shown g (take m fs)) ≡ frames_shown g (drop n fs) ++ frames.puts (owner_shown o) w (frames_shown g (take n fs))
   scope_below o w k =
@@ -97,12 +81,6 @@ module _ (g : Given) (fs : List Frame) (n m : ℕ) (f : Frame) (e : m ≡ suc n)
       ∙ ap (λ z. frames_shown g (drop m fs) ++ (z ∷ k0)) x
       ∙ ap (λ z. frames_shown g (drop m fs) ++ z) (sym step)
       ∙ sym p
-
-pub handled_none : (g : Given) (fs : List Frame) (m : ℕ) → m ≡ 0 → None ≡ frames.handled (frames_shown g (take m fs))
-handled_none g fs m e = ap frames.handled (sym (shown_none g)) ∙ ap (λ z. frames.handled (frames_shown g (take z fs))) (sym e)
-
-pub atomic_none : (g : Given) (fs : List Frame) (m : ℕ) → m ≡ 0 → true ≡ no_atomic (frames.blocks_of (frames_shown g (take m fs)))
-atomic_none g fs m e = ap (λ z. no_atomic (frames.blocks_of z)) (sym (shown_none g)) ∙ ap (λ z. no_atomic (frames.blocks_of (frames_shown g (take z fs)))) (sym e)
 
 -- all frames are looked at
 pub scope_first : (g : Given) (o : Owner) (w : frames.Waiting) (fs : List Frame) (m : ℕ) → m ≡ length fs → frames.puts (owner_shown o) w (frames_shown g fs) ≡ frames_shown g (drop m fs) ++ frames.puts (owner_shown o) w (frames_shown g (take m fs))

@@ -1,5 +1,5 @@
 -- What a frame is to those that look down the frames.
-use Rattle.std.specs.Prelude.{Bool, true, false, cond, ℕ, ◌+◌, List, [], ◌∷◌, Option, Some, None}
+use Rattle.std.specs.Prelude.{Bool, true, false, cond, ℕ, ◌+◌, List, [], ◌∷◌, ◌++◌, Option, Some, None, is_some}
 use Rattle.src_mean.specs.Frames.{Scope as ScopeOf}
 use Rattle.src_mean.specs.Frames as frames
 use Rattle.src_frames.specs.declared.frames.Owner.{Owner}
@@ -29,6 +29,23 @@ handling_in f = None
 abbrev pub handling : Frame → Option Exception
 handling (AtException f) = handling_in f
 handling f = None
+
+-- the index of a frame, if a handler is entered in it
+abbrev pub place_in : Frame → ℕ → List ℕ
+place_in f n = cond (is_some (handling f)) (n ∷ []) []
+
+-- the indices of those of these frames in which a handler is entered, where the first has this index
+abbrev pub handlers_from : ℕ → List Frame → List ℕ
+handlers_from n [] = []
+handlers_from n (f ∷ fs) = place_in f n ++ handlers_from (n + 1) fs
+
+abbrev pub handlers_in : List Frame → List ℕ
+handlers_in fs = handlers_from 0 fs
+
+-- the exception of the innermost entered handler; the innermost frame stands last
+abbrev pub newest_handled : List Frame → Option Exception
+newest_handled [] = None
+newest_handled (f ∷ fs) = first_of (newest_handled fs) (handling f)
 
 -- an atomic block is open in it
 abbrev pub is_atomic_open : Open → Bool

@@ -1,22 +1,26 @@
 //! The frames of a thread, one on the other.
 
-ghost use Rattle.std.specs.Prelude.{◌≡◌, ◌≤◌, ◌+◌, ◌∷◌, ◌++◌, [], ℕ, true, length, slice_get, take, drop, IfOk, OnOk, MatchOption, Some};
+ghost use Rattle.std.specs.Prelude.{◌≡◌, ◌≤◌, ◌+◌, ◌∷◌, ◌++◌, [], ℕ, List, true, length, slice_get, take, drop, OnOk, OnErr, MatchOption, Some};
 ghost use Rattle.src_mean.specs.Frames.{Waiting as Waits, puts, same_owner};
 ghost use Rattle.src_bind.specs.Tables.{Given};
 ghost use Rattle.src_frames.specs.declared.frames.Frame.{Frame as FrameAt};
 ghost use Rattle.src_frames.specs.Shown.{owner_shown, waiting_shown, frame_shown, frames_shown};
-ghost use Rattle.src_frames.specs.Sorts.{is_atomic as is_atomic_at, is_atomic_open, atomics_in, weight as weight_of, is_scope_of as is_scope_at, is_scope_in as is_scope_among, waits_too};
+ghost use Rattle.src_frames.specs.Sorts.{is_atomic as is_atomic_at, is_atomic_open, atomics_in, weight as weight_of, is_scope_of as is_scope_at, is_scope_in as is_scope_among, waits_too, handling, handling_in, place_in, handlers_in, newest_handled};
 
-use crate::frames::{BlockFrame, Frame, ObjectFrame, Open, Owner, Waiting};
+use crate::frames::{
+    BlockFrame, Exception, ExceptionFrame, Frame, ObjectFrame, Open, Owner, Waiting,
+};
 use std::alloc::{AllocError, Global};
 
-/// Frames, the innermost last, and how many of them are open atomic blocks: so a call in a deep recursion need not look
-/// for one.
+/// Frames, the innermost last, how many of them are open atomic blocks, and the indices of the entered handlers among
+/// them: so neither a call nor a `throw;` in a deep recursion need look for one.
 #[derive(Drop)]
 pub struct Stack {
     pub list: Vec<Frame>,
     pub atomics: usize,
+    pub handlers: Vec<usize>,
     pub ghost counted: { atomics ≡ atomics_in list.items },
+    pub ghost entered: { handlers.items ≡ handlers_in list.items },
 }
 
 impl Stack {
@@ -27,6 +31,7 @@ impl Stack {
         Stack {
             list: Vec::new(alloc),
             atomics: 0,
+            handlers: Vec::new(alloc),
         }
     }
 
@@ -42,9 +47,17 @@ impl Stack {
         ensures { OnOk result (self.new.list.items ≡ self.old.list.items ++ frame ∷ []) }
     {
         let more = weight(&frame);
-        self.list.push(frame)?;
-        self.atomics += more;
-        Ok(())
+        keep_handler(&mut self.handlers, &frame, self.list.len())?;
+        match self.list.push(frame) {
+            Ok(()) => {
+                self.atomics += more;
+                Ok(())
+            }
+            Err(failed) => {
+                drop_handler(&mut self.handlers, &failed.value);
+                Err(AllocError)
+            }
+        }
     }
 
     /// Takes the innermost frame off, if there is one.
@@ -54,8 +67,19 @@ impl Stack {
         match self.list.pop() {
             Some(frame) => {
                 self.atomics -= weight(&frame);
+                drop_handler(&mut self.handlers, &frame);
                 Some(frame)
             }
+            None => None,
+        }
+    }
+
+    /// The exception of the innermost entered handler.
+    pub fn handled(&self) -> Option<Exception>
+        ensures { result ≡ newest_handled self.now.list.items }
+    {
+        match self.handlers.last() {
+            Some(place) => handled_at(&self.list[*place]),
             None => None,
         }
     }
@@ -96,6 +120,7 @@ impl Stack {
 fn add_waiting(frame: &mut Frame, waiting: Waiting) -> Result<(), AllocError>
     ensures added { (g : Given) → OnOk result (frame_shown g frame.new ≡ waits_too (waiting_shown g.program waiting) (frame_shown g frame.old)) }
     ensures kept { weight_of frame.new ≡ weight_of frame.old }
+    ensures handles { handling frame.new ≡ handling frame.old }
 {
     if let Frame::Object(ObjectFrame::Scope { waiting: list, .. }) = frame {
         list.push(waiting)?;
@@ -131,6 +156,45 @@ fn is_scope_in(frame: &ObjectFrame, owner: Owner) -> bool
     match frame {
         ObjectFrame::Scope { owner: other, .. } => is_same(owner, *other),
         _ => false,
+    }
+}
+
+// The index of a frame is kept if a handler is entered in it.
+fn keep_handler(handlers: &mut Vec<usize>, frame: &Frame, place: usize) -> Result<(), AllocError>
+    ensures kept { OnOk result (handlers.new.items ≡ handlers.old.items ++ place_in frame.now place) }
+    ensures same { OnErr result (handlers.new.items ≡ handlers.old.items) }
+{
+    if handled_at(frame).is_some() {
+        handlers.push(place)?;
+    }
+    Ok(())
+}
+
+// The index of the last of these frames is dropped if a handler is entered in it.
+fn drop_handler(handlers: &mut Vec<usize>, frame: &Frame)
+    ensures { (others : List ℕ) (place : ℕ) → handlers.old.items ≡ others ++ place_in frame.now place → handlers.new.items ≡ others }
+{
+    if handled_at(frame).is_some() {
+        let _ = handlers.pop();
+    }
+}
+
+// The exception of an entered handler.
+fn handled_at(frame: &Frame) -> Option<Exception>
+    ensures { result ≡ handling frame.now }
+{
+    match frame {
+        Frame::Exception(inner) => handled_in(inner),
+        _ => None,
+    }
+}
+
+fn handled_in(frame: &ExceptionFrame) -> Option<Exception>
+    ensures { result ≡ handling_in frame.now }
+{
+    match frame {
+        ExceptionFrame::Handling(exception) => Some(*exception),
+        _ => None,
     }
 }
 

@@ -8,12 +8,9 @@ ghost use Rattle.src_mean.specs.Frames.{at, Run as Runs, Gives as GivesWord, blo
 ghost use Rattle.src_mean.specs.Source.{halt as halted, read as reads, write as writes, place_address as address_of_place, empty_stack as empty_stack_of};
 ghost use Rattle.src_bind.specs.Bounds.{given};
 ghost use Rattle.src_frames.specs.Shown.{here_shown, offset_of, way_shown, exception_shown, owner_shown, waiting_shown};
-ghost use Rattle.src_frames.specs.Sorts.{handling, handling_in};
 ghost use Rattle.src_frames.specs.Bounds.{tree_of, frame_of, here_of, frames_of, after};
 
-use crate::frames::{
-    EndFrame, Exception, ExceptionFrame, Frame, Here, Owner, ValueFrame, Waiting, Way,
-};
+use crate::frames::{EndFrame, Exception, Frame, Here, Owner, ValueFrame, Waiting, Way};
 use crate::stack::Stack;
 use crate::trees::TreeAt;
 use crate::words::{plus, size_of_kind, stored_bytes};
@@ -185,14 +182,7 @@ impl State {
         ensures { option_map (exception_shown (given bound.now).program) result ≡ handled_of (frames_of bound.now self.now) }
     {
         let _shown = bound;
-        let mut left = self.frames.len();
-        while left > 0 {
-            left -= 1;
-            if let Some(exception) = handled_at(&self.frames.list[left]) {
-                return Some(exception);
-            }
-        }
-        None
+        self.frames.handled()
     }
 
     /// Whether no atomic block is open.
@@ -215,24 +205,5 @@ impl State {
     {
         let _shown = bound;
         self.frames.put_waiting(owner, waiting)
-    }
-}
-
-// The exception of an entered handler.
-fn handled_at(frame: &Frame) -> Option<Exception>
-    ensures { result ≡ handling frame.now }
-{
-    match frame {
-        Frame::Exception(inner) => handled_in(inner),
-        _ => None,
-    }
-}
-
-fn handled_in(frame: &ExceptionFrame) -> Option<Exception>
-    ensures { result ≡ handling_in frame.now }
-{
-    match frame {
-        ExceptionFrame::Handling(exception) => Some(*exception),
-        _ => None,
     }
 }

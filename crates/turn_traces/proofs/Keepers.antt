@@ -6,6 +6,7 @@ use Rattle.std.proofs.Math.Path.{fun_ext}
 use Rattle.std.proofs.lemmas.Bool.{eqb-true, eqb-false, cases_lt}
 use Rattle.std.proofs.lemmas.List.{take_more, get_or-set_same, get_or-set_other}
 use Rattle.std.proofs.lemmas.Option.{slice_get-get_or, slice_get_past}
+use Rattle.tx_events.proofs.ListLemmas.{get_set}
 use Rattle.tx_events.specs.declared.End.{End}
 use Rattle.tx_events.specs.declared.Event.{Event}
 use Rattle.tx_events.specs.declared.Item.{Item}
@@ -21,21 +22,6 @@ use Rattle.turn_traces.proofs.BlockAccesses.{named_append}
 pub on_ok : {T E P Q : Type 0} (r : Result T E) → (P → Q) → OnOk r P → OnOk r Q
 on_ok (Ok x) f h = f h
 on_ok (Err e) f h = tt
-
-get_set : {X : Type 0} (xs : List X) (i : ℕ) (v : X) (u : ℕ) → i < length xs → slice_get (set xs i v) u ≡ cond (u == i) (Some v) (slice_get xs u)
-get_set {X} xs i v u h =
-    let l : length (set xs i v) ≡ length xs = length-set xs i v in
-    elim (u == i) as (λ b. (u == i) ≡ b → slice_get (set xs i v) u ≡ cond b (Some v) (slice_get xs u)) [
-      | true ↦ λ e.
-          let here : slice_get (set xs i v) i ≡ Some v = slice_get-get_or (set xs i v) i v (subst (λ n. i < n) (sym l) h)
-          ∙ ap Some (get_or-set_same xs i v v h) in
-          ap (λ n. slice_get (set xs i v) n) (eqb-true u i e) ∙ here
-      | false ↦ λ e. elim (cases_lt u (length xs)) [
-        | inl p ↦ slice_get-get_or (set xs i v) u v (subst (λ n. u < n) (sym l) p)
-            ∙ (ap Some (get_or-set_other xs i u v v (eqb-false u i e)) ∙ sym (slice_get-get_or xs u v p))
-        | inr p ↦ slice_get_past (set xs i v) u (subst (λ n. n ≤ u) (sym l) p) ∙ sym (slice_get_past xs u p)
-      ]
-    ] refl
 
 pub read_thread : (xs : List ThreadTrace) (t : ℕ) (s : ThreadTrace) → t < length xs → s ≡ get_or xs t s → kept_at xs t ≡ kept_of s
 read_thread xs t s h e = ap kept_in (slice_get-get_or xs t s h) ∙ ap kept_of (sym e)

@@ -8,3 +8,4 @@ pub mod Lifting
 pub mod WorkedWorlds
 pub mod Composition
 pub mod SimulationLemmas
+pub mod ListLemmas

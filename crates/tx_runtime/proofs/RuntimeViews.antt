@@ -34,7 +34,7 @@ use Rattle.std.proofs.Math.ListN.{set}
 use Rattle.std.proofs.lemmas.Bool.{and_parts, false≢true, ne_eqb}
 use Rattle.tx_events.specs.Memory.{update}
 use Rattle.own_table.specs.Table.{thread_limit}
-use Rattle.own_table.proofs.TableLemmas.{get_set}
+use Rattle.tx_events.proofs.ListLemmas.{get_set}
 use Rattle.tx_runtime.proofs.ThreadTables.{no_thread, thread_at, whole_sound, threads_push, waits_push}
 use Rattle.tx_runtime.proofs.LogSavepoints.{saves_count}
 

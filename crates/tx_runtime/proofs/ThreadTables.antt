@@ -12,7 +12,7 @@ use Rattle.std.proofs.lemmas.Option.{slice_get_past, slice_get-get_or, same_Some
 use Rattle.tx_events.specs.Memory.{MemoryLayout, update}
 use Rattle.own_table.specs.declared.table.Holders.{Holders}
 use Rattle.own_table.specs.Table.{hold_of}
-use Rattle.own_table.proofs.TableLemmas.{get_set}
+use Rattle.tx_events.proofs.ListLemmas.{get_set}
 use Rattle.tx_serial.specs.Machine.{Machine, Local, Waits, no_waits, wait_more, birth_of}
 use Rattle.tx_serial.specs.Turn.{Turned, steps, waited, bare}
 use Rattle.tx_runtime.specs.Saves.{saves_of}

@@ -7,4 +7,4 @@ use Rattle.class_specials.proofs.specials.has_no_constructor.Goals as goal
 pub returns : goal.returns
 returns c =
     let nothing : c.is_none.result ≡ is_none c.in_ok-written.field-0 = search rules in
-    nothing ∙ ap is_none c.in_ok-written.ensures ∙ none_first (is_constructor c.args.home.now.number) 0 (map func_of c.args.env.now.funcs.items)
+    nothing ∙ ap is_none c.in_ok-written.ensures ∙ none_first (is_constructor c.args.home.now.number) 0 (map func_of c.args.env.now.funcs)

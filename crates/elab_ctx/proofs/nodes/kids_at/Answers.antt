@@ -2,7 +2,6 @@ use Rattle.std.proofs.Common.{◌≡◌, ◌∙◌, ◌+◌, length, true, [], f
 use Rattle.cpp_tree.specs.declared.arena.TNodeId.{TNodeId}
 use Rattle.cpp_tree.specs.Arena.{trees_of, trees_at, with_node, are_below}
 use Rattle.elab_ctx.proofs.Looks.{kids_look, within_wider, length_shown}
-use Rattle.elab_ctx.specs.Says.{are_within}
 use Rattle.elab_ctx.proofs.nodes.kids_at.Goals as goal
 
 pub index-requires : goal.index-requires

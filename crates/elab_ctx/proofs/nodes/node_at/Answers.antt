@@ -1,6 +1,6 @@
 use Rattle.std.proofs.Common.{◌≡◌, ◌+◌, length, [], fold, arith}
 use Rattle.cpp_tree.specs.Arena.{trees_of, with_node}
-use Rattle.elab_ctx.proofs.Looks.{Looks, looks_index, length_shown}
+use Rattle.elab_ctx.proofs.Looks.{looks_index, length_shown}
 use Rattle.elab_ctx.proofs.nodes.node_at.Goals as goal
 
 pub index-requires : goal.index-requires

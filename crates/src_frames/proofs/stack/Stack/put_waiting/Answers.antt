@@ -4,6 +4,7 @@ use Rattle.std.proofs.lemmas.Option.{slice_get_read}
 use Rattle.src_frames.specs.Shown.{waiting_shown}
 use Rattle.src_frames.proofs.Stacks.{put_there}
 use Rattle.src_frames.proofs.Counts.{atomics_set}
+use Rattle.src_frames.proofs.Handlers.{handlers_set}
 use Rattle.src_frames.proofs.stack.Stack.put_waiting.Goals as goal
 
 pub returns-in_ok-add_waiting : goal.returns-in_ok-add_waiting
@@ -22,4 +23,9 @@ invariant_of-self c =
     let fs = c.args.self.now.list.items in
     let count = c.scope_of-count.result in
     let within : count - 1 < length fs = omega (arith, c.scope_of-count.ensures.within) in
-    record { counted = c.args.self.now.counted ∙ sym (atomics_set fs (count - 1) c.add_waiting.new.frame c.in-Some.frame.now within c.in-Some.ensures.value c.add_waiting.ensures.kept) }
+    let put = c.add_waiting.new.frame in
+    let frame = c.in-Some.frame.now in
+    record {
+      counted = c.args.self.now.counted ∙ sym (atomics_set fs (count - 1) put frame within c.in-Some.ensures.value c.add_waiting.ensures.kept);
+      entered = c.args.self.now.entered ∙ sym (handlers_set fs (count - 1) put frame within c.in-Some.ensures.value c.add_waiting.ensures.handles);
+    }

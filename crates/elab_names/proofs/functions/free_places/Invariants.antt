@@ -1,8 +1,0 @@
-use Rattle.std.proofs.Common.{◌≡◌, ◌++◌, map, drop}
-use Rattle.elab_conv.specs.elab_ctx.Ctx.{func_of}
-use Rattle.elab_conv.specs.elab_rules.Initialising.{places_from}
-use Rattle.elab_conv.specs.elab_rules.Names.{is_free}
-use Rattle.elab_names.proofs.functions.free_places.Given as goal
-
-abbrev pub invariant-loop-i : goal.invariant-loop-i
-invariant-loop-i l = l.places.items ++ places_from (is_free l.name) l.i (map func_of (drop l.i l.funcs)) ≡ places_from (is_free l.name) 0 (map func_of l.funcs)
