@@ -1,4 +1,5 @@
 -- What is said of a fault.
+use Rattle.std.proofs.Common.{◌≡◌, Result, Ok, Err, IsErrAnd, ap}
 use Rattle.elab_entry.specs.cpp_tree.declared.faults.ElabFault.{ElabFault}
 use Rattle.elab_entry.specs.cpp_tree.declared.faults.ElabFault.TheVariants.{Ill, Override, JumpIntoBlock, Limit, Memory}
 use Rattle.elab_units.specs.Outcomes.{UnlessMemory}
@@ -16,3 +17,8 @@ unless_so (Override at rule) P Q f p = f p
 unless_so (JumpIntoBlock at) P Q f p = f p
 unless_so (Limit at which) P Q f p = f p
 unless_so Memory P Q f p = tt
+
+-- the fault that `?` hands on
+pub handed_on : {A : Type 0} (r : Result A ElabFault) (e : ElabFault) → IsErrAnd r (λ (y : ElabFault). y ≡ e) → r ≡ Err e
+handed_on (Ok a) e h = absurd h
+handed_on (Err x) e h = ap (λ (y : ElabFault). Err y) h

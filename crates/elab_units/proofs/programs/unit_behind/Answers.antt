@@ -1,4 +1,4 @@
-use Rattle.std.proofs.Common.{◌≡◌, ◌∙◌, List, Ok, Err, refl, ap, sym, subst, rules}
+use Rattle.std.proofs.Common.{◌≡◌, ◌∙◌, List, Ok, Err, refl, ap, sym, subst}
 use Rattle.elab_entry.specs.cpp_ast.declared.arena.NodeId.{NodeId}
 use Rattle.elab_entry.specs.cpp_lex.Tokens.{lexemes_of}
 use Rattle.elab_entry.specs.elab_ctx.Says.{Faults}
@@ -10,6 +10,7 @@ use Rattle.elab_leaving.specs.Declaring.{declarations_of}
 use Rattle.elab_leaving.specs.Programs.{unit_from}
 use Rattle.elab_units.specs.Sources.{source_in}
 use Rattle.elab_units.proofs.Elaborating.{unit_done, unit_undeclared, unit_unimplied, keeps_fault}
+use Rattle.elab_units.proofs.Outcomes.{handed_on}
 use Rattle.elab_units.proofs.programs.unit_behind.Goals as goal
 
 pub returns-clause-keeps : goal.returns-clause-keeps
@@ -31,7 +32,7 @@ returns-clause-keeps c =
 
 pub returns-in_err-all_declared-clause-keeps : goal.returns-in_err-all_declared-clause-keeps
 returns-in_err-all_declared-clause-keeps c =
-    let is_error : c.from_residual-in_err-all_declared.result ≡ Err c.in_err-all_declared.field-0.0 = search rules in
+    let is_error : c.from_residual-in_err-all_declared.result ≡ Err c.in_err-all_declared.field-0.0 = handed_on c.from_residual-in_err-all_declared.result c.in_err-all_declared.field-0.0 c.from_residual-in_err-all_declared.ensures.1 in
     let s = lexemes_of c.args.unit.now.tokens in
     let whole = c.in_ok-whole.whole in
     let trees = syntax_of whole.nodes in
@@ -46,7 +47,7 @@ returns-in_err-all_declared-clause-keeps c =
 
 pub returns-in_err-with_implied-clause-keeps : goal.returns-in_err-with_implied-clause-keeps
 returns-in_err-with_implied-clause-keeps c =
-    let is_error : c.from_residual-in_err-with_implied.result ≡ Err c.in_err-with_implied.field-0.0 = search rules in
+    let is_error : c.from_residual-in_err-with_implied.result ≡ Err c.in_err-with_implied.field-0.0 = handed_on c.from_residual-in_err-with_implied.result c.in_err-with_implied.field-0.0 c.from_residual-in_err-with_implied.ensures.1 in
     let s = lexemes_of c.args.unit.now.tokens in
     let whole = c.in_ok-whole.whole in
     let trees = syntax_of whole.nodes in
