@@ -52,6 +52,7 @@ pub fn stopped(alloc: Global, stopped: AloneEnd) -> Result<String, AllocError> {
         AloneEnd::Ended(End::Trapped(trap)) => format!(in alloc; "trap {trap:?}"),
         AloneEnd::Ended(End::StepsOut) => format!(in alloc; "steps out"),
         AloneEnd::NotEnabled => format!(in alloc; "not enabled"),
+        AloneEnd::InBlock => format!(in alloc; "in block"),
         AloneEnd::Spent => format!(in alloc; "spent"),
     }
 }

@@ -1,4 +1,4 @@
-//! Thread 0 of programs by itself. A case is a line of the input, a word that says what is asked and what it is asked of: `events` and a name for all that
+//! Programs by themselves, in which threads take turns. A case is a line of the input, a word that says what is asked and what it is asked of: `events` and a name for all that
 //! the program in the file of that name does, of which the answer is several lines, or `stops`, a number of steps and a program for how it stops within them.
 #![tactic(auto)]
 

@@ -1,4 +1,4 @@
-// What thread 0 of a program does by itself.
+// What a program does by itself.
 
 use crate::lines::{event_line, stopped};
 use case_texts::bytes_of;

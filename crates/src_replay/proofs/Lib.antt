@@ -12,5 +12,7 @@ pub mod OrderSteps
 pub mod OneEntry
 pub mod SeenBlocks
 pub mod SeenEntries
+pub mod Further
+pub mod Turning
 pub mod LoneEntries
 pub mod OneAnswer

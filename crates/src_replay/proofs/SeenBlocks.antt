@@ -1,4 +1,4 @@
--- A whole atomic block of thread 0 by itself, with the events that come in it.
+-- A whole atomic block, with the events that come in it.
 use Rattle.std.proofs.Common.{ℕ, ◌≡◌, ◌+◌, Bool, true, false, Some, None, List, [], ◌∷◌, ◌++◌, length, refl, ap, sym, ◌∙◌, subst, arith, append_assoc}
 use Rattle.std.proofs.lemmas.Bool.{true≢false}
 use Rattle.tx_events.specs.declared.BlockKind.{BlockKind}

@@ -1,24 +1,21 @@
--- An entry of thread 0 by itself, with the events that come in it.
-use Rattle.std.proofs.Common.{ℕ, ◌≡◌, ◌+◌, ◌≤◌, Bool, true, false, None, List, [], ◌∷◌, ◌++◌, refl, ap, sym, ◌∙◌, arith, append-nil}
+-- An event of an entry, with what is written down of it.
+use Rattle.std.proofs.Common.{ℕ, ◌≡◌, true, false, List, [], ◌∷◌, ◌++◌, refl, ap, sym, ◌∙◌}
 use Rattle.std.proofs.lemmas.Bool.{true≢false}
 use Rattle.tx_events.specs.declared.BlockKind.{BlockKind}
 use Rattle.tx_events.specs.declared.Event.{Event}
 use Rattle.tx_events.specs.declared.Event.TheVariants.{Silent, Load, Store, Out, Inp, Spawn, Join, BeginAtomic, EndAtomic, Raise, BeginSync, EndSync, Done, Stop}
 use Rattle.tx_events.specs.Memory.{MemoryLayout}
 use Rattle.tx_events.specs.Thread.{Thread}
-use Rattle.tx_events.specs.World.{World as Worlds, alive, SilentSteps, EventStep}
-use Rattle.src_mean.specs.Cost.{silent_cost}
+use Rattle.tx_events.specs.World.{World as Worlds, EventStep}
 use Rattle.src_mean.specs.Frames.{State}
 use Rattle.src_mean.specs.Linked.{Program}
 use Rattle.src_mean.specs.Source.{source}
 use Rattle.src_replay.specs.declared.world.Entry.{Entry}
 use Rattle.src_replay.specs.declared.world.Entry.TheVariants.{Taken, Refused, Spent}
 use Rattle.src_replay.specs.declared.world.World.{World}
-use Rattle.src_replay.specs.Entries.{is_enabled, is_going, within, stays, absent}
 use Rattle.src_replay.specs.LoneRuns.{event_events}
-use Rattle.src_replay.specs.Seen.{is_begin, SeenAct, SeenStep, EntryRefused, EntrySpent}
-use Rattle.src_replay.specs.Shown.{world_of, Acted, SkipsAll, SkipsOn}
-use Rattle.src_replay.proofs.EntrySteps.{spent_silently, refused_there, spent_there, stepped}
+use Rattle.src_replay.specs.Seen.{is_begin, SeenAct}
+use Rattle.src_replay.specs.Shown.{Acted}
 
 -- an event that begins no block comes alone
 one_event : {S : Type 0} (a : Thread S) (p : MemoryLayout) (t : ℕ) (w : Worlds S) (s : S) (e : Event) (v : Worlds S) (d : EventStep a p t w s e v) → is_begin e ≡ false → event_events a p t w s e v d ≡ e ∷ []
@@ -65,65 +62,3 @@ module _ (program : Program) (p : MemoryLayout) (t : ℕ) (w : Worlds State) (s 
   }
   seen_once event Refused once e told h = absurd (not_begin s.event h.at.kind (ap is_begin e ∙ once) h.at.begins)
   seen_once event Spent once e told h = absurd (not_begin s.event h.at.kind (ap is_begin e ∙ once) h.at.begins)
-
--- nothing was written down
-no_more : (before after : List Event) → after ≡ before → after ≡ before ++ []
-no_more before after e = e ∙ sym (append-nil before)
-
-module _ (program : Program) (p : MemoryLayout) (t : ℕ) (w : Worlds State) (s : State) (left : ℕ) (going : w.end ≡ None) (at : w.threads t ≡ alive s) (before after : List Event) where
-  -- too many silent steps
-  pub seen_silently : (now : World) → after ≡ before → SkipsOn program p t w s left now → EntrySpent program p t w left now before after
-  unfolding spent_silently
-  seen_silently now e h = record {
-    unfinished = spent_silently program p t w s left going at now h;
-    none_left = h.spent;
-    out = ap (λ (z : Worlds State). z.out) h.skips.world;
-    seen = no_more before after e;
-  }
-
-  -- an event that is not enabled
-  pub seen_not_enabled : (now : World) (h : SkipsAll program p t w s left now) (event : Event) (b : Bool) → after ≡ before → event ≡ h.skips.here.event → b ≡ is_enabled t (world_of now) event → b ≡ false → EntryRefused program p t w left now before after
-  unfolding refused_there
-  seen_not_enabled now h event b same e q f = record {
-    refused = refused_there program p t w s left going at now h event b e q f;
-    cost = h.skips.cost;
-    out = ap (λ (z : Worlds State). z.out) h.skips.world;
-    seen = no_more before after same;
-  }
-
-  -- an event for which no unit is left
-  pub seen_unpaid : (now paid : World) (h : SkipsAll program p t w s left now) (event : Event) (b : Bool) → after ≡ before → event ≡ h.skips.here.event → b ≡ is_enabled t (world_of now) event → b ≡ true → now.left ≡ 0 → paid ≡ record now { left = paid.left } → paid.left ≤ now.left
-      → EntrySpent program p t w left paid before after
-  unfolding spent_there
-  seen_unpaid now paid h event b same e q f none is less = record {
-    unfinished = spent_there program p t w s left going at now h event b e q f none;
-    none_left = omega (arith, none, less);
-    out = ap (λ (z : World). z.out.items) is ∙ ap (λ (z : Worlds State). z.out) h.skips.world;
-    seen = no_more before after same;
-  }
-
-  -- the event or the block
-  pub seen_stepped : (here : State) (steps : SilentSteps (source program) s here) (k : ℕ) (new : World) (r : Entry) → silent_cost steps + (k + 1) ≡ left → SeenAct program p t w here k new before after r → SeenStep program p t w left new before after r
-  unfolding stepped
-  seen_stepped here steps k new Taken c h = record { taken = stepped program p t w s left going at here steps k new Taken c h.taken; seen = h.seen }
-  seen_stepped here steps k new Refused c h = record {
-    refused = stays (within s here h.at.kind h.at.last at steps h.at.begins h.at.free h.at.run) (omega (arith, h.cost, c)) h.never;
-    cost = omega (arith, h.cost, c);
-    out = h.out;
-    seen = h.seen;
-  }
-  seen_stepped here steps k new Spent c h = record {
-    unfinished = record {
-      going = going;
-      moment = within s here h.at.kind h.at.last at steps h.at.begins h.at.free h.at.run;
-      all = omega (arith, h.cost, c);
-      further = h.further;
-    };
-    none_left = h.none_left;
-    out = h.out;
-    seen = h.seen;
-  }
-
--- a thread that was not started or has ended
-pub seen_absent : (program : Program) (p : MemoryLayout) (t : ℕ) (now : World) (before : List Event) → is_going ((world_of now).threads t) ≡ false → EntryRefused program p t (world_of now) now.left now before before
-seen_absent program p t now before e = record { refused = absent e; cost = omega arith; out = refl; seen = no_more before before refl }

@@ -5,3 +5,4 @@ pub mod Undone
 pub mod Inner
 pub mod LoneRuns
 pub mod Seen
+pub mod Turns

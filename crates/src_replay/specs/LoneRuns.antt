@@ -1,5 +1,5 @@
--- The run of thread 0 by itself: which events come in it, and what is told of it.
-use Rattle.std.specs.Prelude.{◌≡◌, ◌+◌, ◌<◌, ℕ, zero, suc, cond, List, [], ◌∷◌, ◌++◌, Some, None}
+-- The run of a program by itself, in which threads take turns: which events come in it, and what is told of it.
+use Rattle.std.specs.Prelude.{◌≡◌, ◌+◌, ◌%◌, ◌<◌, ◌≤◌, ℕ, cond, List, [], ◌∷◌, ◌++◌, Some, None}
 use Rattle.tx_events.specs.declared.End.{End}
 use Rattle.tx_events.specs.declared.Event.{Event}
 use Rattle.tx_events.specs.declared.Event.TheVariants.{BeginAtomic}
@@ -11,7 +11,7 @@ use Rattle.src_bind.specs.Tables.{Given}
 use Rattle.src_mean.specs.Cost.{step_cost, cost}
 use Rattle.src_mean.specs.Source.{source}
 use Rattle.src_replay.specs.declared.alone.AloneEnd.{AloneEnd}
-use Rattle.src_replay.specs.declared.alone.AloneEnd.TheVariants.{Ended, NotEnabled, Spent}
+use Rattle.src_replay.specs.declared.alone.AloneEnd.TheVariants.{Ended, NotEnabled, InBlock, Spent}
 use Rattle.src_replay.specs.declared.alone.AloneRun.{AloneRun}
 use Rattle.src_replay.specs.Entries.{Moment, outside, within, units, Refused, over, absent, stays, Unfinished}
 use Rattle.src_replay.specs.Orders.{program_in, layout_in, first_in}
@@ -56,52 +56,78 @@ refused_units a p t w most (over e) = 0
 refused_units a p t w most (absent e) = 0
 refused_units a p t w most (stays m few stuck) = units a p t w m
 
+-- Turns
+
+-- Turn k is an entry of thread t: the turns from n on are of thread 0, 1, .. in a circle, as many as were started (the picker `round:1`), and those before turn k pass, since their threads have no step.
+pub record IsTurn {S : Type 0} (a : Thread S) (p : MemoryLayout) (w : World S) (n k t : ℕ) : Type 0 where
+  pub behind : n ≤ k
+  pub passes : (i : ℕ) (v : World S) → n ≤ i → i < k → Step a p (i % w.started) w v → ⊥
+  pub is : t ≡ k % w.started
+
+-- the entries of an order take turns, from turn n on, and behind the last of them comes turn m
+abbrev pub TakesTurns : {S : Type 0} (a : Thread S) (p : MemoryLayout) (n m : ℕ) (w : World S) (order : List ℕ) (v : World S) → Replays a p w order v → Type 0
+TakesTurns a p n m w [] v replay = n ≡ m
+TakesTurns a p n m w (t ∷ ts) v replay = (k : ℕ) × IsTurn a p w n k t × TakesTurns a p (k + 1) m replay.0 ts v replay.2
+
 -- Runs
 
--- so many entries, each of thread 0
-abbrev pub own_entries : ℕ → List ℕ
-own_entries zero = []
-own_entries (suc n) = 0 ∷ own_entries n
-
--- So many entries of thread 0 lead from the first world to this one, and so many units are left of those that were given.
-pub record CameTo {S : Type 0} (a : Thread S) (p : MemoryLayout) (first : World S) (most : ℕ) : Type 0 where
-  pub count : ℕ
+-- The entries of this order, in which threads take turns, lead from the first world to this one, and so many units are left of those that were given.
+pub record CameTo {S : Type 0} (a : Thread S) (p : MemoryLayout) (first : World S) (order : List ℕ) (most : ℕ) : Type 0 where
   pub world : World S
-  pub replays : Replays a p first (own_entries count) world
+  pub replays : Replays a p first order world
+  pub turn : ℕ
+  pub turns : TakesTurns a p 0 turn first order world replays
   pub left : ℕ
-  pub paid : cost a p first (own_entries count) world replays + left ≡ most
+  pub paid : cost a p first order world replays + left ≡ most
 
 -- the program has ended so
 pub record HasEnded {S : Type 0} (a : Thread S) (p : MemoryLayout) (first : World S) (most : ℕ) (r : AloneRun) (end : End) : Type 0 where
-  pub came : CameTo a p first most
+  pub came : CameTo a p first r.order.items most
   pub end_is : came.world.end ≡ Some end
   pub out_is : r.out.items ≡ came.world.out
-  pub events_are : r.events.items ≡ events a p first (own_entries came.count) came.world came.replays
-  pub cost_is : r.cost ≡ cost a p first (own_entries came.count) came.world came.replays
+  pub events_are : r.events.items ≡ events a p first r.order.items came.world came.replays
+  pub cost_is : r.cost ≡ cost a p first r.order.items came.world came.replays
 
--- it has not, and the next entry has no step, which the units that are left show
+-- it has not, and no thread has a step, which the units that are left show of each
 pub record IsStuck {S : Type 0} (a : Thread S) (p : MemoryLayout) (first : World S) (most : ℕ) (r : AloneRun) : Type 0 where
-  pub came : CameTo a p first most
+  pub came : CameTo a p first r.order.items most
   pub going : came.world.end ≡ None
-  pub refused : Refused a p 0 came.world came.left
-  pub no_step : (v : World S) → Step a p 0 came.world v → ⊥
+  pub refused : (t : ℕ) → Refused a p t came.world came.left
+  pub no_step : (t : ℕ) (v : World S) → Step a p t came.world v → ⊥
   pub out_is : r.out.items ≡ came.world.out
-  pub events_are : r.events.items ≡ events a p first (own_entries came.count) came.world came.replays ++ refused_events a p 0 came.world came.left refused
-  pub cost_is : r.cost ≡ cost a p first (own_entries came.count) came.world came.replays + refused_units a p 0 came.world came.left refused
+  pub events_are : r.events.items ≡ events a p first r.order.items came.world came.replays
+  pub cost_is : r.cost ≡ cost a p first r.order.items came.world came.replays
 
--- it has not, and the next entry takes more than the units that are left
-pub record IsCutOff {S : Type 0} (a : Thread S) (p : MemoryLayout) (first : World S) (most : ℕ) (r : AloneRun) : Type 0 where
-  pub came : CameTo a p first most
-  pub unfinished : Unfinished a p 0 came.world came.left
-  pub costs_more : (v : World S) (step : Step a p 0 came.world v) → came.left < step_cost a p 0 came.world v step
+-- it has not, and in the block of the next thread comes what may not come there
+pub record IsBroken {S : Type 0} (a : Thread S) (p : MemoryLayout) (first : World S) (most : ℕ) (r : AloneRun) : Type 0 where
+  pub came : CameTo a p first r.order.items most
+  pub going : came.world.end ≡ None
+  pub turn : ℕ
+  pub thread : ℕ
+  pub next : IsTurn a p came.world came.turn turn thread
+  pub refused : Refused a p thread came.world came.left
+  pub no_step : (v : World S) → Step a p thread came.world v → ⊥
   pub out_is : r.out.items ≡ came.world.out
-  pub events_are : r.events.items ≡ events a p first (own_entries came.count) came.world came.replays ++ moment_events a p 0 came.world unfinished.moment
+  pub events_are : r.events.items ≡ events a p first r.order.items came.world came.replays ++ refused_events a p thread came.world came.left refused
+  pub cost_is : r.cost ≡ cost a p first r.order.items came.world came.replays + refused_units a p thread came.world came.left refused
+
+-- it has not, and the entry of the next thread takes more than the units that are left
+pub record IsCutOff {S : Type 0} (a : Thread S) (p : MemoryLayout) (first : World S) (most : ℕ) (r : AloneRun) : Type 0 where
+  pub came : CameTo a p first r.order.items most
+  pub turn : ℕ
+  pub thread : ℕ
+  pub next : IsTurn a p came.world came.turn turn thread
+  pub unfinished : Unfinished a p thread came.world came.left
+  pub costs_more : (v : World S) (step : Step a p thread came.world v) → came.left < step_cost a p thread came.world v step
+  pub out_is : r.out.items ≡ came.world.out
+  pub events_are : r.events.items ≡ events a p first r.order.items came.world came.replays ++ moment_events a p thread came.world unfinished.moment
   pub cost_is : r.cost ≡ most
 
--- what is told of the run of thread 0 by itself
+-- what is told of the run of a program by itself
 abbrev pub IsRunAlone : {S : Type 0} → Thread S → MemoryLayout → World S → ℕ → AloneRun → AloneEnd → Type 0
 IsRunAlone a p first most r (Ended end) = HasEnded a p first most r end
 IsRunAlone a p first most r NotEnabled = IsStuck a p first most r
+IsRunAlone a p first most r InBlock = IsBroken a p first most r
 IsRunAlone a p first most r Spent = IsCutOff a p first most r
 
 -- the same of a program that is bound

@@ -1,13 +1,11 @@
--- What a step of thread 0 by itself did, and which events were written down of it.
+-- What a step of a thread did, and which events were written down of it.
 use Rattle.std.specs.Prelude.{◌≡◌, ◌+◌, ℕ, Bool, false, true, List, ◌∷◌, ◌++◌}
 use Rattle.tx_events.specs.declared.Event.{Event}
 use Rattle.tx_events.specs.declared.Event.TheVariants.{Silent, Load, Store, Out, Inp, Spawn, Join, BeginAtomic, EndAtomic, Raise, BeginSync, EndSync, Done, Stop}
 use Rattle.tx_events.specs.Alone.{inner_by}
 use Rattle.tx_events.specs.Memory.{MemoryLayout}
-use Rattle.tx_events.specs.World.{World as Worlds, Replays}
-use Rattle.tx_memory.specs.View.{layout_of}
-use Rattle.src_bind.specs.Tables.{Given}
-use Rattle.src_mean.specs.Cost.{inside_cost, cost}
+use Rattle.tx_events.specs.World.{World as Worlds}
+use Rattle.src_mean.specs.Cost.{inside_cost}
 use Rattle.src_mean.specs.Frames.{State}
 use Rattle.src_mean.specs.Linked.{Program}
 use Rattle.src_mean.specs.Source.{source}
@@ -17,9 +15,8 @@ use Rattle.src_replay.specs.declared.world.Entry.TheVariants.{Taken, Refused, Sp
 use Rattle.src_replay.specs.declared.world.World.{World}
 use Rattle.src_replay.specs.Entries.{comes, Unfinished}
 use Rattle.src_replay.specs.Entries as entries
-use Rattle.src_replay.specs.LoneRuns.{inside_events, event_events, step_events, events, moment_events, refused_events, refused_units, own_entries}
-use Rattle.src_replay.specs.Orders.{program_in, layout_in, first_in}
-use Rattle.src_replay.specs.Shown.{Stands, Shows, Does, Inmost, ActTaken, BlockRun, StepTaken}
+use Rattle.src_replay.specs.LoneRuns.{inside_events, event_events, moment_events, refused_events, refused_units}
+use Rattle.src_replay.specs.Shown.{Does, Inmost, ActTaken, BlockRun}
 
 -- the event begins an atomic block
 abbrev pub is_begin : Event → Bool
@@ -73,11 +70,7 @@ SeenAct program p t w s left new before after Taken = SeenTaken program p t w s 
 SeenAct program p t w s left new before after Refused = SeenRefused program p t w s left new before after
 SeenAct program p t w s left new before after Spent = SeenSpent program p t w s left new before after
 
--- a whole entry
-pub record EntryTaken (program : Program) (p : MemoryLayout) (t : ℕ) (w : Worlds State) (left : ℕ) (new : World) (before after : List Event) : Type 0 where
-  pub taken : StepTaken program p t w left new
-  pub seen : after ≡ before ++ step_events (source program) p t w taken.world taken.step
-
+-- an entry that is not over
 pub record EntryRefused (program : Program) (p : MemoryLayout) (t : ℕ) (w : Worlds State) (left : ℕ) (new : World) (before after : List Event) : Type 0 where
   pub refused : entries.Refused (source program) p t w left
   pub cost : refused_units (source program) p t w left refused + new.left ≡ left
@@ -89,19 +82,3 @@ pub record EntrySpent (program : Program) (p : MemoryLayout) (t : ℕ) (w : Worl
   pub none_left : new.left ≡ 0
   pub out : new.out.items ≡ w.out
   pub seen : after ≡ before ++ moment_events (source program) p t w unfinished.moment
-
-abbrev pub SeenStep : Program → MemoryLayout → ℕ → Worlds State → ℕ → World → List Event → List Event → Entry → Type 0
-SeenStep program p t w left new before after Taken = EntryTaken program p t w left new before after
-SeenStep program p t w left new before after Refused = EntryRefused program p t w left new before after
-SeenStep program p t w left new before after Spent = EntrySpent program p t w left new before after
-
--- the entries of thread 0 so far
-pub record RanAlone (b : Given) (input : List ℕ) (most : ℕ) (now : World) (told : List Event) : Type 0 where
-  pub count : ℕ
-  pub world : Worlds State
-  pub replays : Replays (source (program_in b)) (layout_in b) (first_in b input) (own_entries count) world
-  pub cost_is : cost (source (program_in b)) (layout_in b) (first_in b input) (own_entries count) world replays + now.left ≡ most
-  pub told_is : told ≡ events (source (program_in b)) (layout_in b) (first_in b input) (own_entries count) world replays
-  pub shows : Shows now world
-  pub stands : Stands (program_in b) now
-  pub layout : layout_of now.memory ≡ layout_in b

@@ -14,6 +14,7 @@ mod memories;
 mod nested;
 pub mod replaying;
 mod threads;
+mod turns;
 mod world;
 
 pub use alone::{AloneEnd, AloneRun, run_alone};

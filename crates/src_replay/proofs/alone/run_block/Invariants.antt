@@ -16,6 +16,6 @@ invariant-loop-taken l = record {
   layout : layout_of l.world.memory ≡ layout_of l.fn.world.memory;
   nested : IsNested (layout_of l.world.memory) l.nested;
   marked : l.nested.marks.items ≢ [];
-  run : (program : Program) (w : Worlds State) (s : State) → Stands program l.fn.world → world_of l.fn.world ≡ goes 0 w s
-      → SeenBlock program (layout_of l.fn.world.memory) 0 w s l.fn.event l.fn.world.left l.world l.nested l.fn.events.items l.events.items;
+  run : (program : Program) (w : Worlds State) (s : State) → Stands program l.fn.world → world_of l.fn.world ≡ goes l.fn.t w s
+      → SeenBlock program (layout_of l.fn.world.memory) l.fn.t w s l.fn.event l.fn.world.left l.world l.nested l.fn.events.items l.events.items;
 }
