@@ -44,8 +44,10 @@ use Rattle.symbolic_terms.specs.declared.frames.ExceptionFrame.{ExceptionFrame}
 use Rattle.symbolic_terms.specs.declared.frames.ExceptionFrame.TheVariants.{Throws, Fills, Filled, Tries, Trying, Takes, Taking, Handling}
 use Rattle.symbolic_terms.specs.declared.outcomes.Doing.{Doing}
 use Rattle.symbolic_terms.specs.declared.outcomes.Doing.TheVariants.{Silent, Reads, Writes, PutsOut, TakesIn, Joins, BeginsAtomic, BeginsSync, EndsBlock, LeavesBlock}
+use Rattle.symbolic_terms.specs.declared.outcomes.Leading.{Leading}
+use Rattle.symbolic_terms.specs.declared.outcomes.Leading.TheVariants.{Does, Calls, Spawns, Rethrows}
 use Rattle.symbolic_terms.specs.declared.outcomes.Outcome.{Outcome}
-use Rattle.symbolic_terms.specs.declared.outcomes.Outcome.TheVariants.{Stuck, Goes, Hands, GoesOut, Chooses', Results', Finds', Calls, Spawns, Rethrows, Halts}
+use Rattle.symbolic_terms.specs.declared.outcomes.Outcome.TheVariants.{Stuck, Goes, Hands, GoesOut, Chooses', Results', Finds', Halts}
 use Rattle.symbolic_terms.specs.declared.places.Hold.{Hold}
 use Rattle.symbolic_terms.specs.declared.places.Hold.TheVariants.{Nothing, Making, Flying}
 use Rattle.symbolic_terms.specs.declared.places.Place.{Place}
@@ -180,17 +182,21 @@ module _ (p : Program) where
     doing_of (EndsBlock block) = outcomes.ends_block (open_shown block)
     doing_of (LeavesBlock block exit) = outcomes.leaves_block (open_shown block) (exit_of exit)
 
+    -- with this left to do
+    abbrev pub leading_of : Leading → List frames.Waiting → List frames.Frame → outcomes.Outcome
+    leading_of (Does doing) ws k = outcomes.goes (doing_of doing) ws k
+    leading_of (Calls callee words) ws k = outcomes.calls (callee_of callee) (terms_of words) ws k
+    leading_of (Spawns address argument) ws k = outcomes.spawns (term_of address) (term_of argument) ws k
+    leading_of Rethrows ws k = outcomes.rethrows ws k
+
     abbrev pub outcome_of : Outcome → outcomes.Outcome
     outcome_of Stuck = outcomes.stuck
-    outcome_of (Goes doing rest) = outcomes.goes (doing_of doing) (all_waiting rest.temporaries) (frames_of rest.frames)
+    outcome_of (Goes leading rest) = leading_of leading (all_waiting rest.temporaries) (frames_of rest.frames)
     outcome_of (Hands w temporaries) = outcomes.hands (term_of w) (all_waiting temporaries)
     outcome_of (GoesOut exit temporaries) = outcomes.goes_out (exit_of exit) (all_waiting temporaries)
     outcome_of (Chooses' w p zero q other) = outcomes.chooses (term_of w) (outcome_of zero) (outcome_of other)
     outcome_of (Results' op kind a b q o) = outcomes.results op kind (term_of a) (term_of b) (outcome_of o)
     outcome_of (Finds' class slot address q o) = outcomes.finds class slot (term_of address) (outcome_of o)
-    outcome_of (Calls callee words rest) = outcomes.calls (callee_of callee) (terms_of words) (all_waiting rest.temporaries) (frames_of rest.frames)
-    outcome_of (Spawns address argument rest) = outcomes.spawns (term_of address) (term_of argument) (all_waiting rest.temporaries) (frames_of rest.frames)
-    outcome_of (Rethrows rest) = outcomes.rethrows (all_waiting rest.temporaries) (frames_of rest.frames)
     outcome_of (Halts end) = outcomes.halts end
 
 -- Places

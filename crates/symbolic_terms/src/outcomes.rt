@@ -37,13 +37,30 @@ pub struct Rest<'a> {
     pub frames: Frames<'a>,
 }
 
+/// What a state does, or asks for, in which the function at hand has something left to do.
+#[derive(Clone, Copy)]
+pub enum Leading<'a> {
+    /// This event.
+    Does(Doing<'a>),
+    Calls {
+        callee: Callee<'a>,
+        words: Terms<'a>,
+    },
+    Spawns {
+        address: Term<'a>,
+        argument: Term<'a>,
+    },
+    /// What a caller's handler has.
+    Rethrows,
+}
+
 /// What comes of a step.
 #[derive(Clone, Copy)]
 pub enum Outcome<'a> {
     /// Not foreseen.
     Stuck,
     /// A state in which the function at hand has this left to do.
-    Goes(Doing<'a>, Rest<'a>),
+    Goes(Leading<'a>, Rest<'a>),
     /// The function is done, and its caller goes on with the value.
     Hands(Term<'a>, Waitings<'a>),
     /// This leaves the function.
@@ -69,17 +86,5 @@ pub enum Outcome<'a> {
         address: Term<'a>,
         then: &'a Outcome<'a>,
     },
-    Calls {
-        callee: Callee<'a>,
-        words: Terms<'a>,
-        rest: Rest<'a>,
-    },
-    Spawns {
-        address: Term<'a>,
-        argument: Term<'a>,
-        rest: Rest<'a>,
-    },
-    /// What a caller's handler has.
-    Rethrows(Rest<'a>),
     Halts(End),
 }
