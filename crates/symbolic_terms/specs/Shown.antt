@@ -51,7 +51,7 @@ use Rattle.symbolic_terms.specs.declared.outcomes.Outcome.TheVariants.{Stuck, Go
 use Rattle.symbolic_terms.specs.declared.places.Hold.{Hold}
 use Rattle.symbolic_terms.specs.declared.places.Hold.TheVariants.{Nothing, Making, Flying}
 use Rattle.symbolic_terms.specs.declared.places.Place.{Place}
-use Rattle.symbolic_terms.specs.declared.places.Opens.{Opens}
+use Rattle.symbolic_terms.specs.declared.places.Opens.{Opens as OpenList}
 use Rattle.symbolic_terms.specs.declared.places.Opens.TheVariants.{Empty as NoOpens, More' as MoreOpens}
 use Rattle.symbolic_terms.specs.declared.places.Facts.{Facts}
 use Rattle.symbolic_terms.specs.declared.places.Facts.TheVariants.{Empty as NoFacts, More' as MoreFacts}
@@ -206,7 +206,7 @@ hold_of Nothing = code.nothing
 hold_of (Making typ puts) = code.making (typ_of typ.now) (puts_of puts)
 hold_of (Flying e) = code.flying (exception_of e)
 
-abbrev pub opens_of : Opens → List threads.Open
+abbrev pub opens_of : OpenList → List threads.Open
 opens_of NoOpens = []
 opens_of (MoreOpens block p opens) = open_shown block ∷ opens_of opens
 

@@ -5,7 +5,7 @@ use Rattle.symbolic_source.specs.Terms as symbolic
 use Rattle.symbolic_terms.specs.declared.terms.Term.{Term}
 use Rattle.symbolic_terms.specs.declared.terms.Term.TheVariants.{Number, Variable, Local, Global, Function, Table, SlotFunction', Sum', Product', Before', LowByte', Converted', Applied', Field'}
 use Rattle.symbolic_terms.specs.declared.terms.Exception.{Exception}
-use Rattle.symbolic_terms.specs.declared.terms.Exception.TheVariants.{Unknown, Made'}
+use Rattle.symbolic_terms.specs.declared.terms.Exception.TheVariants.{Unknown, Made}
 use Rattle.symbolic_terms.specs.declared.terms.Puts.{Puts}
 use Rattle.symbolic_terms.specs.declared.terms.Puts.TheVariants.{Untouched, Put'}
 use Rattle.symbolic_terms.specs.declared.terms.Terms.{Terms}
@@ -32,7 +32,7 @@ abbrev mutual
 
   pub exception_of : Exception → symbolic.Exception
   exception_of (Unknown n) = symbolic.unknown n
-  exception_of (Made' t puts) = symbolic.made (typ_of t.now) (puts_of puts)
+  exception_of (Made t puts) = symbolic.made (typ_of t.now) (puts_of puts)
 
   pub puts_of : Puts → symbolic.Puts
   puts_of Untouched = symbolic.untouched
