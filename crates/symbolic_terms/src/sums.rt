@@ -47,11 +47,7 @@ pub fn at_offset<'a>(arena: &'a Bump, term: Term<'a>, offset: u64) -> Result<Ter
 }
 
 /// A sum with a number, as it is written: numbers are added at once, and 0 is not.
-pub fn plus_number<'a>(
-    arena: &'a Bump,
-    term: Term<'a>,
-    number: u64,
-) -> Result<Term<'a>, Refusal>
+pub fn plus_number<'a>(arena: &'a Bump, term: Term<'a>, number: u64) -> Result<Term<'a>, Refusal>
     ensures { IfOk result (λ s. term_of s ≡ plus_number_of (term_of term.entry) number) }
 {
     match term {
@@ -99,11 +95,7 @@ pub fn summed<'a>(arena: &'a Bump, left: Term<'a>, right: Term<'a>) -> Result<Te
 }
 
 /// A product of what has come in the place of variables.
-pub fn multiplied<'a>(
-    arena: &'a Bump,
-    left: Term<'a>,
-    right: Term<'a>,
-) -> Result<Term<'a>, Refusal>
+pub fn multiplied<'a>(arena: &'a Bump, left: Term<'a>, right: Term<'a>) -> Result<Term<'a>, Refusal>
     ensures { IfOk result (λ s. term_of s ≡ multiplied_of (term_of left.entry) (term_of right.entry)) }
 {
     match left {
