@@ -1,5 +1,5 @@
--- The frames, outcomes, places and facts that data show, at a bound program. What stands last in a list of the code is the innermost or the newest, and comes first.
-use Rattle.std.specs.Prelude.{List, map, reverse, drop}
+-- The frames, outcomes, places and facts that data show, at a bound program.
+use Rattle.std.specs.Prelude.{List, [], ◌∷◌, drop}
 use Rattle.cpp_tree.specs.cpp_types.Typ.{typ_of}
 use Rattle.cpp_tree.specs.tx_events.Thread as threads
 use Rattle.cpp_tree.specs.declared.program.Program.{Program}
@@ -14,11 +14,14 @@ use Rattle.symbolic_source.specs.Frames as frames
 use Rattle.symbolic_source.specs.Outcomes as outcomes
 use Rattle.symbolic_code.specs.Places as code
 use Rattle.symbolic_code.specs.Facts as facts
-use Rattle.src_frames.specs.declared.frames.Open.{Open}
-use Rattle.symbolic_terms.specs.Words.{term_of, exception_of, puts_of, terms_of, operands_of, exceptions_of}
+use Rattle.symbolic_terms.specs.Words.{term_of, exception_of, puts_of, terms_of, exceptions_of}
 use Rattle.symbolic_terms.specs.declared.frames.Spot.{Spot}
 use Rattle.symbolic_terms.specs.declared.frames.Spot.TheVariants.{Word, Tree}
 use Rattle.symbolic_terms.specs.declared.frames.Waiting.{Waiting}
+use Rattle.symbolic_terms.specs.declared.frames.Waitings.{Waitings}
+use Rattle.symbolic_terms.specs.declared.frames.Waitings.TheVariants.{Empty as NoneWait, More' as MoreWait}
+use Rattle.symbolic_terms.specs.declared.frames.Frames.{Frames}
+use Rattle.symbolic_terms.specs.declared.frames.Frames.TheVariants.{Empty as NoFrames, More' as MoreFrames}
 use Rattle.symbolic_terms.specs.declared.frames.Way.{Way}
 use Rattle.symbolic_terms.specs.declared.frames.Way.TheVariants.{Value as ForValue, Into}
 use Rattle.symbolic_terms.specs.declared.frames.Exit.{Exit}
@@ -41,11 +44,17 @@ use Rattle.symbolic_terms.specs.declared.frames.ExceptionFrame.{ExceptionFrame}
 use Rattle.symbolic_terms.specs.declared.frames.ExceptionFrame.TheVariants.{Throws, Fills, Filled, Tries, Trying, Takes, Taking, Handling}
 use Rattle.symbolic_terms.specs.declared.outcomes.Doing.{Doing}
 use Rattle.symbolic_terms.specs.declared.outcomes.Doing.TheVariants.{Silent, Reads, Writes, PutsOut, TakesIn, Joins, BeginsAtomic, BeginsSync, EndsBlock, LeavesBlock}
+use Rattle.symbolic_terms.specs.declared.outcomes.Leading.{Leading}
+use Rattle.symbolic_terms.specs.declared.outcomes.Leading.TheVariants.{Does, Calls, Spawns, Rethrows}
 use Rattle.symbolic_terms.specs.declared.outcomes.Outcome.{Outcome}
-use Rattle.symbolic_terms.specs.declared.outcomes.Outcome.TheVariants.{Stuck, Goes, Hands, GoesOut, Chooses', Results', Finds', Calls, Spawns, Rethrows, Halts}
+use Rattle.symbolic_terms.specs.declared.outcomes.Outcome.TheVariants.{Stuck, Goes, Hands, GoesOut, Chooses', Results', Finds', Halts}
 use Rattle.symbolic_terms.specs.declared.places.Hold.{Hold}
 use Rattle.symbolic_terms.specs.declared.places.Hold.TheVariants.{Nothing, Making, Flying}
 use Rattle.symbolic_terms.specs.declared.places.Place.{Place}
+use Rattle.symbolic_terms.specs.declared.places.Opens.{Opens as OpenList}
+use Rattle.symbolic_terms.specs.declared.places.Opens.TheVariants.{Empty as NoOpens, More' as MoreOpens}
+use Rattle.symbolic_terms.specs.declared.places.Facts.{Facts}
+use Rattle.symbolic_terms.specs.declared.places.Facts.TheVariants.{Empty as NoFacts, More' as MoreFacts}
 use Rattle.symbolic_terms.specs.declared.places.Fact.{Fact}
 use Rattle.symbolic_terms.specs.declared.places.Fact.TheVariants.{NotZero, HasFunction}
 
@@ -74,8 +83,9 @@ module _ (p : Program) where
   abbrev pub waiting_of : Waiting → frames.Waiting
   waiting_of w = record { address = spot_of w.address; destroys = kids_shown p w.destroys }
 
-  abbrev pub all_waiting : List Waiting → List frames.Waiting
-  all_waiting ws = map waiting_of (reverse ws)
+  abbrev pub all_waiting : Waitings → List frames.Waiting
+  all_waiting NoneWait = []
+  all_waiting (MoreWait w p ws) = waiting_of w ∷ all_waiting ws
 
   abbrev pub callee_of : Callee → frames.Callee
   callee_of (Known n) = frames.known n
@@ -100,21 +110,21 @@ module _ (p : Program) where
   value_of (CopyBy target init) = frames.CopyBy (term_of target) (tree_shown p init)
   value_of (From target init) = frames.From (term_of target) (tree_shown p init)
 
-  -- of the words that go into the frame of the function at hand so many have gone
+  -- where words go into the frame of the function at hand, so many have gone
   abbrev pub call_of : Func → CallFrame → frames.Frame
-  call_of f (Words callee before rest) = frames.Words (callee_of callee) (terms_of before.items) (kids_shown p rest)
-  call_of f (ObjectOf before class slot pointer rest) = frames.Object (terms_of before.items) class slot pointer (kids_shown p rest)
-  call_of f (Slot before class slot rest) = frames.Slot (terms_of before.items) class slot (kids_shown p rest)
-  call_of f (Pointer before t rest) = frames.Pointer (terms_of before.items) (called_signature (typ_in (tree_shown p t))) (kids_shown p rest)
-  call_of f (Passes words from) = frames.Passes (drop from (terms_of words.items)) (drop from f.words)
+  call_of f (Words callee before rest) = frames.Words (callee_of callee) (terms_of before) (kids_shown p rest)
+  call_of f (ObjectOf before class slot pointer rest) = frames.Object (terms_of before) class slot pointer (kids_shown p rest)
+  call_of f (Slot before class slot rest) = frames.Slot (terms_of before) class slot (kids_shown p rest)
+  call_of f (Pointer before t rest) = frames.Pointer (terms_of before) (called_signature (typ_in (tree_shown p t))) (kids_shown p rest)
+  call_of f (Passes words from) = frames.Passes (terms_of words) (drop from f.words)
 
   abbrev pub object_of : ObjectFrame → frames.Frame
-  object_of (Full outer) = frames.Full (all_waiting outer.items)
+  object_of (Full outer) = frames.Full (all_waiting outer)
   object_of (Keeps w) = frames.Keeps (spot_of w.address) (kids_shown p w.destroys)
-  object_of (Scope owner always waiting) = frames.Scope (owner_shown owner) always (all_waiting waiting.items)
+  object_of (Scope owner always waiting) = frames.Scope (owner_shown owner) always (all_waiting waiting)
   object_of (Waits owner w) = frames.Waits (owner_shown owner) (spot_of w.address) (kids_shown p w.destroys)
   object_of (InitAt init destroys) = frames.InitAt (tree_shown p init) (kids_shown p destroys)
-  object_of (Cleans waiting) = frames.Cleans (all_waiting waiting.items)
+  object_of (Cleans waiting) = frames.Cleans (all_waiting waiting)
   object_of (Due kids) = frames.Due (kids_shown p kids)
   object_of (Destroys number address stride left) = frames.Destroys number (term_of address) stride (term_of left)
   object_of (Parts kids target source) = frames.Parts (kids_shown p kids) (term_of target) (term_of source)
@@ -131,9 +141,9 @@ module _ (p : Program) where
   statement_of Returning = frames.Returning
 
   abbrev pub throwing_of : ExceptionFrame → frames.Frame
-  throwing_of (Throws typ fields) = frames.Throws (typ_of typ) (kids_shown p fields)
-  throwing_of (Fills typ from fields puts) = frames.Fills (typ_of typ) (term_of from) (kids_shown p fields) (puts_of puts)
-  throwing_of (Filled typ from offset kind fields puts) = frames.Filled (typ_of typ) (term_of from) offset kind (kids_shown p fields) (puts_of puts)
+  throwing_of (Throws typ fields) = frames.Throws (typ_of typ.now) (kids_shown p fields)
+  throwing_of (Fills typ from fields puts) = frames.Fills (typ_of typ.now) (term_of from) (kids_shown p fields) (puts_of puts)
+  throwing_of (Filled typ from offset kind fields puts) = frames.Filled (typ_of typ.now) (term_of from) offset kind (kids_shown p fields) (puts_of puts)
   throwing_of (Tries handlers) = frames.Tries (kids_shown p handlers)
   throwing_of (Trying e handler others) = frames.Trying (exception_of e) (tree_shown p handler) (kids_shown p others)
   throwing_of (Takes e base fields) = frames.Takes (exception_of e) (term_of base) (kids_shown p fields)
@@ -154,8 +164,9 @@ module _ (p : Program) where
     frame_of (Block b) = block_of b p
     frame_of (AtException e) = throwing_of e
 
-    unfoldable pub frames_of : List Frame → List frames.Frame
-    frames_of fs = map frame_of (reverse fs)
+    abbrev pub frames_of : Frames → List frames.Frame
+    frames_of NoFrames = []
+    frames_of (MoreFrames g p k) = frame_of g ∷ frames_of k
 
     -- Outcomes
 
@@ -171,40 +182,46 @@ module _ (p : Program) where
     doing_of (EndsBlock block) = outcomes.ends_block (open_shown block)
     doing_of (LeavesBlock block exit) = outcomes.leaves_block (open_shown block) (exit_of exit)
 
+    -- with this left to do
+    abbrev pub leading_of : Leading → List frames.Waiting → List frames.Frame → outcomes.Outcome
+    leading_of (Does doing) ws k = outcomes.goes (doing_of doing) ws k
+    leading_of (Calls callee words) ws k = outcomes.calls (callee_of callee) (terms_of words) ws k
+    leading_of (Spawns address argument) ws k = outcomes.spawns (term_of address) (term_of argument) ws k
+    leading_of Rethrows ws k = outcomes.rethrows ws k
+
     abbrev pub outcome_of : Outcome → outcomes.Outcome
     outcome_of Stuck = outcomes.stuck
-    outcome_of (Goes doing rest) = outcomes.goes (doing_of doing) (all_waiting rest.temporaries.items) (frames_of rest.frames.items)
-    outcome_of (Hands w temporaries) = outcomes.hands (term_of w) (all_waiting temporaries.items)
-    outcome_of (GoesOut exit temporaries) = outcomes.goes_out (exit_of exit) (all_waiting temporaries.items)
+    outcome_of (Goes leading rest) = leading_of leading (all_waiting rest.temporaries) (frames_of rest.frames)
+    outcome_of (Hands w temporaries) = outcomes.hands (term_of w) (all_waiting temporaries)
+    outcome_of (GoesOut exit temporaries) = outcomes.goes_out (exit_of exit) (all_waiting temporaries)
     outcome_of (Chooses' w p zero q other) = outcomes.chooses (term_of w) (outcome_of zero) (outcome_of other)
     outcome_of (Results' op kind a b q o) = outcomes.results op kind (term_of a) (term_of b) (outcome_of o)
     outcome_of (Finds' class slot address q o) = outcomes.finds class slot (term_of address) (outcome_of o)
-    outcome_of (Calls callee words rest) = outcomes.calls (callee_of callee) (terms_of words.items) (all_waiting rest.temporaries.items) (frames_of rest.frames.items)
-    outcome_of (Spawns address argument rest) = outcomes.spawns (term_of address) (term_of argument) (all_waiting rest.temporaries.items) (frames_of rest.frames.items)
-    outcome_of (Rethrows rest) = outcomes.rethrows (all_waiting rest.temporaries.items) (frames_of rest.frames.items)
     outcome_of (Halts end) = outcomes.halts end
 
 -- Places
 
 abbrev pub hold_of : Hold → code.Hold
 hold_of Nothing = code.nothing
-hold_of (Making typ puts) = code.making (typ_of typ) (puts_of puts)
+hold_of (Making typ puts) = code.making (typ_of typ.now) (puts_of puts)
 hold_of (Flying e) = code.flying (exception_of e)
 
-abbrev pub opens_of : List Open → List threads.Open
-opens_of opens = map open_shown (reverse opens)
+abbrev pub opens_of : OpenList → List threads.Open
+opens_of NoOpens = []
+opens_of (MoreOpens block p opens) = open_shown block ∷ opens_of opens
 
 abbrev pub place_of : Place → code.Place
-place_of q = record { operands = operands_of q.operands.items; opens = opens_of q.opens.items; caught = exceptions_of q.caught.items; hold = hold_of q.hold }
+place_of q = record { operands = terms_of q.operands; opens = opens_of q.opens; caught = exceptions_of q.caught; hold = hold_of q.hold }
 
--- Facts, of which the last one stands last, and comes first
+-- Facts
 
 abbrev pub fact_of : Fact → facts.Fact
 fact_of (NotZero w) = facts.not_zero (term_of w)
 fact_of (HasFunction class slot address) = facts.has_function class slot (term_of address)
 
-abbrev pub facts_of : List Fact → List facts.Fact
-facts_of ks = map fact_of (reverse ks)
+abbrev pub facts_of : Facts → List facts.Fact
+facts_of NoFacts = []
+facts_of (MoreFacts k p ks) = fact_of k ∷ facts_of ks
 
 -- the program of a bound program
 abbrev pub program_in : Bound → Program

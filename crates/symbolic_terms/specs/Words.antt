@@ -1,13 +1,17 @@
 -- The terms and exceptions that data show.
-use Rattle.std.specs.Prelude.{List, map, reverse}
+use Rattle.std.specs.Prelude.{List, [], ◌∷◌}
 use Rattle.cpp_tree.specs.cpp_types.Typ.{typ_of}
 use Rattle.symbolic_source.specs.Terms as symbolic
 use Rattle.symbolic_terms.specs.declared.terms.Term.{Term}
 use Rattle.symbolic_terms.specs.declared.terms.Term.TheVariants.{Number, Variable, Local, Global, Function, Table, SlotFunction', Sum', Product', Before', LowByte', Converted', Applied', Field'}
 use Rattle.symbolic_terms.specs.declared.terms.Exception.{Exception}
-use Rattle.symbolic_terms.specs.declared.terms.Exception.TheVariants.{Unknown, Made'}
+use Rattle.symbolic_terms.specs.declared.terms.Exception.TheVariants.{Unknown, Made}
 use Rattle.symbolic_terms.specs.declared.terms.Puts.{Puts}
 use Rattle.symbolic_terms.specs.declared.terms.Puts.TheVariants.{Untouched, Put'}
+use Rattle.symbolic_terms.specs.declared.terms.Terms.{Terms}
+use Rattle.symbolic_terms.specs.declared.terms.Terms.TheVariants.{Empty, More'}
+use Rattle.symbolic_terms.specs.declared.terms.Exceptions.{Exceptions}
+use Rattle.symbolic_terms.specs.declared.terms.Exceptions.TheVariants.{Empty as NoExceptions, More' as MoreExceptions}
 
 abbrev mutual
   pub term_of : Term → symbolic.Term
@@ -28,20 +32,16 @@ abbrev mutual
 
   pub exception_of : Exception → symbolic.Exception
   exception_of (Unknown n) = symbolic.unknown n
-  exception_of (Made' t p puts) = symbolic.made (typ_of t) (puts_of puts)
+  exception_of (Made t puts) = symbolic.made (typ_of t.now) (puts_of puts)
 
   pub puts_of : Puts → symbolic.Puts
   puts_of Untouched = symbolic.untouched
   puts_of (Put' offset size p w q others) = symbolic.put offset size (term_of w) (puts_of others)
 
--- in the order in which they stand
-abbrev pub terms_of : List Term → List symbolic.Term
-terms_of ws = map term_of ws
+abbrev pub terms_of : Terms → List symbolic.Term
+terms_of Empty = []
+terms_of (More' w p ws) = term_of w ∷ terms_of ws
 
--- the last one first
-abbrev pub operands_of : List Term → List symbolic.Term
-operands_of ws = map term_of (reverse ws)
-
--- the innermost, which stands last, first
-abbrev pub exceptions_of : List Exception → List symbolic.Exception
-exceptions_of es = map exception_of (reverse es)
+abbrev pub exceptions_of : Exceptions → List symbolic.Exception
+exceptions_of NoExceptions = []
+exceptions_of (MoreExceptions e p es) = exception_of e ∷ exceptions_of es

@@ -4,11 +4,11 @@ ghost use Rattle.std.specs.Prelude.{◌≡◌, IsTrue, ◌↔◌};
 ghost use Rattle.symbolic_code.specs.Same.{same_term as is_same_term, same_exception as is_same_exception};
 ghost use Rattle.symbolic_terms.specs.Words.{term_of, exception_of, puts_of, terms_of};
 
-use crate::terms::{Exception, Puts, Term};
+use crate::terms::{Exception, Puts, Term, Terms};
 use cpp_types::same;
 
 /// Whether two exceptions are one unknown one. Exceptions that were made are not compared.
-pub fn same_exception(left: &Exception, right: &Exception) -> bool
+pub fn same_exception(left: &Exception<'_>, right: &Exception<'_>) -> bool
     ensures { result ≡ is_same_exception (exception_of left.now) (exception_of right.now) }
 {
     match (left, right) {
@@ -18,7 +18,7 @@ pub fn same_exception(left: &Exception, right: &Exception) -> bool
 }
 
 /// Whether two terms are the same, as the definitions of the checker compare them.
-pub fn same_term(left: &Term, right: &Term) -> bool
+pub fn same_term(left: &Term<'_>, right: &Term<'_>) -> bool
     ensures { result ≡ is_same_term (term_of left.now) (term_of right.now) }
 {
     match (left, right) {
@@ -81,7 +81,7 @@ pub fn same_term(left: &Term, right: &Term) -> bool
 
 /// Whether two terms are one, with all that was put into exceptions.
 #[cycle(equal)]
-pub fn equal_terms(left: &Term, right: &Term) -> bool
+pub fn equal_terms(left: &Term<'_>, right: &Term<'_>) -> bool
     ensures { IsTrue result ↔ (term_of left.now ≡ term_of right.now) }
 {
     match (left, right) {
@@ -144,7 +144,7 @@ pub fn equal_terms(left: &Term, right: &Term) -> bool
 
 /// Whether two exceptions are one.
 #[cycle(equal)]
-pub fn equal_exceptions(left: &Exception, right: &Exception) -> bool
+pub fn equal_exceptions(left: &Exception<'_>, right: &Exception<'_>) -> bool
     ensures { IsTrue result ↔ (exception_of left.now ≡ exception_of right.now) }
 {
     match (left, right) {
@@ -158,7 +158,7 @@ pub fn equal_exceptions(left: &Exception, right: &Exception) -> bool
 
 /// Whether the same words were put at the same places in the same order.
 #[cycle(equal)]
-pub fn equal_puts(left: &Puts, right: &Puts) -> bool
+pub fn equal_puts(left: &Puts<'_>, right: &Puts<'_>) -> bool
     ensures { IsTrue result ↔ (puts_of left.now ≡ puts_of right.now) }
 {
     match (left, right) {
@@ -187,16 +187,14 @@ pub fn equal_puts(left: &Puts, right: &Puts) -> bool
 }
 
 /// Whether two lists of terms are one.
-pub fn equal_lists(left: &[Term], right: &[Term]) -> bool
+pub fn equal_lists(left: &Terms<'_>, right: &Terms<'_>) -> bool
     ensures { IsTrue result ↔ (terms_of left.now ≡ terms_of right.now) }
 {
-    if left.len() != right.len() {
-        return false;
-    }
-    for (i, term) in left.iter().enumerate() {
-        if !equal_terms(term, &right[i]) {
-            return false;
+    match (left, right) {
+        (Terms::Empty, Terms::Empty) => true,
+        (Terms::More(term, rest), Terms::More(other, others)) => {
+            equal_terms(term, other) && equal_lists(rest, others)
         }
+        _ => false,
     }
-    true
 }

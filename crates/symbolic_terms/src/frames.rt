@@ -1,82 +1,96 @@
 //! What a function that runs has left to do, with terms in the place of numbers.
 
-use crate::terms::{Exception, Puts, Term};
+use crate::terms::{Exception, Puts, Term, Terms};
 use cpp_tree::below::{BinOp, IntKind, Ty};
 use cpp_tree::{Builtin, TKind};
 use src_frames::frames::{Change, LoopParts, Open, Owner};
 use src_frames::trees::{KidsAt, TreeAt};
 
 /// The address of a waiting object: a word, or what a tree gives.
-#[derive(Drop)]
-pub enum Spot {
-    Word(Term),
+#[derive(Clone, Copy)]
+pub enum Spot<'a> {
+    Word(Term<'a>),
     Tree(TreeAt),
 }
 
 /// Objects that wait for their destruction: what gives their address, and the destructions.
-#[derive(Drop)]
-pub struct Waiting {
-    pub address: Spot,
+#[derive(Clone, Copy)]
+pub struct Waiting<'a> {
+    pub address: Spot<'a>,
     pub destroys: KidsAt,
 }
 
+/// Objects that wait, the newest first.
+#[derive(Clone, Copy)]
+pub enum Waitings<'a> {
+    Empty,
+    More(Waiting<'a>, &'a Waitings<'a>),
+}
+
 /// A node is run for its value, or into the object at `target`, where what is copied comes from `source`.
-#[derive(Drop)]
-pub enum Way {
+#[derive(Clone, Copy)]
+pub enum Way<'a> {
     Value,
-    Into { target: Term, source: Term },
+    Into { target: Term<'a>, source: Term<'a> },
 }
 
 /// What goes outward.
-#[derive(Drop)]
-pub enum Exit {
-    Throws(Exception),
-    Returns(Term),
+#[derive(Clone, Copy)]
+pub enum Exit<'a> {
+    Throws(Exception<'a>),
+    Returns(Term<'a>),
     Breaks,
     Continues,
 }
 
 /// What is called; the type of a pointer is that of the tree that gave it.
-#[derive(Drop)]
-pub enum Callee {
+#[derive(Clone, Copy)]
+pub enum Callee<'a> {
     Known(u32),
     /// The function in a slot, of the class at this address.
     Virtual {
         class: u32,
         slot: u32,
-        address: Term,
+        address: Term<'a>,
     },
     Pointer {
-        address: Term,
+        address: Term<'a>,
         pointer: TreeAt,
     },
     Builtin(Builtin),
 }
 
 /// What is to be done with a value, or in its place.
-#[derive(Drop)]
-pub enum Frame {
+#[derive(Clone, Copy)]
+pub enum Frame<'a> {
     /// Run the tree, whatever the value.
-    Run(Way, TreeAt),
+    Run(Way<'a>, TreeAt),
     /// A tree that is this word.
-    Address(Term),
+    Address(Term<'a>),
     /// The value is dropped, and the tree is next.
-    Then(Way, TreeAt),
+    Then(Way<'a>, TreeAt),
     /// This value in place of it.
-    Gives(Term),
+    Gives(Term<'a>),
     /// Go outward.
-    Leaves(Exit),
-    Value(ValueFrame),
-    Call(CallFrame),
-    Object(ObjectFrame),
-    Statement(StatementFrame),
+    Leaves(Exit<'a>),
+    Value(ValueFrame<'a>),
+    Call(CallFrame<'a>),
+    Object(ObjectFrame<'a>),
+    Statement(StatementFrame<'a>),
     Block(BlockFrame),
-    Exception(ExceptionFrame),
+    Exception(ExceptionFrame<'a>),
+}
+
+/// Frames, the innermost first.
+#[derive(Clone, Copy)]
+pub enum Frames<'a> {
+    Empty,
+    More(Frame<'a>, &'a Frames<'a>),
 }
 
 /// What is done with the value of an operand.
-#[derive(Drop)]
-pub enum ValueFrame {
+#[derive(Clone, Copy)]
+pub enum ValueFrame<'a> {
     /// The value is the address.
     Loads(IntKind, bool),
     /// It is what was read.
@@ -84,17 +98,17 @@ pub enum ValueFrame {
     /// It is a reply, and goes on as it is.
     Replied,
     StoreTo {
-        address: Term,
+        address: Term<'a>,
         kind: IntKind,
         volatile: bool,
-        answer: Term,
+        answer: Term<'a>,
     },
     Converts(IntKind),
     /// The value is the left operand.
     Right(BinOp, IntKind, TreeAt),
-    Apply(BinOp, IntKind, Term),
+    Apply(BinOp, IntKind, Term<'a>),
     Choose {
-        way: Way,
+        way: Way<'a>,
         chosen: TreeAt,
         other: TreeAt,
     },
@@ -103,12 +117,12 @@ pub enum ValueFrame {
     /// The value is the address.
     UpdateAt(Change, TreeAt),
     /// It is what was loaded.
-    UpdateOld(Change, Term, TreeAt),
+    UpdateOld(Change, Term<'a>, TreeAt),
     /// It is the right operand.
     UpdateBy {
         change: Change,
-        address: Term,
-        old: Term,
+        address: Term<'a>,
+        old: Term<'a>,
     },
     /// The value is the target.
     CopyTo {
@@ -117,28 +131,28 @@ pub enum ValueFrame {
     },
     /// It is the source.
     CopyBy {
-        target: Term,
+        target: Term<'a>,
         init: TreeAt,
     },
     /// It is the source, and nothing is given.
     From {
-        target: Term,
+        target: Term<'a>,
         init: TreeAt,
     },
 }
 
 /// What a call is at.
-#[derive(Drop)]
-pub enum CallFrame {
+#[derive(Clone, Copy)]
+pub enum CallFrame<'a> {
     /// The value is the next word.
     Words {
-        callee: Callee,
-        before: Vec<Term>,
+        callee: Callee<'a>,
+        before: Terms<'a>,
         rest: KidsAt,
     },
     /// The value is the object of a virtual call, which has its class pointer at an offset.
     Object {
-        before: Vec<Term>,
+        before: Terms<'a>,
         class: u32,
         slot: u32,
         pointer: u32,
@@ -146,74 +160,74 @@ pub enum CallFrame {
     },
     /// It is the class address.
     Slot {
-        before: Vec<Term>,
+        before: Terms<'a>,
         class: u32,
         slot: u32,
         rest: KidsAt,
     },
     /// It is the pointer, which this tree gave.
     Pointer {
-        before: Vec<Term>,
+        before: Terms<'a>,
         pointer: TreeAt,
         rest: KidsAt,
     },
     /// Words that go into the frame of the function at hand, from the one with this index on.
     Passes {
-        words: Vec<Term>,
+        words: Terms<'a>,
         from: usize,
     },
 }
 
 /// What is done for objects and their destruction.
-#[derive(Drop)]
-pub enum ObjectFrame {
-    /// A full-expression, and the temporaries of the one around it, the newest last.
+#[derive(Clone, Copy)]
+pub enum ObjectFrame<'a> {
+    /// A full-expression, and the temporaries of the one around it, the newest first.
     Full {
-        outer: Vec<Waiting>,
+        outer: Waitings<'a>,
     },
     /// Put these among the temporaries that wait.
-    Keeps(Waiting),
-    /// The objects that wait are destroyed always, or only on an exception. The newest stands last.
+    Keeps(Waiting<'a>),
+    /// The objects that wait are destroyed always, or only on an exception. The newest stands first.
     Scope {
         owner: Owner,
         always: bool,
-        waiting: Vec<Waiting>,
+        waiting: Waitings<'a>,
     },
     /// Put these among those that wait.
-    Waits(Owner, Waiting),
+    Waits(Owner, Waiting<'a>),
     /// The value is the address.
     InitAt {
         init: TreeAt,
         destroys: KidsAt,
     },
-    /// The newest, which stands last, is destroyed first.
-    Cleans(Vec<Waiting>),
+    /// The first of them is destroyed first.
+    Cleans(Waitings<'a>),
     /// The value is the address.
     Due(KidsAt),
     Destroys {
         number: u32,
-        address: Term,
+        address: Term<'a>,
         stride: u32,
-        left: Term,
+        left: Term<'a>,
     },
     Parts {
         kids: KidsAt,
-        target: Term,
-        source: Term,
+        target: Term<'a>,
+        source: Term<'a>,
     },
     Each {
         init: TreeAt,
         destroys: KidsAt,
         stride: u32,
-        left: Term,
-        target: Term,
-        source: Term,
+        left: Term<'a>,
+        target: Term<'a>,
+        source: Term<'a>,
     },
 }
 
 /// What a statement is at.
-#[derive(Drop)]
-pub enum StatementFrame {
+#[derive(Clone, Copy)]
+pub enum StatementFrame<'a> {
     Items(KidsAt),
     /// The value is the loop's test.
     Test(LoopParts),
@@ -223,7 +237,7 @@ pub enum StatementFrame {
     Picks(KidsAt),
     /// The label is compared with the value.
     Compares {
-        word: Term,
+        word: Term<'a>,
         label: TKind,
         behind: KidsAt,
         items: KidsAt,
@@ -245,45 +259,45 @@ pub enum BlockFrame {
 }
 
 /// What an exception or a handler is at.
-#[derive(Drop)]
-pub enum ExceptionFrame {
+#[derive(Clone, Copy)]
+pub enum ExceptionFrame<'a> {
     /// The value is what is thrown, or the address of it.
     Throws {
-        typ: Ty,
+        typ: &'a Ty,
         fields: KidsAt,
     },
     Fills {
-        typ: Ty,
-        from: Term,
+        typ: &'a Ty,
+        from: Term<'a>,
         fields: KidsAt,
-        puts: Puts,
+        puts: Puts<'a>,
     },
     /// The value is a field that was read.
     Filled {
-        typ: Ty,
-        from: Term,
+        typ: &'a Ty,
+        from: Term<'a>,
         offset: u32,
         kind: IntKind,
         fields: KidsAt,
-        puts: Puts,
+        puts: Puts<'a>,
     },
     Tries(KidsAt),
     Trying {
-        exception: Exception,
+        exception: Exception<'a>,
         handler: TreeAt,
         others: KidsAt,
     },
     Takes {
-        exception: Exception,
-        base: Term,
+        exception: Exception<'a>,
+        base: Term<'a>,
         fields: KidsAt,
     },
     /// A field is stored.
     Taking {
-        exception: Exception,
-        base: Term,
+        exception: Exception<'a>,
+        base: Term<'a>,
         offset: u32,
         kind: IntKind,
     },
-    Handling(Exception),
+    Handling(Exception<'a>),
 }

@@ -3,8 +3,8 @@
 //! `specs/Shown.antt` says which term, frame, outcome or place of the definitions a value shows.
 #![tactic(auto)]
 
+pub mod arena;
 pub mod comparison;
-pub mod copies;
 pub mod frames;
 pub mod outcomes;
 pub mod places;

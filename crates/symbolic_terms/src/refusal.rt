@@ -14,6 +14,9 @@ pub enum Refusal {
     /// A number that 64 bits, or the number of a variable that 32 bits do not hold.
     #[error("a number is too large")]
     Beyond,
+    /// A type of exceptions that is none of those that were told.
+    #[error("a type of exceptions was not told")]
+    Untold,
 }
 
 impl From<AllocError> for Refusal {

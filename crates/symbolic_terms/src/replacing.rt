@@ -5,16 +5,15 @@ ghost use Rattle.symbolic_source.specs.Replacing.{in_term, in_exception, in_puts
 ghost use Rattle.symbolic_terms.specs.Words.{term_of, exception_of, puts_of, terms_of};
 ghost use Rattle.symbolic_terms.specs.Replaced.{replacing_of};
 
-use crate::copies::{copy_exception, copy_term};
+use crate::arena::keep;
 use crate::refusal::Refusal;
 use crate::sums::{multiplied, one_less, summed};
-use crate::terms::{Exception, Puts, Term};
-use cpp_types::copy;
-use std::alloc::Global;
+use crate::terms::{Exception, Puts, Term, Terms};
+use bumpalo::Bump;
 
 /// What comes in the place of each variable.
-#[derive(Drop)]
-pub enum Replacing {
+#[derive(Clone, Copy)]
+pub enum Replacing<'a> {
     /// Each variable has the next number.
     Later,
     /// Each unknown exception has the next number.
@@ -22,8 +21,8 @@ pub enum Replacing {
     /// The word of a variable stands at its number, or is the number 0 past the end; the exception likewise, or is the
     /// unknown one with number 0.
     Table {
-        words: Vec<Term>,
-        exceptions: Vec<Exception>,
+        words: &'a [Term<'a>],
+        exceptions: &'a [Exception<'a>],
     },
 }
 
@@ -38,28 +37,28 @@ fn next(number: u32) -> Result<u32, Refusal>
 }
 
 // What comes in the place of a variable.
-fn word_for(alloc: Global, with: &Replacing, number: u32) -> Result<Term, Refusal>
-    ensures { IfOk result (λ w. term_of w ≡ (replacing_of with.now).word number) }
+fn word_for<'a>(with: Replacing<'a>, number: u32) -> Result<Term<'a>, Refusal>
+    ensures { IfOk result (λ w. term_of w ≡ (replacing_of with.entry).word number) }
 {
     match with {
         Replacing::Later => Ok(Term::Variable(next(number)?)),
         Replacing::Rising => Ok(Term::Variable(number)),
         Replacing::Table { words, .. } => match words.get(number as usize) {
-            Some(word) => Ok(copy_term(alloc, word)?),
+            Some(word) => Ok(*word),
             None => Ok(Term::Number(0)),
         },
     }
 }
 
 // What comes in the place of an unknown exception.
-fn exception_for(alloc: Global, with: &Replacing, number: u32) -> Result<Exception, Refusal>
-    ensures { IfOk result (λ e. exception_of e ≡ (replacing_of with.now).exception number) }
+fn exception_for<'a>(with: Replacing<'a>, number: u32) -> Result<Exception<'a>, Refusal>
+    ensures { IfOk result (λ e. exception_of e ≡ (replacing_of with.entry).exception number) }
 {
     match with {
         Replacing::Later => Ok(Exception::Unknown(number)),
         Replacing::Rising => Ok(Exception::Unknown(next(number)?)),
         Replacing::Table { exceptions, .. } => match exceptions.get(number as usize) {
-            Some(exception) => Ok(copy_exception(alloc, exception)?),
+            Some(exception) => Ok(*exception),
             None => Ok(Exception::Unknown(0)),
         },
     }
@@ -67,88 +66,98 @@ fn exception_for(alloc: Global, with: &Replacing, number: u32) -> Result<Excepti
 
 /// A term with terms in the place of its variables.
 #[cycle(replaced)]
-pub fn replaced_term(alloc: Global, with: &Replacing, term: &Term) -> Result<Term, Refusal>
-    ensures { IfOk result (λ c. term_of c ≡ in_term (replacing_of with.now) (term_of term.now)) }
+pub fn replaced_term<'a>(
+    arena: &'a Bump,
+    with: Replacing<'a>,
+    term: Term<'a>,
+) -> Result<Term<'a>, Refusal>
+    ensures { IfOk result (λ c. term_of c ≡ in_term (replacing_of with.entry) (term_of term.entry)) }
 {
     match term {
-        Term::Number(number) => Ok(Term::Number(*number)),
-        Term::Variable(number) => word_for(alloc, with, *number),
-        Term::Local(offset) => Ok(Term::Local(*offset)),
-        Term::Global(number) => Ok(Term::Global(*number)),
-        Term::Function(number) => Ok(Term::Function(*number)),
-        Term::Table(class) => Ok(Term::Table(*class)),
+        Term::Number(number) => Ok(Term::Number(number)),
+        Term::Variable(number) => word_for(with, number),
+        Term::Local(offset) => Ok(Term::Local(offset)),
+        Term::Global(number) => Ok(Term::Global(number)),
+        Term::Function(number) => Ok(Term::Function(number)),
+        Term::Table(class) => Ok(Term::Table(class)),
         Term::SlotFunction {
             class,
             slot,
             address,
-        } => Ok(Term::SlotFunction {
-            class: *class,
-            slot: *slot,
-            address: Box::new(alloc, replaced_term(alloc, with, address)?)?,
-        }),
-        Term::Sum(left, right) => summed(
-            alloc,
-            replaced_term(alloc, with, left)?,
-            replaced_term(alloc, with, right)?,
-        ),
-        Term::Product(left, right) => multiplied(
-            alloc,
-            replaced_term(alloc, with, left)?,
-            replaced_term(alloc, with, right)?,
-        ),
-        Term::Before(of) => one_less(alloc, replaced_term(alloc, with, of)?),
-        Term::LowByte(of) => {
-            Ok(Term::LowByte(Box::new(alloc, replaced_term(alloc, with, of)?)?))
+        } => {
+            let address = keep(arena, replaced_term(arena, with, *address)?)?;
+            Ok(Term::SlotFunction {
+                class,
+                slot,
+                address,
+            })
         }
-        Term::Converted(kind, of) => Ok(Term::Converted(
-            *kind,
-            Box::new(alloc, replaced_term(alloc, with, of)?)?,
-        )),
+        Term::Sum(left, right) => {
+            let left = replaced_term(arena, with, *left)?;
+            summed(arena, left, replaced_term(arena, with, *right)?)
+        }
+        Term::Product(left, right) => {
+            let left = replaced_term(arena, with, *left)?;
+            multiplied(arena, left, replaced_term(arena, with, *right)?)
+        }
+        Term::Before(of) => one_less(arena, replaced_term(arena, with, *of)?),
+        Term::LowByte(of) => Ok(Term::LowByte(keep(arena, replaced_term(arena, with, *of)?)?)),
+        Term::Converted(kind, of) => {
+            Ok(Term::Converted(kind, keep(arena, replaced_term(arena, with, *of)?)?))
+        }
         Term::Applied {
             op,
             kind,
             left,
             right,
-        } => Ok(Term::Applied {
-            op: *op,
-            kind: *kind,
-            left: Box::new(alloc, replaced_term(alloc, with, left)?)?,
-            right: Box::new(alloc, replaced_term(alloc, with, right)?)?,
-        }),
+        } => {
+            let left = keep(arena, replaced_term(arena, with, *left)?)?;
+            let right = keep(arena, replaced_term(arena, with, *right)?)?;
+            Ok(Term::Applied {
+                op,
+                kind,
+                left,
+                right,
+            })
+        }
         Term::Field {
             exception,
             offset,
             size,
-        } => Ok(Term::Field {
-            exception: Box::new(alloc, replaced_exception(alloc, with, exception)?)?,
-            offset: *offset,
-            size: *size,
-        }),
+        } => {
+            let exception = keep(arena, replaced_exception(arena, with, *exception)?)?;
+            Ok(Term::Field {
+                exception,
+                offset,
+                size,
+            })
+        }
     }
 }
 
 /// An exception with terms in the place of its variables.
 #[cycle(replaced)]
-pub fn replaced_exception(
-    alloc: Global,
-    with: &Replacing,
-    exception: &Exception,
-) -> Result<Exception, Refusal>
-    ensures { IfOk result (λ c. exception_of c ≡ in_exception (replacing_of with.now) (exception_of exception.now)) }
+pub fn replaced_exception<'a>(
+    arena: &'a Bump,
+    with: Replacing<'a>,
+    exception: Exception<'a>,
+) -> Result<Exception<'a>, Refusal>
+    ensures { IfOk result (λ c. exception_of c ≡ in_exception (replacing_of with.entry) (exception_of exception.entry)) }
 {
     match exception {
-        Exception::Unknown(number) => exception_for(alloc, with, *number),
-        Exception::Made(ty, puts) => Ok(Exception::Made(
-            copy(alloc, ty)?,
-            Box::new(alloc, replaced_puts(alloc, with, puts)?)?,
-        )),
+        Exception::Unknown(number) => exception_for(with, number),
+        Exception::Made(typ, puts) => Ok(Exception::Made(typ, replaced_puts(arena, with, puts)?)),
     }
 }
 
 /// Words that were put into an exception, with terms in the place of their variables.
 #[cycle(replaced)]
-pub fn replaced_puts(alloc: Global, with: &Replacing, puts: &Puts) -> Result<Puts, Refusal>
-    ensures { IfOk result (λ c. puts_of c ≡ in_puts (replacing_of with.now) (puts_of puts.now)) }
+pub fn replaced_puts<'a>(
+    arena: &'a Bump,
+    with: Replacing<'a>,
+    puts: Puts<'a>,
+) -> Result<Puts<'a>, Refusal>
+    ensures { IfOk result (λ c. puts_of c ≡ in_puts (replacing_of with.entry) (puts_of puts.entry)) }
 {
     match puts {
         Puts::Untouched => Ok(Puts::Untouched),
@@ -157,22 +166,33 @@ pub fn replaced_puts(alloc: Global, with: &Replacing, puts: &Puts) -> Result<Put
             size,
             word,
             others,
-        } => Ok(Puts::Put {
-            offset: *offset,
-            size: *size,
-            word: Box::new(alloc, replaced_term(alloc, with, word)?)?,
-            others: Box::new(alloc, replaced_puts(alloc, with, others)?)?,
-        }),
+        } => {
+            let word = keep(arena, replaced_term(arena, with, *word)?)?;
+            let others = keep(arena, replaced_puts(arena, with, *others)?)?;
+            Ok(Puts::Put {
+                offset,
+                size,
+                word,
+                others,
+            })
+        }
     }
 }
 
-/// A list of terms with terms in the place of their variables.
-pub fn replaced_terms(alloc: Global, with: &Replacing, terms: &[Term]) -> Result<Vec<Term>, Refusal>
-    ensures { IfOk result (λ c. terms_of c.items ≡ in_terms (replacing_of with.now) (terms_of terms.now)) }
+/// Words with terms in the place of their variables.
+pub fn replaced_terms<'a>(
+    arena: &'a Bump,
+    with: Replacing<'a>,
+    terms: Terms<'a>,
+) -> Result<Terms<'a>, Refusal>
+    ensures { IfOk result (λ c. terms_of c ≡ in_terms (replacing_of with.entry) (terms_of terms.entry)) }
 {
-    let mut replaced = Vec::new(alloc);
-    for term in terms {
-        replaced.push(replaced_term(alloc, with, term)?)?;
+    match terms {
+        Terms::Empty => Ok(Terms::Empty),
+        Terms::More(term, rest) => {
+            let term = replaced_term(arena, with, term)?;
+            let rest = keep(arena, replaced_terms(arena, with, *rest)?)?;
+            Ok(Terms::More(term, rest))
+        }
     }
-    Ok(replaced)
 }

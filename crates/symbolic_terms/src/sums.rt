@@ -5,31 +5,11 @@ ghost use Rattle.symbolic_source.specs.Terms.{sum as sum_term, product as produc
 ghost use Rattle.symbolic_source.specs.Replacing.{joined as joined_of, summed as summed_of, multiplied as multiplied_of};
 ghost use Rattle.symbolic_source.specs.Steps.{element_at as element_of};
 ghost use Rattle.symbolic_terms.specs.Words.{term_of};
-ghost use Rattle.symbolic_terms.specs.Numbers.{number_in, zero_in};
 
+use crate::arena::keep;
 use crate::refusal::Refusal;
 use crate::terms::Term;
-use std::alloc::{AllocError, Global};
-
-/// The number that a term is.
-pub fn number_of(term: &Term) -> Option<u64>
-    ensures { result ≡ number_in (term_of term.now) }
-{
-    match term {
-        Term::Number(number) => Some(*number),
-        _ => None,
-    }
-}
-
-/// Whether a term is the number 0.
-pub fn is_zero(term: &Term) -> bool
-    ensures { result ≡ zero_in (term_of term.now) }
-{
-    match term {
-        Term::Number(number) => *number == 0,
-        _ => false,
-    }
-}
+use bumpalo::Bump;
 
 // The sum of two numbers.
 fn added(left: u64, right: u64) -> Result<u64, Refusal>
@@ -42,109 +22,102 @@ fn added(left: u64, right: u64) -> Result<u64, Refusal>
     }
 }
 
-// The term of a sum.
-fn sum(alloc: Global, left: Term, right: Term) -> Result<Term, AllocError>
-    ensures { IfOk result (λ s. term_of s ≡ sum_term (term_of left) (term_of right)) }
+/// The sum of two addresses.
+pub fn sum<'a>(arena: &'a Bump, left: Term<'a>, right: Term<'a>) -> Result<Term<'a>, Refusal>
+    ensures { IfOk result (λ s. term_of s ≡ sum_term (term_of left.entry) (term_of right.entry)) }
 {
-    Ok(Term::Sum(Box::new(alloc, left)?, Box::new(alloc, right)?))
+    Ok(Term::Sum(keep(arena, left)?, keep(arena, right)?))
 }
 
-// The term of a product.
-fn product(alloc: Global, left: Term, right: Term) -> Result<Term, AllocError>
-    ensures { IfOk result (λ s. term_of s ≡ product_term (term_of left) (term_of right)) }
+/// The product of two addresses.
+pub fn product<'a>(arena: &'a Bump, left: Term<'a>, right: Term<'a>) -> Result<Term<'a>, Refusal>
+    ensures { IfOk result (λ s. term_of s ≡ product_term (term_of left.entry) (term_of right.entry)) }
 {
-    Ok(Term::Product(Box::new(alloc, left)?, Box::new(alloc, right)?))
+    Ok(Term::Product(keep(arena, left)?, keep(arena, right)?))
 }
 
 /// The address at this offset from another.
-pub fn at_offset(alloc: Global, term: Term, offset: u64) -> Result<Term, Refusal>
-    ensures { IfOk result (λ s. term_of s ≡ at_offset_of (term_of term) offset) }
+pub fn at_offset<'a>(arena: &'a Bump, term: Term<'a>, offset: u64) -> Result<Term<'a>, Refusal>
+    ensures { IfOk result (λ s. term_of s ≡ at_offset_of (term_of term.entry) offset) }
 {
     if offset == 0 {
         return Ok(term);
     }
-    Ok(sum(alloc, term, Term::Number(offset))?)
+    sum(arena, term, Term::Number(offset))
 }
 
 /// A sum with a number, as it is written: numbers are added at once, and 0 is not.
-#[tactic(auto, using(crate::proofs::Plain::plain_sum, crate::proofs::Plain::plain_offset))]
-pub fn plus_number(alloc: Global, term: Term, number: u64) -> Result<Term, Refusal>
-    ensures { IfOk result (λ s. term_of s ≡ plus_number_of (term_of term) number) }
+pub fn plus_number<'a>(arena: &'a Bump, term: Term<'a>, number: u64) -> Result<Term<'a>, Refusal>
+    ensures { IfOk result (λ s. term_of s ≡ plus_number_of (term_of term.entry) number) }
 {
     match term {
         Term::Number(first) => Ok(Term::Number(added(first, number)?)),
         Term::Local(offset) => Ok(Term::Local(added(offset, number)?)),
-        Term::Sum(of, by) => match number_of(&by) {
-            Some(first) => {
-                let number = Box::new(alloc, Term::Number(added(first, number)?))?;
-                Ok(Term::Sum(of, number))
-            }
-            None => at_offset(alloc, Term::Sum(of, by), number),
-        },
-        other => at_offset(alloc, other, number),
+        Term::Sum(of, Term::Number(first)) => {
+            sum(arena, *of, Term::Number(added(*first, number)?))
+        }
+        other => at_offset(arena, other, number),
     }
 }
 
 /// One less, of what is not 0.
-#[tactic(auto, using(crate::proofs::Plain::plain_less))]
-pub fn one_less(alloc: Global, term: Term) -> Result<Term, Refusal>
-    ensures { IfOk result (λ s. term_of s ≡ one_less_of (term_of term)) }
+pub fn one_less<'a>(arena: &'a Bump, term: Term<'a>) -> Result<Term<'a>, Refusal>
+    ensures { IfOk result (λ s. term_of s ≡ one_less_of (term_of term.entry)) }
 {
     match term {
         Term::Number(number) => Ok(Term::Number(number.saturating_sub(1))),
-        other => Ok(Term::Before(Box::new(alloc, other)?)),
+        other => Ok(Term::Before(keep(arena, other)?)),
     }
 }
 
 /// A sum with a number that has come in the place of a variable.
-#[tactic(auto, using(crate::proofs::Plain::plain_sum_joined, crate::proofs::Plain::plain_joined))]
-pub fn joined(alloc: Global, term: Term, number: u64) -> Result<Term, Refusal>
-    ensures { IfOk result (λ s. term_of s ≡ joined_of (term_of term) number) }
+pub fn joined<'a>(arena: &'a Bump, term: Term<'a>, number: u64) -> Result<Term<'a>, Refusal>
+    ensures { IfOk result (λ s. term_of s ≡ joined_of (term_of term.entry) number) }
 {
     match term {
         Term::Number(first) => Ok(Term::Number(added(first, number)?)),
         Term::Local(offset) => Ok(Term::Local(added(offset, number)?)),
-        Term::Sum(of, by) => match number_of(&by) {
-            Some(first) => {
-                let number = Box::new(alloc, Term::Number(added(first, number)?))?;
-                Ok(Term::Sum(of, number))
-            }
-            None => Ok(sum(alloc, Term::Sum(of, by), Term::Number(number))?),
-        },
-        other => Ok(sum(alloc, other, Term::Number(number))?),
+        Term::Sum(of, Term::Number(first)) => {
+            sum(arena, *of, Term::Number(added(*first, number)?))
+        }
+        other => sum(arena, other, Term::Number(number)),
     }
 }
 
 /// A sum of what has come in the place of variables.
-#[tactic(auto, using(crate::proofs::Plain::plain_summed, crate::proofs::Plain::number_summed))]
-pub fn summed(alloc: Global, left: Term, right: Term) -> Result<Term, Refusal>
-    ensures { IfOk result (λ s. term_of s ≡ summed_of (term_of left) (term_of right)) }
+pub fn summed<'a>(arena: &'a Bump, left: Term<'a>, right: Term<'a>) -> Result<Term<'a>, Refusal>
+    ensures { IfOk result (λ s. term_of s ≡ summed_of (term_of left.entry) (term_of right.entry)) }
 {
-    match number_of(&right) {
-        Some(number) => joined(alloc, left, number),
-        None => Ok(sum(alloc, left, right)?),
+    match right {
+        Term::Number(number) => joined(arena, left, number),
+        other => sum(arena, left, other),
     }
 }
 
 /// A product of what has come in the place of variables.
-#[tactic(auto, using(crate::proofs::Plain::plain_multiplied, crate::proofs::Plain::zero_multiplied))]
-pub fn multiplied(alloc: Global, left: Term, right: Term) -> Result<Term, Refusal>
-    ensures { IfOk result (λ s. term_of s ≡ multiplied_of (term_of left) (term_of right)) }
+pub fn multiplied<'a>(arena: &'a Bump, left: Term<'a>, right: Term<'a>) -> Result<Term<'a>, Refusal>
+    ensures { IfOk result (λ s. term_of s ≡ multiplied_of (term_of left.entry) (term_of right.entry)) }
 {
-    if is_zero(&left) {
-        return Ok(Term::Number(0));
+    match left {
+        Term::Number(0) => Ok(Term::Number(0)),
+        other => product(arena, other, right),
     }
-    Ok(product(alloc, left, right)?)
 }
 
 /// The element of an array with this number, where elements lie this far apart.
-#[tactic(auto, using(crate::proofs::Plain::plain_element, crate::proofs::Plain::zero_element))]
-pub fn element_at(alloc: Global, address: Term, number: Term, stride: u32) -> Result<Term, Refusal>
-    ensures { IfOk result (λ s. term_of s ≡ element_of (term_of address) (term_of number) stride) }
+pub fn element_at<'a>(
+    arena: &'a Bump,
+    address: Term<'a>,
+    number: Term<'a>,
+    stride: u32,
+) -> Result<Term<'a>, Refusal>
+    ensures { IfOk result (λ s. term_of s ≡ element_of (term_of address.entry) (term_of number.entry) stride) }
 {
-    if is_zero(&number) {
-        return Ok(address);
+    match number {
+        Term::Number(0) => Ok(address),
+        other => {
+            let offset = product(arena, other, Term::Number(stride as u64))?;
+            sum(arena, address, offset)
+        }
     }
-    let offset = product(alloc, number, Term::Number(stride as u64))?;
-    Ok(sum(alloc, address, offset)?)
 }

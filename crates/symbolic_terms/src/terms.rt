@@ -3,9 +3,9 @@
 use cpp_tree::below::{BinOp, IntKind, Ty};
 
 /// A word of a function that runs.
-#[derive(Drop)]
+#[derive(Clone, Copy)]
 #[cycle(terms)]
-pub enum Term {
+pub enum Term<'a> {
     Number(u64),
     Variable(u32),
     /// The address at this offset in the frame.
@@ -20,48 +20,62 @@ pub enum Term {
     SlotFunction {
         class: u32,
         slot: u32,
-        address: Box<Term>,
+        address: &'a Term<'a>,
     },
     /// A sum of addresses.
-    Sum(Box<Term>, Box<Term>),
+    Sum(&'a Term<'a>, &'a Term<'a>),
     /// A product of addresses.
-    Product(Box<Term>, Box<Term>),
+    Product(&'a Term<'a>, &'a Term<'a>),
     /// One less, of what is not 0.
-    Before(Box<Term>),
-    LowByte(Box<Term>),
-    Converted(IntKind, Box<Term>),
+    Before(&'a Term<'a>),
+    LowByte(&'a Term<'a>),
+    Converted(IntKind, &'a Term<'a>),
     /// What an operator that does not trap gives.
     Applied {
         op: BinOp,
         kind: IntKind,
-        left: Box<Term>,
-        right: Box<Term>,
+        left: &'a Term<'a>,
+        right: &'a Term<'a>,
     },
     /// Bytes of an exception, as a number.
     Field {
-        exception: Box<Exception>,
+        exception: &'a Exception<'a>,
         offset: u32,
         size: u32,
     },
 }
 
 /// An exception: one that is not known, or one of this type with these words.
-#[derive(Drop)]
+#[derive(Clone, Copy)]
 #[cycle(terms)]
-pub enum Exception {
+pub enum Exception<'a> {
     Unknown(u32),
-    Made(Ty, Box<Puts>),
+    Made(&'a Ty, Puts<'a>),
 }
 
 /// The words that were put into an exception, the last one first.
-#[derive(Drop)]
+#[derive(Clone, Copy)]
 #[cycle(terms)]
-pub enum Puts {
+pub enum Puts<'a> {
     Untouched,
     Put {
         offset: u32,
         size: u32,
-        word: Box<Term>,
-        others: Box<Puts>,
+        word: &'a Term<'a>,
+        others: &'a Puts<'a>,
     },
+}
+
+/// Words: operands, the top first, or the words of a call in their order.
+#[derive(Clone, Copy)]
+pub enum Terms<'a> {
+    Empty,
+    More(Term<'a>, &'a Terms<'a>),
+}
+
+/// Exceptions, that of the innermost handler first.
+#[derive(Clone, Copy)]
+pub enum Exceptions<'a> {
+    Empty,
+    More(Exception<'a>, &'a Exceptions<'a>),
 }
