@@ -3,13 +3,14 @@ use Rattle.std.specs.Prelude.{◌≡◌, ℕ, Bool, ◌&&◌, nat_lt, nat_le, co
 use Rattle.std.specs.List.Sorted.{IsPermutation}
 use Rattle.cpp_tree.specs.Units.{Unit, TypedProgram}
 use Rattle.tx_code.specs.Objects.{ObjectView}
+use Rattle.tx_code.specs.declared.object.TheConstants.{LONGEST_NAME}
 use Rattle.link_faults.specs.Faults.{classes_of}
 use Rattle.unit_entries.specs.Records.{func_record, global_record}
 use Rattle.unit_entries.specs.Entries.{unit_funcs, unit_globals, unit_classes}
 
 -- a source whose name is empty or too long is not named
 abbrev pub is_source_name : List ℕ → Bool
-is_source_name source = nat_lt 0 (length source) && nat_le (length source) 1048576
+is_source_name source = nat_lt 0 (length source) && nat_le (length source) LONGEST_NAME
 
 abbrev pub source_name : List ℕ → Option (List ℕ)
 source_name source = cond (is_source_name source) (Some source) None

@@ -5,9 +5,7 @@ ghost use Rattle.clone_gen.specs.Generated.{is_source_name as is_name_of_source}
 use crate::lowered::{Bodies, Lowered};
 use crate::renaming::Renaming;
 use std::alloc::{AllocError, Global};
-
-/// The longest name.
-const LONGEST: usize = 1_048_576;
+use tx_code::LONGEST_NAME;
 
 /// The names that are used, in the order of their bytes, and bodies that use them.
 #[derive(Drop)]
@@ -20,7 +18,7 @@ pub struct Named {
 pub fn is_source_name(source: &[u8]) -> bool
     ensures { result ≡ is_name_of_source source.now }
 {
-    source.len() > 0 && source.len() <= LONGEST
+    source.len() > 0 && source.len() <= LONGEST_NAME as usize
 }
 
 /// The names of bodies with these names of entries and the name of the source, and the bodies by them.

@@ -16,7 +16,7 @@ use crate::fault::Stop;
 use assembly_text::{ClassHead, FuncHead, GlobalHead, Line, Record};
 use object_bytes::{is_whole, source_name};
 use std::alloc::Global;
-use tx_code::{Instr, ObjClass, ObjFunc, ObjGlobal, Object};
+use tx_code::{Instr, LONGEST_NAME, ObjClass, ObjFunc, ObjGlobal, Object};
 
 /// Where the next line stands, with the entry that has not ended.
 #[derive(Drop)]
@@ -81,7 +81,7 @@ fn begin(alloc: Global, assembly: Assembly, version: u32) -> Result<Assembly, St
 fn is_length(name: &[u8]) -> bool
     ensures { result ≡ is_length name.now }
 {
-    !name.is_empty() && name.len() <= 1_048_576
+    !name.is_empty() && name.len() <= LONGEST_NAME as usize
 }
 
 fn is_next_name(names: &[Vec<u8>], name: &[u8]) -> bool

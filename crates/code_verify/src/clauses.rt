@@ -3,6 +3,7 @@ ghost use Rattle.std.specs.Prelude.{◌≡◌};
 ghost use Rattle.tx_code.specs.Sound.{target_lies, row_lies, is_last, is_known, row_is_known, is_promoted, outside_right, is_edge, frame_right, lies_in_exception};
 
 use tx_code::{Instr, Row, int_kind, size};
+use tx_events::{EXCEPTION_SIZE, STACK_SIZE};
 
 /// How many kinds of integers there are, how many operators, and the first promoted kind.
 const KINDS: u8 = 12;
@@ -80,7 +81,7 @@ pub fn lies_in_exception(offset: u8, kind: u8) -> bool
 {
     match int_kind(kind) {
         None => false,
-        Some(kind) => u16::from(offset) + u16::from(size(kind)) <= 64,
+        Some(kind) => u16::from(offset) + u16::from(size(kind)) <= EXCEPTION_SIZE as u16,
     }
 }
 
@@ -106,5 +107,5 @@ pub fn is_edge(row: Row) -> bool
 pub fn frame_right(size: u32) -> bool
     ensures { result ≡ frame_right size }
 {
-    size % 16 == 0 && 16 <= size && size <= 65536
+    size % 16 == 0 && 16 <= size && u64::from(size) <= STACK_SIZE
 }

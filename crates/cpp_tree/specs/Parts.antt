@@ -9,6 +9,8 @@ use Rattle.cpp_layout.specs.cpp_types.Conversion.{is_object_form, bases}
 use Rattle.cpp_layout.specs.cpp_types.Equal.{kind_eq, typ_eq}
 use Rattle.cpp_layout.specs.Layout.{extent_of, next_multiple, has_class_pointer}
 use Rattle.cpp_layout.specs.Measured.{member_offset}
+use Rattle.cpp_layout.specs.declared.extents.TheConstants.{GREATEST_SIZE}
+use Rattle.tx_events.specs.declared.TheConstants.{EXCEPTION_SIZE}
 use Rattle.cpp_tree.specs.declared.kinds.TKind.{TKind}
 use Rattle.cpp_tree.specs.declared.kinds.TKind.TheVariants.{Piece, Field}
 use Rattle.cpp_tree.specs.Typing.{Head, passes, form_in, qualified, is_class, kind_in, builds}
@@ -20,9 +22,9 @@ abbrev pub holds_complete : List Class → Form → Bool
 holds_complete classes f = each_passes (λ (n : ℕ). is_some (completion_of classes n)) (held_form f)
 
 abbrev pub within_limit : ℕ → Option ℕ
-within_limit n = cond (nat_le n 1048576) (Some n) None
+within_limit n = cond (nat_le n GREATEST_SIZE) (Some n) None
 
--- the size of the type's objects, where it has one of at most 1,048,576 bytes
+-- the size of the type's objects, where it has one of at most `GREATEST_SIZE` bytes
 abbrev pub size_in : List Class → Typ → Option ℕ
 size_in classes t = cond (holds_complete classes (form_in t)) (within_limit (extent_of classes t).size) None
 
@@ -178,7 +180,7 @@ pub record Scalar : Type 0 where
 
 -- an exception has at most 64 bytes, so that no scalar behind them counts
 abbrev pub where_counted : ℕ → List Scalar → List Scalar
-where_counted at ss = cond (nat_le at 64) ss []
+where_counted at ss = cond (nat_le at EXCEPTION_SIZE) ss []
 
 abbrev pub scalar_at : ℕ → Option IntKind → List Scalar
 scalar_at at None = []
@@ -240,4 +242,4 @@ is_value_form f = is_object_form f || is_some (kind_in f)
 
 -- the scalars of an exception of this type, which has at most 64 bytes
 abbrev pub are_scalars : List Class → Typ → List Head → Bool
-are_scalars classes t hs = is_value_form (form_in t) && passes (λ (size : ℕ). nat_le size 64) (size_in classes t) && are_fields (scalars_of classes t) hs
+are_scalars classes t hs = is_value_form (form_in t) && passes (λ (size : ℕ). nat_le size EXCEPTION_SIZE) (size_in classes t) && are_fields (scalars_of classes t) hs

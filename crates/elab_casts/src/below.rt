@@ -20,6 +20,8 @@ pub use elab_forms::below::Env;
 pub use elab_forms::below::FuncDecl;
 pub use elab_forms::below::FuncKind;
 pub use elab_forms::below::Functions;
+pub use elab_forms::below::GREATEST_FRAME;
+pub use elab_forms::below::GREATEST_SIZE;
 pub use elab_forms::below::IllRule;
 pub use elab_forms::below::InitCell;
 pub use elab_forms::below::IntKind;

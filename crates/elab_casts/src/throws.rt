@@ -16,15 +16,13 @@ ghost use Rattle.elab_forms.specs.elab_rules.Operators.{value as value_of};
 ghost use Rattle.elab_casts.specs.Rows.{value_thrown};
 
 use elab_forms::below::{
+    EXCEPTION_SIZE,
     At, Cat, ElabFault, Env, IllRule, LimitKind, Operand, Shape, TKind, TNode, TNodeId, Ty, Work,
     add_leaf, add_node, copy, elab_ops_ill as ill, fields, node_at, object_kids, object_of,
     size_of, traits_at, unqualified_type, value,
 };
 use elab_forms::conditionals::void_type;
 use std::alloc::{AllocError, Global};
-
-// The greatest size of an exception, in bytes.
-const EXCEPTION_BYTES: u32 = 64;
 
 // Whether a type is one of scalars that are thrown.
 fn is_thrown_scalar(ty: &Ty) -> bool
@@ -49,7 +47,7 @@ fn within_exception(env: &Env, at: At, ty: &Ty) -> Result<bool, ElabFault>
     ensures { Tells result (within_exception (ctx_of env.now) at (typ_of ty.now)) }
 {
     let size = size_of(env, ty)?;
-    if size > EXCEPTION_BYTES {
+    if size > EXCEPTION_SIZE as u32 {
         return Err(ElabFault::Limit {
             at,
             which: LimitKind::Exception,

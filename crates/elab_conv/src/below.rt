@@ -2,7 +2,7 @@
 
 pub use elab_rules::below::{
     Arg, At, BinOp, BlockKind, Builtin, Cand, Capture, Cat, CellKind, ClassDef, ClassRec, Closure,
-    CppAstAt, DefaultInit, ElabFault, Entity, EntityKind, EnumRec, Env, FnTy, FuncDecl, FuncKind,
+    CppAstAt, DefaultInit, EXCEPTION_SIZE, GREATEST_FRAME, GREATEST_SIZE, MOST_PARAMETERS, ElabFault, Entity, EntityKind, EnumRec, Env, FnTy, FuncDecl, FuncKind,
     Functions, IllRule, InitCell, IntKind, Label, Labels, Lambda, LimitKind, Linkage, MemberRec,
     NameFault, NoBest, Node, NodeId, NodeKind, Nodes, Operand, OverrideRule, Program, Returns,
     Scopes, Shape, SizeAlign, SlotRec, Special, TFunc, TGlobal, TKind, TNode, TNodeId, TParam,

@@ -26,14 +26,12 @@ use crate::parameters::with_parameters;
 use class_members::Header;
 use cpp_types::{At, Ty};
 use elab_stmt::below::{
+    GREATEST_FRAME,
     Body, ElabFault, Env, IllRule, LimitKind, MakeLambdas, NodeId, Nodes, State, TNodeId, Tokens,
     block, elab_types_node_at as node_at, extent, ill, is_complete_type, place,
 };
 use elab_stmt::statements;
 use std::alloc::{AllocError, Global};
-
-/// The greatest size of a frame, in bytes.
-const GREATEST_FRAME: u64 = 65_536;
 
 // The end of an item behind others. What does not end below 2 to the 64 counts as want of memory.
 fn item_end(env: &Env, end: u64, item: &Ty) -> Result<u64, AllocError>
@@ -68,7 +66,7 @@ fn within_frame(env: &Env, at: At, items: &[Ty]) -> Result<bool, ElabFault>
     ensures { Tells result (within_frame_of (ctx_of env.now) at (map typ_of items.now)) }
 {
     let end = items_end(env, items)?;
-    if end > GREATEST_FRAME {
+    if end > u64::from(GREATEST_FRAME) {
         return Err(ElabFault::Limit {
             at,
             which: LimitKind::Frame,

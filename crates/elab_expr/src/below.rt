@@ -19,6 +19,7 @@ pub use elab_rows::below::Env;
 pub use elab_rows::below::FuncDecl;
 pub use elab_rows::below::FuncKind;
 pub use elab_rows::below::Functions;
+pub use elab_rows::below::GREATEST_FRAME;
 pub use elab_rows::below::IllRule;
 pub use elab_rows::below::InitCell;
 pub use elab_rows::below::IntKind;

@@ -3,7 +3,7 @@
 pub use cpp_types::{
     At, Binding, Cat, Conversion, MemberRec, Shape, Step, Ty, copy, equal_shapes, equal_types,
 };
-pub use elab_conv::below::{
+pub use elab_conv::below::{EXCEPTION_SIZE, GREATEST_FRAME, GREATEST_SIZE,
     BinOp, BlockKind, Builtin, Cand, Capture, CellKind, ClassDef, Closure, DefaultInit, ElabFault,
     Entity, EntityKind, EnumRec, Env, FuncDecl, FuncKind, Functions, IllRule, InitCell, IntKind,
     Label, Labels, Lambda, LimitKind, Linkage, NameFault, Node, NodeId, NodeKind, Nodes, Operand,

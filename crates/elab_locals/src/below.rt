@@ -32,6 +32,7 @@ pub use elab_scopes::below::Env;
 pub use elab_scopes::below::FuncDecl;
 pub use elab_scopes::below::FuncKind;
 pub use elab_scopes::below::Functions;
+pub use elab_scopes::below::GREATEST_FRAME;
 pub use elab_scopes::below::IllRule;
 pub use elab_scopes::below::IntKind;
 pub use elab_scopes::below::Kids;

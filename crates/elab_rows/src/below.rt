@@ -18,6 +18,7 @@ pub use elab_casts::below::Env;
 pub use elab_casts::below::FuncDecl;
 pub use elab_casts::below::FuncKind;
 pub use elab_casts::below::Functions;
+pub use elab_casts::below::GREATEST_FRAME;
 pub use elab_casts::below::IllRule;
 pub use elab_casts::below::InitCell;
 pub use elab_casts::below::IntKind;

@@ -10,8 +10,10 @@ ghost use Rattle.elab_casts.specs.elab_ctx.Operands.{operand_in};
 ghost use Rattle.elab_casts.specs.elab_rules.Types.{array_of as array_of_of, is_within_size as is_within_size_of};
 ghost use Rattle.elab_casts.specs.elab_rules.Expressions.{bounded as bounded_of};
 ghost use Rattle.elab_types.specs.Shown.{Says};
+ghost use Rattle.elab_casts.specs.cpp_layout.declared.extents.TheConstants.{GREATEST_SIZE};
 
 use elab_casts::below::{
+    GREATEST_SIZE,
     At, ElabFault, Env, IllRule, IntKind, LimitKind, Operand, Shape, TNode, Ty, Work, arithmetic,
     copy, node_at, size_of, value_of_word, valued,
 };
@@ -29,14 +31,14 @@ fn is_within_size(env: &Env, ty: &Ty, count: u32) -> Result<bool, AllocError>
         return Ok(true);
     }
     let size = size_of(env, ty)?;
-    Ok(u64::from(size) * u64::from(count) <= 1_048_576)
+    Ok(u64::from(size) * u64::from(count) <= u64::from(GREATEST_SIZE))
 }
 
 // The number of elements that a bound gives, as far as an array may have so many.
 fn small_count(word: u64) -> Option<u32>
-    ensures { MatchOption result (nat_le word 1048576 ≡ false) (λ n. (n ≡ word) × (nat_le word 1048576 ≡ true)) }
+    ensures { MatchOption result (nat_le word GREATEST_SIZE ≡ false) (λ n. (n ≡ word) × (nat_le word GREATEST_SIZE ≡ true)) }
 {
-    if word <= 1_048_576 {
+    if word <= u64::from(GREATEST_SIZE) {
         Some(word as u32)
     } else {
         None

@@ -26,6 +26,7 @@ use Rattle.elab_rules.specs.Values.{size_type, retyped, number, valued, converte
 use Rattle.elab_rules.specs.Objects.{size_of, fields, traits_at}
 use Rattle.elab_rules.specs.Initialising.{initial, object_of, class_from, from_values, with_tree, class_number}
 use Rattle.elab_rules.specs.Operators.{value, dropped, is_sized, is_function}
+use Rattle.elab_ctx.specs.tx_events.declared.TheConstants.{EXCEPTION_SIZE}
 
 -- Casts
 
@@ -87,7 +88,7 @@ is_thrown_scalar (enum n s) = true
 is_thrown_scalar f = false
 
 abbrev pub within_exception : Ctx → At → Typ → Result Bool ElabFault
-within_exception c at t = if nat_le (size_of c.classes t) 64 then Ok true else Err (Limit at Exception)
+within_exception c at t = if nat_le (size_of c.classes t) EXCEPTION_SIZE then Ok true else Err (Limit at Exception)
 
 abbrev pub throw_node : Ctx → At → Typ → Tree → Tree
 throw_node c at t e = node Throw (unqualified t) Prvalue at (more e (fields c.classes at t))

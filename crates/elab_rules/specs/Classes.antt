@@ -12,6 +12,7 @@ use Rattle.elab_ctx.specs.cpp_types.declared.classes.Safety.{Safety}
 use Rattle.elab_ctx.specs.cpp_types.declared.classes.Safety.TheVariants.{Safe, Dynamic}
 use Rattle.elab_ctx.specs.cpp_lex.Tokens.{Lexeme}
 use Rattle.elab_ctx.specs.cpp_layout.Layout.{class_extent}
+use Rattle.elab_ctx.specs.cpp_layout.declared.extents.TheConstants.{GREATEST_SIZE}
 use Rattle.elab_ctx.specs.cpp_ast.declared.kinds.NodeKind.TheVariants as k
 use Rattle.elab_ctx.specs.cpp_ast.Trees as syntax
 use Rattle.elab_ctx.specs.cpp_tree.declared.program.FuncKind.{FuncKind}
@@ -599,7 +600,7 @@ completed c home at ms initialised = copy_completed home at ms initialised (is_n
 
 -- complete, unless it is too large
 abbrev pub closed_class : At → ℕ → Ctx → Result Ctx ElabFault
-closed_class at n c = if nat_le (class_extent c.classes n).size 1048576 then Ok c else Err (Limit at Size)
+closed_class at n c = if nat_le (class_extent c.classes n).size GREATEST_SIZE then Ok c else Err (Limit at Size)
 
 -- Its text, from the first word to the `;` behind the brace
 

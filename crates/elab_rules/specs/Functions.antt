@@ -13,6 +13,7 @@ use Rattle.elab_ctx.specs.cpp_lex.Tokens.{Lexeme}
 use Rattle.elab_ctx.specs.cpp_ast.declared.kinds.NodeKind.TheVariants as k
 use Rattle.elab_ctx.specs.cpp_ast.Trees as syntax
 use Rattle.elab_ctx.specs.cpp_layout.Layout.{frame_size, extent_of}
+use Rattle.elab_ctx.specs.cpp_layout.declared.frames.TheConstants.{GREATEST_FRAME}
 use Rattle.elab_ctx.specs.cpp_names.declared.entity.Entity.{Entity}
 use Rattle.elab_ctx.specs.cpp_names.declared.entity.EntityKind.{EntityKind}
 use Rattle.elab_ctx.specs.cpp_names.declared.entity.EntityKind.TheVariants as entities
@@ -224,7 +225,7 @@ abbrev pub end_of : Ctx → Typ → At → Trees
 end_of c t at = if is_void t then none else (if is_class_typ t then two (result_zeroed c t at) (void_at forms.Return at none) else one (void_at forms.Return at (one (zero_result t at))))
 
 abbrev pub within_frame : Ctx → At → List Typ → Result Bool ElabFault
-within_frame c at items = if nat_le (frame_size (map (extent_of c.classes) items)) 65536 then Ok true else Err (Limit at Frame)
+within_frame c at items = if nat_le (frame_size (map (extent_of c.classes) items)) GREATEST_FRAME then Ok true else Err (Limit at Frame)
 
 -- behind a function: what stands around it is known as before, and its lambdas and strings stay
 abbrev pub leaving : State → State → State

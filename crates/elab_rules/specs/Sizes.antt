@@ -1,4 +1,4 @@
--- How long types, symbols and texts are, counted without writing them: none is longer than 1,048,576 bytes (profile).
+-- How long types, symbols and texts are, counted without writing them: none is longer than the greatest object (profile).
 use Rattle.std.specs.Prelude.{ℕ, ◌+◌, nat_lt, nat_le, Bool, true, false, ◌||◌, List, [], ◌∷◌, length, Option, Some, None, Result, Ok, Err, if◌then◌else◌, slice_get}
 use Rattle.elab_ctx.specs.cpp_types.Typ.{Typ, typ, Form, void, int, enum, null, ptr, ref, array, func, class, closure, tx_ex, Signature, signature, Typs, none, more}
 use Rattle.elab_ctx.specs.cpp_types.Class.{Class, Function}
@@ -7,6 +7,7 @@ use Rattle.elab_ctx.specs.cpp_types.declared.classes.At.{At}
 use Rattle.elab_ctx.specs.cpp_tree.declared.faults.ElabFault.{ElabFault}
 use Rattle.elab_ctx.specs.cpp_tree.declared.faults.ElabFault.TheVariants.{Limit}
 use Rattle.elab_ctx.specs.cpp_tree.declared.faults.LimitKind.TheVariants.{Size}
+use Rattle.elab_ctx.specs.cpp_layout.declared.extents.TheConstants.{GREATEST_SIZE}
 
 -- the decimal digits of a number below 10,000,000, as offsets and bounds are
 abbrev pub digit_count : ℕ → ℕ
@@ -62,7 +63,7 @@ abbrev mutual
   typs_length classes (more t (more u us)) = typ_length classes t + 1 + typs_length classes (more u us)
 
 abbrev pub sized : At → ℕ → Result Bool ElabFault
-sized at n = if nat_le n 1048576 then Ok true else Err (Limit at Size)
+sized at n = if nat_le n GREATEST_SIZE then Ok true else Err (Limit at Size)
 
 -- the type of a declaration
 abbrev pub typ_sized : List Class → At → Typ → Result Bool ElabFault

@@ -22,6 +22,8 @@ use Rattle.elab_ctx.specs.Types.{Named, type_called}
 use Rattle.elab_ctx.specs.Steps.{and_then, expect, check, spelling}
 use Rattle.elab_rules.specs.Objects.{size_of, traits_at}
 use Rattle.elab_rules.specs.Operators.{is_complete}
+use Rattle.elab_ctx.specs.cpp_layout.declared.extents.TheConstants.{GREATEST_SIZE}
+use Rattle.elab_rules.specs.declared.TheConstants.{MOST_PARAMETERS}
 
 -- `auto` until it is known: an enum without a name
 abbrev pub auto_form : Form
@@ -178,12 +180,12 @@ abbrev pub is_element : Typ → Bool
 is_element t = not (is_reference_form (form_in t)) && not (is_void t) && not (is_function_form (form_in t)) && not (auto_in (form_in t))
 
 abbrev pub is_within_size : Ctx → Typ → ℕ → Bool
-is_within_size c t n = not (is_complete c (held t)) || nat_le (size_of c.classes t * n) 1048576
+is_within_size c t n = not (is_complete c (held t)) || nat_le (size_of c.classes t * n) GREATEST_SIZE
 
 -- an array of so many elements (8.3.4); the bound is a number above 0
 abbrev pub array_of : Ctx → At → At → Typ → IntKind → ℕ → Result Typ ElabFault
 array_of c at p t kind w = and_then (check at BadDeclaration (is_element t)) (λ x. and_then (check p BadDeclaration (int_lt (pos 0) (value_of_word kind w))) (λ y.
-    if nat_le w 1048576 && is_within_size c t w then Ok (plain (array t w)) else Err (Limit at Size)))
+    if nat_le w GREATEST_SIZE && is_within_size c t w then Ok (plain (array t w)) else Err (Limit at Size)))
 
 -- an array whose bound its initialiser gives, with 0 for it
 abbrev pub open_array : At → Typ → Result Typ ElabFault
@@ -215,7 +217,7 @@ types_of [] = no_typs
 types_of (p ∷ ps) = and_typ (unqualified p.typ) (types_of ps)
 
 abbrev pub is_few : List Parameter → Bool
-is_few ps = nat_le (length ps) 64
+is_few ps = nat_le (length ps) MOST_PARAMETERS
 
 abbrev pub within_parameters : At → List Parameter → Result Bool ElabFault
 within_parameters at ps = if is_few ps then Ok true else Err (Limit at Params)

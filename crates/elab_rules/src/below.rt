@@ -1,7 +1,8 @@
 //! What stands below this crate, passed on: a crate above it lists this crate alone.
 
+pub use crate::MOST_PARAMETERS;
 pub use cpp_overload::{Arg, Cand, NoBest, choose};
-pub use elab_ctx::below::{
+pub use elab_ctx::below::{EXCEPTION_SIZE, GREATEST_FRAME, GREATEST_SIZE,
     At, BinOp, BlockKind, Builtin, Cat, CellKind, ClassDef, ClassRec, CppAstAt, ElabFault, Entity,
     EntityKind, FnTy, FuncKind, IllRule, InitCell, IntKind, LimitKind, Linkage, MemberRec,
     NameFault, Node, NodeId, NodeKind, Nodes, OverrideRule, Program, Scopes, Shape, SizeAlign,

@@ -2,3 +2,6 @@
 #![tactic(auto)]
 
 pub mod below;
+
+/// The most parameters of a function (C++14 annex B; the number: the profile).
+pub const MOST_PARAMETERS: usize = 64;

@@ -16,6 +16,7 @@ pub use elab_expr::below::Env;
 pub use elab_expr::below::FuncDecl;
 pub use elab_expr::below::FuncKind;
 pub use elab_expr::below::Functions;
+pub use elab_expr::below::GREATEST_FRAME;
 pub use elab_expr::below::IllRule;
 pub use elab_expr::below::IntKind;
 pub use elab_expr::below::Kids;

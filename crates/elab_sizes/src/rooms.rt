@@ -9,9 +9,6 @@ ghost use Rattle.elab_rules.specs.Sizes.{if_set, digit_count, marks_length, plac
 use cpp_types::{ClassRec, FnTy, FuncRec, Shape, Ty};
 use elab_rules::below::IntKind;
 
-/// The longest spelling, in bytes.
-pub const LONGEST: u32 = 1_048_576;
-
 /// The room that is left behind so many bytes.
 pub fn left(room: u32, bytes: usize) -> Option<u32>
     ensures { MatchOption result (room < bytes) (λ r. r + bytes ≡ room) }

@@ -14,6 +14,7 @@ pub use elab_locals::below::Env;
 pub use elab_locals::below::FuncDecl;
 pub use elab_locals::below::FuncKind;
 pub use elab_locals::below::Functions;
+pub use elab_locals::below::GREATEST_FRAME;
 pub use elab_locals::below::IllRule;
 pub use elab_locals::below::IntKind;
 pub use elab_locals::below::Kids;

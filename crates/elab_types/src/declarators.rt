@@ -14,7 +14,7 @@ use crate::types::{
     adjusted, has_auto, is_abstract, is_element, is_reference, is_result, is_void_type,
 };
 use cpp_types::{At, FnTy, Shape, Ty, copy};
-use elab_conv::below::{ElabFault, Env, IllRule, LimitKind};
+use elab_conv::below::{ElabFault, Env, IllRule, LimitKind, MOST_PARAMETERS};
 use elab_conv::types::unqualified_type;
 use std::alloc::{AllocError, Global};
 
@@ -160,7 +160,7 @@ pub fn function_of(
     if is_abstract(env, ret) {
         return Err(ill(at, IllRule::AbstractObject));
     }
-    if params.len() > 64 {
+    if params.len() > MOST_PARAMETERS {
         return Err(past(at, LimitKind::Params));
     }
     let made = function_type(alloc, ret, params, safe)?;

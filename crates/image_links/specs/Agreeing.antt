@@ -9,6 +9,7 @@ use Rattle.tx_code.specs.Program.{names_of, func_address, class_address, number_
 use Rattle.cpp_tree.specs.cpp_types.Typ.{Typ}
 use Rattle.cpp_tree.specs.cpp_types.Equal.{flag_eq}
 use Rattle.cpp_tree.specs.Units.{Definition, Unit as TypedUnit}
+use Rattle.cpp_tree.specs.tx_events.Memory.{stack_size}
 use Rattle.src_mean.specs.Linked.{Func, Program}
 use Rattle.src_mean.specs.Links.{Def, kept_funcs, kept_classes}
 use Rattle.src_mean.specs.Source.{thread_signature}
@@ -19,7 +20,7 @@ use Rattle.image_links.specs.Books.{all_places, same_number, func_takes, func_gi
 
 -- a stack has room for the frame of a function that a thread starts in
 abbrev pub most_frame : ℕ
-most_frame = 65536
+most_frame = stack_size
 
 -- a function of the image is this one of the program
 abbrev pub same_func : ImageFuncView → Option Func → Bool

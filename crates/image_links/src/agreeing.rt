@@ -17,15 +17,13 @@ ghost use Rattle.image_links.specs.Agreeing.{same_func, same_funcs, symbols_of, 
 
 use crate::calls::{func_gives, func_takes, is_same, numbered, pointed_pass};
 use crate::lookups::{class_address, class_at, func_address, slot, spawned};
+use cpp_tree::below::STACK_SIZE;
 use cpp_tree::{ClassDef, Program, UnitTree};
 use src_bind::defs::Found;
 use src_bind::lists::{kept_classes, kept_funcs};
 use src_bind::{Bound, Choices, FuncInfo};
 use std::alloc::{AllocError, Global};
 use tx_code::{Image, ImageClass, ImageFunc};
-
-/// The most bytes of a frame of a function that a thread starts in.
-const MOST_FRAME: u32 = 65_536;
 
 // Whether both are one number, or both none.
 pub(crate) fn same_number(a: Option<u32>, b: Option<u32>) -> bool
@@ -46,7 +44,7 @@ fn same_func(func: &ImageFunc, info: &FuncInfo) -> bool
 {
     func.frame == info.size
         && (is_same(func.no_except, info.stops)
-            && (is_same(func.safe.is_some(), info.safe) && info.size <= MOST_FRAME))
+            && (is_same(func.safe.is_some(), info.safe) && u64::from(info.size) <= STACK_SIZE))
 }
 
 // Whether it is the one with this number.

@@ -2,6 +2,7 @@
 use Rattle.std.specs.Prelude.{Bool, true, false, ◌≡◌, ◌<◌, ◌≤◌, ℕ, List}
 use Rattle.tx_code.specs.Objects.{ObjectView}
 use Rattle.tx_code.specs.WellFormed.{bytes_lt}
+use Rattle.tx_events.specs.declared.TheConstants.{GLOBALS_LIMIT}
 use Rattle.link_faults.specs.Faults.{is_twice, is_different, is_undefined, is_unsafe, has_main, size_of_globals}
 use Rattle.link_faults.specs.declared.fault.LinkFault.{LinkFault}
 use Rattle.link_faults.specs.declared.fault.LinkFault.TheVariants.{Twice, OdrDiffers, Undefined, UnsafeSymbol, NoMain, Globals, Memory}
@@ -21,7 +22,7 @@ pub record Links (os : List ObjectView) : Type 0 where
   pub undefined : NoneOf (is_undefined os)
   pub unsafe : NoneOf (is_unsafe os)
   pub main : has_main os ≡ true
-  pub globals : size_of_globals os ≤ 1048576
+  pub globals : size_of_globals os ≤ GLOBALS_LIMIT
 
 -- the first fault, by the order of these lines and then by the symbol
 abbrev pub Faulty : List ObjectView → LinkFault → Type 0
@@ -30,7 +31,7 @@ Faulty os (OdrDiffers symbol) = NoneOf (is_twice os) × Least (is_different os) 
 Faulty os (Undefined symbol) = NoneOf (is_twice os) × NoneOf (is_different os) × Least (is_undefined os) symbol.items
 Faulty os (UnsafeSymbol symbol) = NoneOf (is_twice os) × NoneOf (is_different os) × NoneOf (is_undefined os) × Least (is_unsafe os) symbol.items
 Faulty os NoMain = NoneOf (is_twice os) × NoneOf (is_different os) × NoneOf (is_undefined os) × NoneOf (is_unsafe os) × (has_main os ≡ false)
-Faulty os (Globals size) = NoneOf (is_twice os) × NoneOf (is_different os) × NoneOf (is_undefined os) × NoneOf (is_unsafe os) × (has_main os ≡ true) × (size ≡ size_of_globals os) × (1048576 < size)
+Faulty os (Globals size) = NoneOf (is_twice os) × NoneOf (is_different os) × NoneOf (is_undefined os) × NoneOf (is_unsafe os) × (has_main os ≡ true) × (size ≡ size_of_globals os) × (GLOBALS_LIMIT < size)
 Faulty os Memory = Unit {0}
 
 -- no fault but for the size of the globals

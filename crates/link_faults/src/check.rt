@@ -15,9 +15,7 @@ use crate::tables::{Tables, tables_of};
 use crate::twice::{least_different, least_twice};
 use std::alloc::{AllocError, Global};
 use tx_code::Object;
-
-/// How many bytes globals may take.
-pub const MAX_GLOBALS: u64 = 1_048_576;
+use tx_events::GLOBALS_LIMIT;
 
 fn name_at(alloc: Global, names: &[Vec<u8>], rank: u32) -> Result<Vec<u8>, AllocError>
     requires { rank < length names.now }
@@ -110,7 +108,7 @@ pub fn check_objects(alloc: Global, objects: &[Object]) -> Result<(), LinkFault>
 {
     check_tables(alloc, objects)?;
     let size = globals_size(objects);
-    if size > MAX_GLOBALS {
+    if size > u64::from(GLOBALS_LIMIT) {
         return Err(LinkFault::Globals { size });
     }
     Ok(())

@@ -21,7 +21,7 @@ mod tables;
 mod twice;
 mod unlisted;
 
-pub use check::{MAX_GLOBALS, check_objects};
+pub use check::check_objects;
 pub use entries::name_rank;
 pub use fault::LinkFault;
 pub use names::{all_names, rank};

@@ -9,11 +9,12 @@ ghost use Rattle.tx_code.specs.Sound.{Sound, SoundObject};
 ghost use Rattle.link_faults.specs.Answers.{Links, NoneOf};
 ghost use Rattle.link_faults.specs.Faults.{has_main, is_different, is_twice};
 ghost use Rattle.link_faults.specs.Ranks.{names_of};
+ghost use Rattle.tx_events.specs.declared.TheConstants.{GLOBALS_LIMIT};
 
 /// The globals of a linked image lie apart, and it has fewer functions than its objects have names.
 pub fn linked_globals()
     ensures cells { (os : List ObjectView) (i : ImageView) → All IsObject os → length (flat_map names_of os) < 4294967295 → ImageOf os i → cells_fit i.size i.globals ≡ true }
-    ensures size { (os : List ObjectView) (i : ImageView) → ImageOf os i → i.size ≤ 1048576 → size_fits i.size ≡ true }
+    ensures size { (os : List ObjectView) (i : ImageView) → ImageOf os i → i.size ≤ GLOBALS_LIMIT → size_fits i.size ≡ true }
 {}
 
 /// The functions and slots of a linked image.

@@ -10,13 +10,14 @@ ghost use Rattle.tx_code.specs.Linked.{end_of, name_in, or_none, rounded};
 ghost use Rattle.link_tables.specs.Found.{class_row, func_row, global_of_row, global_row};
 ghost use Rattle.link_tables.specs.Renamed.{told};
 ghost use Rattle.link_parts.specs.Parts.{IsPlacedGlobal, cell_number, cell_told, cells_told, class_told, func_told, is_main_row};
+ghost use Rattle.tx_events.specs.declared.TheConstants.{GLOBALS_LIMIT};
 
 use link_tables::found::{FoundClass, FoundFunc, FoundGlobal};
 use link_tables::kept::end_behind;
 use link_tables::renamed::{Numbers, number_or_absent, optional_number, plain_in, safe_in};
 use std::alloc::{AllocError, Global};
 use tx_code::{ImageClass, ImageFunc, ObjCell, Object};
-use tx_events::GlobalCell;
+use tx_events::{GLOBALS_START, GlobalCell};
 
 /// A copy of a name of an object.
 fn name_of(alloc: Global, object: &Object, name: u32) -> Result<Vec<u8>, AllocError>
@@ -129,7 +130,7 @@ fn value_of(numbers: &Numbers, start: u32, cell: ObjCell) -> u64
     let name = cell.symbol.saturating_sub(1);
     if cell.what == 1 {
         let offset = number_or_absent(&numbers.globals, start, name);
-        return (65_536 + u64::from(offset)).wrapping_add(cell.value);
+        return (GLOBALS_START + u64::from(offset)).wrapping_add(cell.value);
     }
     let func = number_or_absent(&numbers.funcs, start, name);
     (1 << 40) + 16 * u64::from(func)
@@ -143,7 +144,7 @@ fn add_cells(
     cells: &mut Vec<GlobalCell>,
 ) -> Result<(), AllocError>
     requires fits { IsPlacedGlobal found }
-    requires place { place + rounded found.global.now.size ≤ 1048576 }
+    requires place { place + rounded found.global.now.size ≤ GLOBALS_LIMIT }
     ensures { OnOk result (cells.new.items ≡ cells.old.items ++ map (cell_told numbers.now found.entry.home.start place) found.entry.global.now.cells.items) }
 {
     for cell in &found.global.cells {
@@ -164,7 +165,7 @@ pub fn cells_of(
     found: &[FoundGlobal<'_>],
 ) -> Result<Vec<GlobalCell>, AllocError>
     requires fit { All IsPlacedGlobal found.now }
-    requires size { end_of 0 (map global_of_row (map global_row found.now)) ≤ 1048576 }
+    requires size { end_of 0 (map global_of_row (map global_row found.now)) ≤ GLOBALS_LIMIT }
     ensures { IfOk result (λ v. v.items ≡ cells_told numbers.now 0 (map global_row found.now)) }
 {
     let mut cells = Vec::new(alloc);

@@ -3,6 +3,7 @@ ghost use Rattle.std.specs.Prelude.{◌≡◌, ◌<◌, ◌≤◌, ◌+◌, ◌^
 ghost use Rattle.std.specs.List.{All};
 ghost use Rattle.tx_code.specs.Linked.{end_of, rounded};
 ghost use Rattle.link_tables.specs.Found.{class_row, class_symbol_of, func_row, func_symbol_of, global_of_row, global_row, kept_class_rows, kept_rows, numbered, placed};
+ghost use Rattle.tx_events.specs.declared.TheConstants.{GLOBALS_LIMIT};
 
 use crate::found::{FoundClass, FoundFunc, FoundGlobal};
 use crate::places::{is_new, no_marks};
@@ -105,7 +106,7 @@ pub fn numbered_classes(alloc: Global, kept: &[FoundClass<'_>]) -> Result<Vec<Nu
 
 /// The globals with their offsets: each lies at the next multiple of 8.
 pub fn placed_globals(alloc: Global, found: &[FoundGlobal<'_>]) -> Result<Vec<Numbered>, AllocError>
-    requires { end_of 0 (map global_of_row (map global_row found.now)) ≤ 1048576 }
+    requires { end_of 0 (map global_of_row (map global_row found.now)) ≤ GLOBALS_LIMIT }
     ensures { IfOk result (λ v. v.items ≡ placed 0 (map global_row found.now)) }
 {
     let mut defs = Vec::new(alloc);
@@ -122,7 +123,7 @@ pub fn placed_globals(alloc: Global, found: &[FoundGlobal<'_>]) -> Result<Vec<Nu
 
 /// Where a global of this size ends that begins here: at a multiple of 8.
 pub fn end_behind(start: u32, size: u32) -> u32
-    requires { start + rounded size ≤ 1048576 }
+    requires { start + rounded size ≤ GLOBALS_LIMIT }
     ensures { result ≡ start + rounded size }
 {
     start + (size + 7) / 8 * 8

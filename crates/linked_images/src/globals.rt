@@ -6,6 +6,7 @@ ghost use Rattle.src_mean.specs.Links.{globals_size as size_of_globals};
 ghost use Rattle.src_bind.specs.Bounds.{given};
 ghost use Rattle.src_bind.specs.Tables.{CanBind, typed};
 ghost use Rattle.linked_images.specs.Globals.{SameCells};
+ghost use Rattle.tx_events.specs.declared.TheConstants.{GLOBALS_LIMIT};
 
 use src_bind::Bound;
 use src_link::{first_cells, globals_size};
@@ -23,7 +24,7 @@ fn has_cells(image: &Image, cells: &[GlobalCell]) -> bool
 
 // Whether an image has so many bytes of globals, up to the next multiple of 8.
 fn has_size(image: &Image, size: u32) -> bool
-    requires { size ≤ 1048576 }
+    requires { size ≤ GLOBALS_LIMIT }
     ensures yes { result ≡ true → (image_view image.now).size ≡ (size + 7) / 8 * 8 }
     ensures no { result ≡ false → (image_view image.now).size ≡ (size + 7) / 8 * 8 → ⊥ }
 {

@@ -7,6 +7,7 @@ use Rattle.tx_code.specs.declared.body.Row.{Row}
 use Rattle.tx_code.specs.declared.body.LineRow.{LineRow}
 use Rattle.tx_code.specs.declared.object.ObjMember.{ObjMember}
 use Rattle.tx_code.specs.declared.object.ObjCell.{ObjCell}
+use Rattle.tx_code.specs.declared.object.TheConstants.{LONGEST_NAME}
 use Rattle.tx_code.specs.Objects.{BodyView, ClassView, GlobalView, FuncView}
 use Rattle.tx_code.specs.WellFormed.{bytes_lt, is_name, is_name_or_none, is_cell_size, is_multiple, bit, same, flags_fit}
 use Rattle.object_bytes.specs.Decoder.{Decoder, done, ◌>>=◌, such_that, u8, u32, u64, raw, when, items, list, each}
@@ -30,7 +31,7 @@ lent None = None
 lent (Some name) = Some name.now
 
 abbrev pub is_name_length : ℕ → Bool
-is_name_length n = nat_lt 0 n && nat_le n 1048576
+is_name_length n = nat_lt 0 n && nat_le n LONGEST_NAME
 
 unfoldable pub text : Decoder (List ℕ)
 text = such_that u32 is_name_length >>= raw

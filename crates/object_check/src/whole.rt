@@ -11,12 +11,12 @@ use crate::entries::{classes_fit, funcs_fit, globals_fit};
 use crate::order::{classes_ascend, funcs_ascend, globals_ascend, names_ascend};
 use object_bytes::is_whole;
 use std::alloc::{AllocError, Global};
-use tx_code::Object;
+use tx_code::{LONGEST_NAME, Object};
 
 fn is_length(name: &[u8]) -> bool
     ensures { result ≡ is_length_of name.now }
 {
-    name.len() > 0 && name.len() <= 1_048_576
+    name.len() > 0 && name.len() <= LONGEST_NAME as usize
 }
 
 fn are_lengths(names: &[Vec<u8>]) -> bool

@@ -9,13 +9,14 @@ ghost use Rattle.object_bytes.specs.Fields.{lent, above, is_name_length, text, n
 use crate::fault::ReadError;
 use crate::numbers::{u32_at, wrong};
 use std::alloc::Global;
+use tx_code::LONGEST_NAME;
 
 #[tactic(auto, unfolding(object_bytes::specs::Decoder::such_that))]
 fn name_length_at(bytes: &[u8]) -> Result<(u32, &[u8]), ReadError>
     ensures { Gives (λ x. (x.0, x.1.now)) result (such_that u32 is_name_length bytes.now) }
 {
     let (length, rest) = u32_at(bytes)?;
-    if length == 0 || length > 1_048_576 {
+    if length == 0 || length > LONGEST_NAME {
         return Err(wrong(bytes));
     }
     Ok((length, rest))

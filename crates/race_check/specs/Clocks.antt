@@ -7,6 +7,7 @@ use Rattle.race_check.specs.Races.{Does}
 use Rattle.race_check.specs.Rows.{Down, Right}
 use Rattle.race_check.specs.declared.clocks.Clocks.{Clocks}
 use Rattle.race_check.specs.declared.rows.Row.{Row}
+use Rattle.tx_events.specs.declared.TheConstants.{THREAD_LIMIT}
 
 abbrev pub no_row : Row
 no_row = record { latest = [] }
@@ -42,15 +43,15 @@ pub record Begun (items : List Item) (begun : List Bool) (n : ℕ) : Type 0 wher
 
 -- the rows behind the first n items
 pub record Clocked (items : List Item) (clocks : Clocks) (n : ℕ) : Type 0 where
-  pub size : length clocks.rows.items ≡ 64
-  pub begun_size : length clocks.begun.items ≡ 64
-  pub rows : (t : ℕ) → t < 64 → Down items (row_in clocks.rows.items t) (Own items n t)
+  pub size : length clocks.rows.items ≡ THREAD_LIMIT
+  pub begun_size : length clocks.begun.items ≡ THREAD_LIMIT
+  pub rows : (t : ℕ) → t < THREAD_LIMIT → Down items (row_in clocks.rows.items t) (Own items n t)
   pub begun : Begun items clocks.begun.items n
 
 -- the same at item n, which is of thread t: its row is that of the item
 pub record Reached (items : List Item) (clocks : Clocks) (n t : ℕ) : Type 0 where
-  pub size : length clocks.rows.items ≡ 64
-  pub begun_size : length clocks.begun.items ≡ 64
+  pub size : length clocks.rows.items ≡ THREAD_LIMIT
+  pub begun_size : length clocks.begun.items ≡ THREAD_LIMIT
   pub right : Right items (row_at clocks.rows.items t) n
-  pub others : (u : ℕ) → u < 64 → (u ≡ t → ⊥) → Down items (row_in clocks.rows.items u) (Own items n u)
+  pub others : (u : ℕ) → u < THREAD_LIMIT → (u ≡ t → ⊥) → Down items (row_in clocks.rows.items u) (Own items n u)
   pub begun : Begun items clocks.begun.items n

@@ -6,6 +6,7 @@ ghost use Rattle.race_check.specs.Blocks.{Blocked};
 ghost use Rattle.race_check.specs.Clocks.{Clocked, Reached, row_at, row_in};
 ghost use Rattle.race_check.specs.Regular.{Regular};
 ghost use Rattle.race_check.specs.Rows.{Down, Greater};
+ghost use Rattle.tx_events.specs.declared.TheConstants.{THREAD_LIMIT};
 
 use crate::blocks::Blocks;
 use crate::rows::{Row, THREADS, add_item, empty_row};
@@ -21,7 +22,7 @@ pub(crate) struct Clocks {
 
 // A row for each thread that counts nothing.
 fn empty_rows(alloc: Global) -> Result<Vec<Row>, AllocError>
-    ensures size { IfOk result (λ rows. length rows.items ≡ 64) }
+    ensures size { IfOk result (λ rows. length rows.items ≡ THREAD_LIMIT) }
     ensures zero { IfOk result (λ rows. (t s : ℕ) → row_in rows.items t s ≡ 0) }
 {
     let row = empty_row();
@@ -31,7 +32,7 @@ fn empty_rows(alloc: Global) -> Result<Vec<Row>, AllocError>
 
 // No thread has items.
 fn none_begun(alloc: Global) -> Result<Vec<bool>, AllocError>
-    ensures size { IfOk result (λ begun. length begun.items ≡ 64) }
+    ensures size { IfOk result (λ begun. length begun.items ≡ THREAD_LIMIT) }
     ensures none { IfOk result (λ begun. (t : ℕ) → slice_index_or begun.items t false ≡ false) }
 {
     let begun = vec![in alloc; false; THREADS]?;
@@ -54,7 +55,7 @@ fn add_at(rows: &mut Vec<Row>, t: u8, other: u8)
 // Row `t` counts item `p` of thread `t` too.
 fn count_at(rows: &mut Vec<Row>, t: u8, p: usize)
     requires within { t < length rows.old.items }
-    requires thread { t < 64 }
+    requires thread { t < THREAD_LIMIT }
     requires fits { p + 1 < 2 ^ 64 }
     ensures size { length rows.new.items ≡ length rows.old.items }
     ensures kept { (s : ℕ) → row_in rows.old.items t s ≤ row_in rows.new.items t s }
@@ -68,10 +69,10 @@ fn count_at(rows: &mut Vec<Row>, t: u8, p: usize)
 
 // If it starts a thread, that thread's row counts what row `t` counts too.
 fn put_start(rows: &mut Vec<Row>, what: What, t: u8)
-    requires size { length rows.old.items ≡ 64 }
-    requires within { t < 64 }
-    ensures size { length rows.new.items ≡ 64 }
-    ensures there { (child : ℕ) → what ≡ Spawned child → child < 64 → Greater (row_in rows.old.items child) (row_in rows.old.items t) (row_in rows.new.items child) }
+    requires size { length rows.old.items ≡ THREAD_LIMIT }
+    requires within { t < THREAD_LIMIT }
+    ensures size { length rows.new.items ≡ THREAD_LIMIT }
+    ensures there { (child : ℕ) → what ≡ Spawned child → child < THREAD_LIMIT → Greater (row_in rows.old.items child) (row_in rows.old.items t) (row_in rows.new.items child) }
     ensures others { (u s : ℕ) → (what ≡ Spawned u → ⊥) → row_in rows.new.items u s ≡ row_in rows.old.items u s }
 {
     match what {

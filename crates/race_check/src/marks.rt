@@ -3,6 +3,7 @@ ghost use Rattle.std.specs.Prelude.{◌≡◌, ℕ, ◌<◌, ◌≤◌, ◌+◌,
 ghost use Rattle.race_check.specs.Marks.{GathersFrom, IsPiece, Marked, cell, late_at, lone, mark};
 ghost use Rattle.race_check.specs.Regular.{Regular};
 ghost use Rattle.race_check.specs.Rows.{Greater};
+ghost use Rattle.tx_events.specs.declared.TheConstants.{THREAD_LIMIT};
 
 use crate::items::{bytes_of, is_write};
 use crate::pieces::piece_end;
@@ -39,7 +40,7 @@ impl Marks {
     // The bytes of a piece have at least this mark for a thread.
     fn raise_piece(&mut self, at: u64, end: u64, t: usize, value: usize) -> Result<(), AllocError>
         requires piece { IsPiece at end }
-        requires thread { t < 64 }
+        requires thread { t < THREAD_LIMIT }
         ensures there { OnOk result ((x : ℕ) → at ≤ x → x < end → Greater (mark self.old x) (lone t value) (mark self.new x)) }
         ensures others { OnOk result ((x s : ℕ) → (at ≤ x → x < end → ⊥) → mark self.new x s ≡ mark self.old x s) }
     {
@@ -53,7 +54,7 @@ impl Marks {
 
     /// Each of these bytes has at least this mark for a thread.
     fn raise_all(&mut self, from: u64, to: u64, t: usize, value: usize) -> Result<(), AllocError>
-        requires { t < 64 }
+        requires { t < THREAD_LIMIT }
         ensures there { OnOk result ((x : ℕ) → from ≤ x → x < to → Greater (mark self.old x) (lone t value) (mark self.new x)) }
         ensures others { OnOk result ((x s : ℕ) → (from ≤ x → x < to → ⊥) → mark self.new x s ≡ mark self.old x s) }
     {

@@ -2,8 +2,10 @@
 ghost use Rattle.std.specs.Prelude.{◌≡◌, ℕ, ◌<◌, ◌≤◌, ◌+◌, ◌⊎◌, ◌^◌, length, slice_index};
 ghost use Rattle.race_check.specs.Rows.{Greater};
 
+use tx_events::THREAD_LIMIT;
+
 /// How many threads a trace can have.
-pub(crate) const THREADS: usize = 64;
+pub(crate) const THREADS: usize = THREAD_LIMIT as usize;
 
 /// For each thread, one more than the index of the latest counted item, 0 where none is counted.
 #[derive(Clone, Copy)]

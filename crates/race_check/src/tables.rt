@@ -4,6 +4,7 @@ ghost use Rattle.std.specs.BTreeMap.{get};
 ghost use Rattle.std.specs.Ordering.{nat_cmp};
 ghost use Rattle.race_check.specs.Marks.{Late, Raised, cell};
 ghost use Rattle.race_check.specs.Rows.{Greater};
+ghost use Rattle.tx_events.specs.declared.TheConstants.{THREAD_LIMIT};
 
 use crate::rows::{Row, THREADS, empty_row};
 use std::alloc::{AllocError, Global};
@@ -76,7 +77,7 @@ impl Table {
 
     /// Row `key` has at least this value for a thread.
     pub(crate) fn raise(&mut self, key: u64, t: usize, value: usize) -> Result<(), AllocError>
-        requires { t < 64 }
+        requires { t < THREAD_LIMIT }
         ensures there { OnOk result (Raised t value (cell self.old key) (cell self.new key)) }
         ensures others { OnOk result ((k s : ℕ) → (k ≡ key → ⊥) → cell self.new k s ≡ cell self.old k s) }
     {
@@ -89,7 +90,7 @@ impl Table {
 
     // The number gets a row, with this value for a thread.
     fn begin(&mut self, key: u64, t: usize, value: usize) -> Result<(), AllocError>
-        requires thread { t < 64 }
+        requires thread { t < THREAD_LIMIT }
         requires absent { get nat_cmp self.old.rows key ≡ None }
         ensures there { OnOk result (Raised t value (cell self.old key) (cell self.new key)) }
         ensures others { OnOk result ((k s : ℕ) → (k ≡ key → ⊥) → cell self.new k s ≡ cell self.old k s) }

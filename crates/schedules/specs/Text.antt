@@ -7,6 +7,7 @@ use Rattle.schedules.specs.declared.Run.{Run}
 use Rattle.schedules.specs.declared.Schedule.{Schedule}
 use Rattle.schedules.specs.declared.ScheduleFault.{ScheduleFault}
 use Rattle.schedules.specs.declared.ScheduleFault.TheVariants as fault
+use Rattle.tx_events.specs.declared.TheConstants.{THREAD_LIMIT}
 
 -- ---- what a text says
 
@@ -26,7 +27,7 @@ IsMany n = (2 ≤ n) × (n ≤ 4000000)
 
 -- the lines of the grammar: threads are below the limit of threads
 abbrev pub is_line : Run → Bool
-is_line r = nat_lt r.thread 64 && (nat_le 1 r.count && nat_le r.count 4000000)
+is_line r = nat_lt r.thread THREAD_LIMIT && (nat_le 1 r.count && nat_le r.count 4000000)
 
 -- the text of lines, and the turns that they stand for
 abbrev pub text_of : List Run → List ℕ

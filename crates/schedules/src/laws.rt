@@ -2,6 +2,7 @@
 ghost use Rattle.std.specs.Prelude.{◌≡◌, ◌≤◌, ℕ, List, true, length, nat_lt};
 ghost use Rattle.std.specs.List.{list_all};
 ghost use Rattle.schedules.specs.Text.{Spells, IsFirstBad, text_of, entries_of, runs_of, is_tight};
+ghost use Rattle.tx_events.specs.declared.TheConstants.{THREAD_LIMIT};
 
 /// A text says one list of entries, or it has one first line outside the grammar, and never both.
 pub fn one_reading()
@@ -18,5 +19,5 @@ pub fn runs()
 
 /// The text that is written of a schedule of thread numbers says that schedule.
 pub fn read_back()
-    ensures { (xs : List ℕ) → list_all (λ t. nat_lt t 64) xs ≡ true → length xs ≤ 4000000 → Spells (text_of (runs_of xs)) xs }
+    ensures { (xs : List ℕ) → list_all (λ t. nat_lt t THREAD_LIMIT) xs ≡ true → length xs ≤ 4000000 → Spells (text_of (runs_of xs)) xs }
 {}

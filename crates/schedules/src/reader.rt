@@ -7,9 +7,10 @@ ghost use Rattle.schedules.specs.declared.Run.{Run as Runs};
 use crate::number::number_at;
 use crate::{Run, Schedule, ScheduleFault};
 use std::alloc::{AllocError, Global};
+use tx_events::THREAD_LIMIT;
 
 /// The last of the thread numbers.
-const LAST_THREAD: u32 = 63;
+const LAST_THREAD: u32 = THREAD_LIMIT as u32 - 1;
 
 /// The most turns that a line may stand for.
 const MOST_TURNS: u32 = 4_000_000;

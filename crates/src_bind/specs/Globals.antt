@@ -6,6 +6,7 @@ use Rattle.cpp_tree.specs.cpp_layout.Measured.{HoldsComplete}
 use Rattle.cpp_tree.specs.cpp_layout.declared.extents.TheConstants.{GREATEST_SIZE}
 use Rattle.cpp_tree.specs.Typing.{passes}
 use Rattle.cpp_tree.specs.Units.{Global, Unit as TypedUnit, TypedProgram}
+use Rattle.cpp_tree.specs.tx_events.Memory.{globals_start}
 use Rattle.src_bind.specs.Numbers.{indexed}
 use Rattle.src_mean.specs.Links.{Def, global_at, def_of_global, number_in}
 
@@ -23,7 +24,7 @@ pub record HaveSizes (t : TypedProgram) (ds : List Def) : Type 0 where
 
 -- the address of the definition with this number, where globals lie at these offsets
 abbrev pub address_in : List ℕ → ℕ → ℕ
-address_in offsets number = 65536 + unwrap_or (slice_get offsets number) 0
+address_in offsets number = globals_start + unwrap_or (slice_get offsets number) 0
 
 abbrev pub global_addresses : List Def → List ℕ → ℕ → ℕ → List Global → List ℕ
 global_addresses kept offsets u n gs = indexed (λ n g. address_in offsets (number_in (def_of_global u n g) kept)) n gs

@@ -7,6 +7,7 @@ use Rattle.cpp_tree.specs.cpp_layout.Layout.{table_address}
 use Rattle.cpp_tree.specs.declared.arena.TNodeId.{TNodeId}
 use Rattle.cpp_tree.specs.declared.program.Program.{Program as Units}
 use Rattle.cpp_tree.specs.Units.{SlotFunc, TypedProgram, program_of}
+use Rattle.cpp_tree.specs.tx_events.declared.TheConstants.{GLOBALS_LIMIT}
 use Rattle.src_mean.specs.Linked.{WordPlace, Func, Program}
 use Rattle.src_mean.specs.Links.{Def, func_at, linked, linked_func, kept_funcs, kept_globals, kept_classes, global_size, global_offsets, globals_size, number_in, number_of_symbol, numbered, class_name, is_or_has_base}
 use Rattle.src_bind.specs.declared.choices.Choices.{Choices}
@@ -97,4 +98,4 @@ pub record CanBind (t : TypedProgram) : Type 0 where
   pub classes : InOrder t.classes
   pub frames : (d : Def) → has_body t d ≡ true → HasFrame t d
   pub globals : (d : Def) → has_definition t d ≡ true → HasSize t d
-  pub room : globals_size t ≤ 1048576
+  pub room : globals_size t ≤ GLOBALS_LIMIT

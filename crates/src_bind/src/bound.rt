@@ -18,7 +18,7 @@ use crate::bound_program::Bound;
 use crate::infos::FuncInfo;
 use crate::lists::class_name;
 use cpp_tree::Program;
-use cpp_tree::below::{ClassRec, is_name, vtable_addr};
+use cpp_tree::below::{ClassRec, GLOBALS_START, is_name, vtable_addr};
 
 // What stands in a row of a table of numbers.
 fn number_at(table: &[Vec<u32>], row: u32, place: u32) -> Option<u32>
@@ -180,7 +180,7 @@ impl<'a> Bound<'a> {
     pub fn global(&self, unit: u32, global: u32) -> u64
         ensures { result ≡ (linked_of (given self.now)).global unit global }
     {
-        address_at(&self.globals, unit, global).unwrap_or(65_536)
+        address_at(&self.globals, unit, global).unwrap_or(GLOBALS_START)
     }
 
     /// The class address of a class.

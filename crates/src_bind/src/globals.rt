@@ -7,10 +7,11 @@ ghost use Rattle.src_mean.specs.Links.{Def, global_at as global_found, global_si
 ghost use Rattle.src_bind.specs.Defs.{def_of, defs_of};
 ghost use Rattle.src_bind.specs.Numbers.{rows};
 ghost use Rattle.src_bind.specs.Globals.{HasSize, HaveSizes, global_addresses as addresses_of_globals, unit_addresses as addresses_of_units, address_in};
+ghost use Rattle.cpp_tree.specs.tx_events.declared.TheConstants.{GLOBALS_LIMIT};
 
 use crate::defs::{Found, number_in};
 use crate::lists::{is_internal, numbered};
-use cpp_tree::below::size_align;
+use cpp_tree::below::{GLOBALS_START, size_align};
 use cpp_tree::{Program, TGlobal, UnitTree};
 use std::alloc::{AllocError, Global};
 
@@ -43,7 +44,7 @@ fn size_at(program: &Program, def: &Found<'_>) -> u32
 pub fn offsets(alloc: Global, program: &Program, kept: &[Found<'_>]) -> Result<Vec<u32>, AllocError>
     requires in_order { InOrder (classes_of program.now.classes.items) }
     requires sized { HaveSizes (program_of program.now) (defs_of kept.now) }
-    requires total { globals_end 0 (map (global_size (program_of program.now)) (defs_of kept.now)) ≤ 1048576 }
+    requires total { globals_end 0 (map (global_size (program_of program.now)) (defs_of kept.now)) ≤ GLOBALS_LIMIT }
     ensures { IfOk result (λ v. v.items ≡ global_offsets 0 (map (global_size (program_of program.now)) (defs_of kept.now))) }
 {
     let mut offsets = Vec::new(alloc);
@@ -84,8 +85,8 @@ fn address_at(offsets: &[u32], number: usize) -> u64
     ensures { result ≡ address_in offsets.now number }
 {
     match offsets.get(number) {
-        Some(offset) => 65_536 + *offset as u64,
-        None => 65_536,
+        Some(offset) => GLOBALS_START + *offset as u64,
+        None => GLOBALS_START,
     }
 }
 

@@ -5,10 +5,10 @@ ghost use Rattle.cpp_tree.specs.cpp_layout.Layout.{kind_size};
 ghost use Rattle.src_mean.specs.Exceptions.{bytes_of, with_bytes as bytes_put, read_bytes as bytes_read};
 
 use crate::words::size_of_kind;
-use cpp_tree::below::IntKind;
+use cpp_tree::below::{EXCEPTION_SIZE, IntKind};
 
 /// The bytes with those of a number of a kind from an offset on, the least significant first.
-pub fn with_bytes(bytes: [u8; 64], offset: u32, kind: IntKind, word: u64) -> [u8; 64]
+pub fn with_bytes(bytes: [u8; EXCEPTION_SIZE], offset: u32, kind: IntKind, word: u64) -> [u8; EXCEPTION_SIZE]
     ensures { result ≡ bytes_put offset (bytes_of (kind_size kind) word) bytes }
 {
     let mut out = bytes;

@@ -1,7 +1,7 @@
 //! What a thread has left to do, as frames over the nodes of units.
 
 use crate::trees::{KidsAt, TreeAt};
-use cpp_tree::below::{BinOp, BlockKind, End, IntKind};
+use cpp_tree::below::{BinOp, BlockKind, EXCEPTION_SIZE, End, IntKind};
 use cpp_tree::{Builtin, TKind};
 
 /// Objects that wait for their destruction: what gives their address, and the destructions.
@@ -37,7 +37,7 @@ pub enum Way {
 #[derive(Clone, Copy)]
 pub struct Exception {
     pub thrown: TreeAt,
-    pub bytes: [u8; 64],
+    pub bytes: [u8; EXCEPTION_SIZE],
 }
 
 /// What goes outward.

@@ -14,7 +14,7 @@ use crate::frames::{EndFrame, Exception, Frame, Here, Owner, ValueFrame, Waiting
 use crate::stack::Stack;
 use crate::trees::TreeAt;
 use crate::words::{plus, size_of_kind, stored_bytes};
-use cpp_tree::below::{End, Event, IntKind, Trap};
+use cpp_tree::below::{End, Event, IntKind, STACK_SIZE, STACK_STRIDE, STACKS_START, Trap};
 use src_bind::Bound;
 use std::alloc::{AllocError, Global};
 
@@ -35,11 +35,11 @@ pub struct State {
 pub fn empty_stack(alloc: Global, bound: &Bound<'_>, number: u8) -> Here
     ensures { here_shown (given bound.now) result ≡ empty_stack_of number }
 {
-    let start = 16_777_216 + 131_072 * u64::from(number);
+    let start = STACKS_START + STACK_STRIDE * u64::from(number);
     Here {
         frame: start,
         end: start,
-        limit: start + 65_536,
+        limit: start + STACK_SIZE,
         func: None,
         temporaries: Vec::new(alloc),
     }

@@ -9,6 +9,7 @@ ghost use Rattle.src_bind.specs.Globals.{HasSize, HaveSizes};
 ghost use Rattle.src_bind.specs.Bounds.{given};
 ghost use Rattle.src_link.specs.Cells.{init_at};
 ghost use Rattle.src_bind.specs.Tables.{CanBind, typed, linked_of};
+ghost use Rattle.cpp_tree.specs.tx_events.declared.TheConstants.{GLOBALS_LIMIT};
 
 use cpp_layout::{fn_addr, size_align};
 use cpp_tree::below::GlobalCell;
@@ -214,7 +215,7 @@ fn size_at(program: &Program, def: &Found<'_>) -> u32
 fn end_of(program: &Program, kept: &[Found<'_>]) -> u32
     requires in_order { InOrder (classes_of program.now.classes.items) }
     requires sized { HaveSizes (program_of program.now) (defs_of kept.now) }
-    requires total { globals_end 0 (map (global_size (program_of program.now)) (defs_of kept.now)) ≤ 1048576 }
+    requires total { globals_end 0 (map (global_size (program_of program.now)) (defs_of kept.now)) ≤ GLOBALS_LIMIT }
     ensures { result ≡ globals_end 0 (map (global_size (program_of program.now)) (defs_of kept.now)) }
 {
     let mut end = 0;
@@ -229,7 +230,7 @@ fn end_of(program: &Program, kept: &[Found<'_>]) -> u32
 pub fn globals_size(alloc: Global, program: &Program) -> Result<u32, AllocError>
     requires { CanBind (program_of program.now) }
     ensures size { IfOk result (λ n. n ≡ size_of_globals (program_of program.now)) }
-    ensures within { IfOk result (λ n. n ≤ 1048576) }
+    ensures within { IfOk result (λ n. n ≤ GLOBALS_LIMIT) }
 {
     let kept = kept_globals(alloc, program)?;
     Ok(end_of(program, kept.as_slice()))

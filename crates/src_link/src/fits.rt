@@ -11,9 +11,11 @@ ghost use Rattle.src_mean.specs.Links.{global_size, globals_end, globals_size};
 ghost use Rattle.src_bind.specs.Defs.{def_of, defs_of};
 ghost use Rattle.src_bind.specs.Tables.{CanBind};
 ghost use Rattle.src_link.specs.Fits.{FrameFits, GlobalFits, FramesFit, GlobalsFit, UnitsFit};
+ghost use Rattle.cpp_tree.specs.tx_events.declared.TheConstants.{GLOBALS_LIMIT};
 
 use crate::cells::global_at;
 use cpp_layout::{FrameFault, frame, size_align};
+use cpp_tree::below::GLOBALS_LIMIT;
 use cpp_tree::{Program, TFunc, TGlobal, UnitTree};
 use cpp_types::classes::record_at;
 use cpp_types::copyability::held_class;
@@ -21,9 +23,6 @@ use cpp_types::{ClassRec, Ty, is_in_order};
 use src_bind::defs::Found;
 use src_bind::lists::kept_globals;
 use std::alloc::{AllocError, Global};
-
-/// The most bytes that the globals take.
-const MOST_BYTES: u32 = 1_048_576;
 
 // Whether a class of the list is complete.
 #[tactic(auto, using(cpp_layout::proofs::Samples::complete_by))]
@@ -155,7 +154,7 @@ fn units_fit(alloc: Global, units: &[UnitTree], classes: &[ClassRec]) -> Result<
 fn size_found(program: &Program, def: &Found<'_>) -> Option<u32>
     requires { InOrder (classes_of program.now.classes.items) }
     ensures size { IfSome result (λ s. s ≡ global_size (program_of program.now) (def_of def.now)) }
-    ensures within { IfSome result (λ s. s ≤ 1048576) }
+    ensures within { IfSome result (λ s. s ≤ GLOBALS_LIMIT) }
 {
     let Some(global) = global_at(program, def.unit, def.place) else {
         return Some(0);
@@ -172,7 +171,7 @@ fn size_found(program: &Program, def: &Found<'_>) -> Option<u32>
 // Whether globals that lie each at the next multiple of 8 have room.
 fn have_room(program: &Program, kept: &[Found<'_>]) -> bool
     requires { InOrder (classes_of program.now.classes.items) }
-    ensures { result ≡ true → globals_end 0 (map (global_size (program_of program.now)) (defs_of kept.now)) ≤ 1048576 }
+    ensures { result ≡ true → globals_end 0 (map (global_size (program_of program.now)) (defs_of kept.now)) ≤ GLOBALS_LIMIT }
 {
     let mut end = 0;
     for def in kept {
@@ -181,7 +180,7 @@ fn have_room(program: &Program, kept: &[Found<'_>]) -> bool
         };
         let start = (end + 7) / 8 * 8;
         end = start + size;
-        if end > MOST_BYTES {
+        if end > GLOBALS_LIMIT {
             return false;
         }
     }
@@ -191,7 +190,7 @@ fn have_room(program: &Program, kept: &[Found<'_>]) -> bool
 // Whether the globals of a program have room.
 fn has_room(alloc: Global, program: &Program) -> Result<bool, AllocError>
     requires { InOrder (classes_of program.now.classes.items) }
-    ensures { IfOk result (λ b. b ≡ true → globals_size (program_of program.now) ≤ 1048576) }
+    ensures { IfOk result (λ b. b ≡ true → globals_size (program_of program.now) ≤ GLOBALS_LIMIT) }
 {
     let kept = kept_globals(alloc, program)?;
     Ok(have_room(program, kept.as_slice()))

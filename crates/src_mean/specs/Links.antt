@@ -20,6 +20,7 @@ use Rattle.cpp_tree.specs.tx_events.declared.GlobalCell.{GlobalCell}
 use Rattle.cpp_tree.specs.Trees.{literal}
 use Rattle.cpp_tree.specs.Typing.{kind_in}
 use Rattle.cpp_tree.specs.Units.{Func as UnitFunc, Global, Cell, Definition, SlotFunc, Unit as TypedUnit, TypedProgram}
+use Rattle.cpp_tree.specs.tx_events.Memory.{globals_start}
 use Rattle.src_mean.specs.Linked.{WordPlace, Func, Program}
 
 -- a definition of a unit, by its place in the unit's list
@@ -190,7 +191,7 @@ abbrev pub linked : (ℕ → ℕ → Bool) → (SlotFunc → Option (List ℕ)) 
 linked safe symbol main t = record {
   number = λ u n. unwrap_or (option_map (λ (f : UnitFunc). number_in (def_of_func u n f) (kept_funcs t)) (func_at t u n)) 0;
   func = λ n. option_and_then (λ (d : Def). option_map (linked_func safe t.classes d) (func_at t d.unit d.place)) (slice_get (kept_funcs t) n);
-  global = λ u n. 65536 + unwrap_or (option_and_then (λ (g : Global). slice_get (global_offsets 0 (map (global_size t) (kept_globals t))) (number_in (def_of_global u n g) (kept_globals t))) (global_at t u n)) 0;
+  global = λ u n. globals_start + unwrap_or (option_and_then (λ (g : Global). slice_get (global_offsets 0 (map (global_size t) (kept_globals t))) (number_in (def_of_global u n g) (kept_globals t))) (global_at t u n)) 0;
   table = λ c. table_address (number_in (record { unit = 0; place = 0; symbol = class_name t.classes c; internal = false }) (kept_classes t));
   slot = λ a c s. option_and_then (λ (found : Def × ℕ). cond (is_or_has_base t.classes (found.0).place (class_name t.classes c))
       (option_and_then (λ (f : SlotFunc). option_and_then (λ (name : List ℕ). number_of_symbol name (kept_funcs t)) (symbol f)) (option_and_then (λ (fs : List SlotFunc). slice_get fs s) (slice_get t.slots (found.0).place)))

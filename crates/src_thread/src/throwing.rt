@@ -14,7 +14,7 @@ ghost use Rattle.src_frames.specs.Bounds.{tree_of, all_kids, here_of, frames_of,
 use crate::leaving::leave;
 use crate::roots::{FieldAt, field_of, handler_place};
 use cpp_tree::TKind;
-use cpp_tree::below::IntKind;
+use cpp_tree::below::{EXCEPTION_SIZE, IntKind};
 use src_bind::Bound;
 use src_frames::bytes::{read_bytes, with_bytes};
 use src_frames::frames::{Exception, ExceptionFrame, Exit, Frame, Way};
@@ -29,7 +29,7 @@ fn no_bytes(thrown: TreeAt) -> Exception
 {
     Exception {
         thrown,
-        bytes: [0; 64],
+        bytes: [0; EXCEPTION_SIZE],
     }
 }
 

@@ -5,6 +5,7 @@ ghost use Rattle.cpp_tree.specs.cpp_types.Typ.{typ_of, shape_form};
 ghost use Rattle.cpp_tree.specs.cpp_types.Class.{InOrder, classes_of};
 ghost use Rattle.cpp_tree.specs.Typing.{passes};
 ghost use Rattle.cpp_tree.specs.Parts.{is_field_of, scalar_at, element_of as element_in, one_element, element_scalars, object_scalars, part_scalars, scalars_within, scalars_of, are_fields as are_fields_of, size_in as size_of, is_value_form, are_scalars as are_scalars_of};
+ghost use Rattle.cpp_tree.specs.tx_events.declared.TheConstants.{EXCEPTION_SIZE};
 ghost use Rattle.tree_heads.specs.Shown.{shown, part_shown};
 ghost use Rattle.tree_heads.specs.Fields.{behind, left};
 
@@ -13,10 +14,7 @@ use crate::parts::{Part, PartType, count_of_parts, part_at};
 use crate::sizes::{size_in, stride_of};
 use crate::types::{is_object_shape, kind_in};
 use cpp_tree::TKind;
-use cpp_tree::below::{ClassRec, IntKind, Shape, Ty, equal_kinds};
-
-/// How many bytes an exception has at most.
-const GREATEST_EXCEPTION: u32 = 64;
+use cpp_tree::below::{ClassRec, EXCEPTION_SIZE, IntKind, Shape, Ty, equal_kinds};
 
 // Whether the node is the field of a scalar.
 fn is_field(at: u64, of: IntKind, kind: TKind) -> bool
@@ -69,7 +67,7 @@ fn behind_element(
     from: usize,
 ) -> Option<usize>
     requires in_order { InOrder (classes_of classes.now) }
-    requires counted { at ≤ 64 }
+    requires counted { at ≤ EXCEPTION_SIZE }
     ensures { option_map (left heads.now) result ≡ behind (one_element (scalars_within depth (classes_of classes.now)) (shape_form shape.now) at) (left heads.now from) }
 {
     match shape {
@@ -98,7 +96,7 @@ fn behind_elements(
     let mut next = from;
     let mut place = at;
     for _passed in 0..many {
-        if place > GREATEST_EXCEPTION as u64 {
+        if place > EXCEPTION_SIZE as u64 {
             return Some(next);
         }
         next = behind_element(classes, depth, shape, place, heads, next)?;
@@ -149,7 +147,7 @@ fn behind_part(
     from: usize,
 ) -> Option<usize>
     requires in_order { InOrder (classes_of classes.now) }
-    requires counted { at ≤ 64 }
+    requires counted { at ≤ EXCEPTION_SIZE }
     ensures { option_map (left heads.now) result ≡ behind (part_scalars (classes_of classes.now) (scalars_within depth (classes_of classes.now)) at (option_map part_shown of.entry)) (left heads.now from) }
 {
     let Some(found) = of else {
@@ -180,7 +178,7 @@ fn behind_class(
     from: usize,
 ) -> Option<usize>
     requires in_order { InOrder (classes_of classes.now) }
-    requires counted { at ≤ 64 }
+    requires counted { at ≤ EXCEPTION_SIZE }
     ensures { option_map (left heads.now) result ≡ behind (scalars_within depth (classes_of classes.now) class at) (left heads.now from) }
 {
     if depth == 0 {
@@ -222,10 +220,10 @@ fn is_value_shape(shape: &Shape) -> bool
 // Whether the objects of a type have at most 64 bytes.
 fn is_small(classes: &[ClassRec], ty: &Ty) -> bool
     requires in_order { InOrder (classes_of classes.now) }
-    ensures { result ≡ passes (λ (size : ℕ). nat_le size 64) (size_of (classes_of classes.now) (typ_of ty.now)) }
+    ensures { result ≡ passes (λ (size : ℕ). nat_le size EXCEPTION_SIZE) (size_of (classes_of classes.now) (typ_of ty.now)) }
 {
     match size_in(classes, ty) {
-        Some(size) => size <= GREATEST_EXCEPTION,
+        Some(size) => size <= EXCEPTION_SIZE as u32,
         None => false,
     }
 }

@@ -4,6 +4,7 @@ use Rattle.std.specs.List.{list_all}
 use Rattle.std.specs.Option.{option_map, option_map_or}
 use Rattle.std.specs.Str.{bytes_eq}
 use Rattle.tx_events.specs.declared.GlobalCell.{GlobalCell}
+use Rattle.tx_events.specs.declared.TheConstants.{GLOBALS_LIMIT}
 use Rattle.tx_code.specs.declared.linked.ImageFunc.{ImageFunc}
 use Rattle.tx_code.specs.declared.linked.ImageClass.{ImageClass}
 use Rattle.tx_code.specs.Objects.{BodyView, bytes_of, body_view}
@@ -53,7 +54,7 @@ abbrev pub cells_fit : (size : ℕ) → List GlobalCell → Bool
 cells_fit size cells = list_all (is_cell size) cells && all_apart cells
 
 abbrev pub size_fits : ℕ → Bool
-size_fits size = is_multiple size 8 && nat_le size 1048576
+size_fits size = is_multiple size 8 && nat_le size GLOBALS_LIMIT
 
 -- `int()`
 abbrev pub main_type : List ℕ

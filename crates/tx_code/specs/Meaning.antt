@@ -20,6 +20,7 @@ use Rattle.tx_events.specs.declared.Event.TheVariants.{Silent, Load as LoadOf, S
 use Rattle.tx_events.specs.declared.Reply.{Reply}
 use Rattle.tx_events.specs.declared.Reply.TheVariants.{Nothing, Loaded, Byte, Id}
 use Rattle.tx_events.specs.Thread.{Thread, Open, Atomic, Sync, rest_of, no_atomic}
+use Rattle.tx_events.specs.declared.TheConstants.{EXCEPTION_SIZE}
 use Rattle.tx_code.specs.declared.instr.Instr.{Instr}
 use Rattle.tx_code.specs.declared.instr.Instr.TheVariants.{Push, Dup, Pop, Swap, FrameAddr, GlobalAddr, FuncAddr, ClassAddr, Load, Store, TLoad, TStore, VLoad, VStore, Bin, Neg, Conv, Jump, JumpZero, Call, TCall, CallIndirect, TCallIndirect, Slot, Ret, Begin, End, BeginSync, EndSync, Out, Inp, Spawn, Join, Abort, NewException, PutException, Throw, Rethrow, GetException, EndHandler, Resume, Over}
 use Rattle.tx_code.specs.declared.body.Row.{Row}
@@ -306,7 +307,7 @@ spawn_act x f rest = two f.words (λ a v ws. if_some (x.spawned a) (traps BadCal
 
 -- an exception's bytes
 unfoldable pub no_bytes : List ℕ
-no_bytes = replicate 64 0
+no_bytes = replicate EXCEPTION_SIZE 0
 
 -- the bytes of a number, from this position on, the least significant first
 unfoldable pub put_bytes : List ℕ → ℕ → ℕ → ℕ → List ℕ

@@ -8,6 +8,7 @@ use Rattle.tx_code.specs.Images.{ImageFuncView, ImageClassView, ImageView}
 use Rattle.tx_code.specs.Signatures.{without_safety}
 use Rattle.tx_code.specs.Renaming.{itself}
 use Rattle.tx_code.specs.Meaning.{Names, State, starts}
+use Rattle.tx_events.specs.Memory.{globals_start, stacks_start, stack_stride, stack_size}
 
 -- where functions, classes, globals and stacks lie
 abbrev pub func_address : ℕ → ℕ
@@ -17,13 +18,13 @@ abbrev pub class_address : ℕ → ℕ
 class_address c = 2 ^ 41 + 16 * c
 
 abbrev pub global_address : ℕ → ℕ
-global_address offset = 65536 + offset
+global_address offset = globals_start + offset
 
 abbrev pub stack_start : ℕ → ℕ
-stack_start thread = 16777216 + 131072 * thread
+stack_start thread = stacks_start + stack_stride * thread
 
 abbrev pub stack_end : ℕ → ℕ
-stack_end thread = 16777216 + 131072 * thread + 65536
+stack_end thread = stack_start thread + stack_size
 
 -- the number at an address of a table that begins at `start`
 abbrev pub number_at : (start address : ℕ) → Option ℕ

@@ -4,6 +4,8 @@ use Rattle.std.specs.List.{list_all, list_any}
 use Rattle.std.specs.Option.{option_map_or}
 use Rattle.tx_events.specs.Thread.{Open, in_atomic, in_kind, in_sync, no_atomic, is_empty}
 use Rattle.tx_events.specs.declared.BlockKind.TheVariants.{NoExcept, Commit, Cancel}
+use Rattle.tx_events.specs.Memory.{stack_size}
+use Rattle.tx_events.specs.declared.TheConstants.{EXCEPTION_SIZE}
 use Rattle.tx_code.specs.declared.instr.Instr.{Instr}
 use Rattle.tx_code.specs.declared.instr.Instr.TheVariants.{GlobalAddr, FuncAddr, ClassAddr, Load, Store, TLoad, TStore, VLoad, VStore, Bin, Neg, Conv, Jump, JumpZero, Call, TCall, CallIndirect, TCallIndirect, Slot, Ret, Begin, End, EndSync, Out, Inp, Spawn, Join, Abort, NewException, PutException, Throw, Rethrow, GetException, EndHandler, Resume}
 use Rattle.tx_code.specs.declared.body.Row.{Row}
@@ -94,7 +96,7 @@ passes x (CallIndirect ty n) = nat_eq n (x.type_takes ty)
 passes x (TCallIndirect ty n) = nat_eq n (x.type_takes ty)
 passes x a = true
 
--- ---- 7: exceptions are where they are used, and have 64 bytes
+-- ---- 7: exceptions are where they are used, and have `EXCEPTION_SIZE` bytes
 
 abbrev pub is_building : Hand → Bool
 is_building Builds = true
@@ -107,7 +109,7 @@ is_flying Empty = false
 is_flying Builds = false
 
 abbrev pub lies_in_exception : (offset kind : ℕ) → Bool
-lies_in_exception n k = option_map_or (λ j. nat_le (n + size_of j) 64) (slice_get kinds k) false
+lies_in_exception n k = option_map_or (λ j. nat_le (n + size_of j) EXCEPTION_SIZE) (slice_get kinds k) false
 
 abbrev pub exception_right : Instr → Shape → Bool
 exception_right (PutException n k) s = is_building s.hand && lies_in_exception n k
@@ -182,7 +184,7 @@ left_at (TCallIndirect ty n) d = kept (suc n) d
 left_at a d = d
 
 abbrev pub frame_right : ℕ → Bool
-frame_right size = nat_eq (size % 16) 0 && nat_le 16 size && nat_le size 65536
+frame_right size = nat_eq (size % 16) 0 && nat_le 16 size && nat_le size stack_size
 
 -- ---- bodies, functions and images
 

@@ -11,6 +11,7 @@ use Rattle.tx_code.specs.declared.body.Row.{Row}
 use Rattle.tx_code.specs.declared.body.LineRow.{LineRow}
 use Rattle.tx_code.specs.declared.object.ObjMember.{ObjMember}
 use Rattle.tx_code.specs.declared.object.ObjCell.{ObjCell}
+use Rattle.tx_code.specs.declared.object.TheConstants.{LONGEST_NAME}
 use Rattle.tx_code.specs.Objects.{BodyView, ClassView, GlobalView, FuncView, ObjectView}
 
 -- ---- order
@@ -41,7 +42,7 @@ abbrev pub is_name_or_none : (n : ℕ) → ℕ → Bool
 is_name_or_none n i = nat_le i n
 
 abbrev pub is_length : List ℕ → Bool
-is_length name = nat_lt 0 (length name) && nat_le (length name) 1048576
+is_length name = nat_lt 0 (length name) && nat_le (length name) LONGEST_NAME
 
 -- how long a list may be, since its length is a number of 32 bits
 abbrev pub is_count : {A : Type 0} → List A → Bool

@@ -23,5 +23,5 @@ pub use body::{Body, LineRow, Row};
 pub use image::Image;
 pub use instr::Instr;
 pub use linked::{ImageClass, ImageFunc};
-pub use object::{ObjCell, ObjClass, ObjFunc, ObjGlobal, ObjMember, Object};
+pub use object::{LONGEST_NAME, ObjCell, ObjClass, ObjFunc, ObjGlobal, ObjMember, Object};
 pub use tables::{block_kind, int_kind, line, operator, size};

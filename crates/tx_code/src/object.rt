@@ -1,6 +1,9 @@
 //! Objects: what a unit is compiled to. A name is a number of the object's name list.
 use crate::Body;
 
+/// The most bytes of a name, and of the name of a source.
+pub const LONGEST_NAME: u32 = 1_048_576;
+
 /// What a unit is compiled to.
 #[derive(Drop)]
 pub struct Object {

@@ -1,6 +1,7 @@
 -- Memory: what is mapped, words, and bytes.
 use Rattle.std.specs.Prelude.{ℕ, zero, suc, ◌==◌, ◌^◌, ◌*◌, ◌+◌, ◌-◌, ◌/◌, ◌%◌, Bool, cond, nat_lt, nat_le, ◌&&◌, ◌||◌, List, [], ◌∷◌}
 use Rattle.tx_events.specs.declared.GlobalCell.{GlobalCell}
+use Rattle.tx_events.specs.declared.TheConstants.{GLOBALS_START, STACKS_START, STACK_STRIDE, STACK_SIZE}
 
 -- f, but v at k
 abbrev pub update : {A : Type 0} → (ℕ → A) → ℕ → A → ℕ → A
@@ -13,7 +14,7 @@ pub record MemoryLayout : Type 0 where
 
 -- where the globals begin
 abbrev pub globals_start : ℕ
-globals_start = 65536
+globals_start = GLOBALS_START
 
 -- the end of the last global, rounded up to a multiple of 8
 abbrev pub globals_end : MemoryLayout → ℕ
@@ -21,13 +22,13 @@ globals_end p = globals_start + (p.globals + 7) / 8 * 8
 
 -- where the stack of thread 0 begins, from the start of one stack to the next, and the size of one, in bytes
 abbrev pub stacks_start : ℕ
-stacks_start = 16777216
+stacks_start = STACKS_START
 
 abbrev pub stack_stride : ℕ
-stack_stride = 131072
+stack_stride = STACK_STRIDE
 
 abbrev pub stack_size : ℕ
-stack_size = 65536
+stack_size = STACK_SIZE
 
 abbrev pub in_globals : MemoryLayout → ℕ → Bool
 in_globals p addr = nat_le globals_start addr && nat_lt addr (globals_end p)

@@ -16,6 +16,24 @@ pub use actor::Actor;
 /// The most threads that a program may start, the first one counted.
 pub const THREAD_LIMIT: u8 = 64;
 
+/// The address of the first global.
+pub const GLOBALS_START: u64 = 65_536;
+
+/// The most bytes that all globals may take.
+pub const GLOBALS_LIMIT: u32 = 1_048_576;
+
+/// The address of the stack of thread 0.
+pub const STACKS_START: u64 = 16_777_216;
+
+/// The bytes from the start of one stack to the next.
+pub const STACK_STRIDE: u64 = 131_072;
+
+/// The bytes of one stack.
+pub const STACK_SIZE: u64 = 65_536;
+
+/// The bytes of an exception. No type that is thrown has more.
+pub const EXCEPTION_SIZE: usize = 64;
+
 /// The three kinds of atomic block (the TS, [stmt.tx]): they differ in what an exception does that leaves one.
 #[derive(Clone, Copy, PartialEq, Eq, Debug)]
 pub enum BlockKind {

@@ -11,6 +11,7 @@ ghost use Rattle.link_faults.specs.Ranks.{names_of};
 ghost use Rattle.link_parts.specs.Told.{AreTypes, TellNames};
 ghost use Rattle.tx_linker.specs.Kept.{AreKept, objects_of};
 ghost use Rattle.tx_linker.specs.Parts.{parts_view};
+ghost use Rattle.tx_events.specs.declared.TheConstants.{GLOBALS_LIMIT};
 
 use crate::kept::{Kept, kept_of};
 use crate::numbering::numbers_of;
@@ -69,7 +70,7 @@ fn image_globals(
     numbers: &Numbers,
 ) -> Result<Vec<GlobalCell>, AllocError>
     requires kept { AreKept kept.now }
-    requires size { end_of 0 (global_defs 0 (objects_of kept.now)) ≤ 1048576 }
+    requires size { end_of 0 (global_defs 0 (objects_of kept.now)) ≤ GLOBALS_LIMIT }
     ensures { (types : List (List ℕ)) → TellNames (objects_of kept.now) types numbers.now → IfOk result (λ v. v.items ≡ image_cells (objects_of kept.now) 0 (global_defs 0 (objects_of kept.now))) }
 {
     cells_of(alloc, numbers, &kept.globals)
@@ -77,7 +78,7 @@ fn image_globals(
 
 fn image_size(kept: &Kept<'_>) -> u32
     requires kept { AreKept kept.now }
-    requires size { end_of 0 (global_defs 0 (objects_of kept.now)) ≤ 1048576 }
+    requires size { end_of 0 (global_defs 0 (objects_of kept.now)) ≤ GLOBALS_LIMIT }
     ensures { result ≡ end_of 0 (global_defs 0 (objects_of kept.now)) }
 {
     globals_size(kept.objects) as u32

@@ -5,6 +5,7 @@ ghost use Rattle.tx_code.specs.WellFormed.{ascends, bytes_lt};
 ghost use Rattle.tx_code.specs.Linked.{class_number, end_of, func_number, global_defs, global_number, type_number};
 ghost use Rattle.link_parts.specs.Told.{TellNames, TellsEach};
 ghost use Rattle.tx_linker.specs.Kept.{AreKept, objects_of};
+ghost use Rattle.tx_events.specs.declared.TheConstants.{GLOBALS_LIMIT};
 
 use crate::kept::Kept;
 use link_parts::types::type_numbers;
@@ -31,7 +32,7 @@ fn class_numbers(alloc: Global, kept: &Kept<'_>) -> Result<Vec<Option<u32>>, All
 
 fn global_offsets(alloc: Global, kept: &Kept<'_>) -> Result<Vec<Option<u32>>, AllocError>
     requires kept { AreKept kept.now }
-    requires size { end_of 0 (global_defs 0 (objects_of kept.now)) ≤ 1048576 }
+    requires size { end_of 0 (global_defs 0 (objects_of kept.now)) ≤ GLOBALS_LIMIT }
     ensures { IfOk result (λ v. TellsEach (objects_of kept.now) (global_number (objects_of kept.now)) v.items) }
 {
     let defs = placed_globals(alloc, &kept.globals)?;
@@ -58,7 +59,7 @@ pub(crate) fn numbers_of(
     types: &[Vec<u8>],
 ) -> Result<Numbers, AllocError>
     requires kept { AreKept kept.now }
-    requires size { end_of 0 (global_defs 0 (objects_of kept.now)) ≤ 1048576 }
+    requires size { end_of 0 (global_defs 0 (objects_of kept.now)) ≤ GLOBALS_LIMIT }
     requires ascend { ascends bytes_lt (map bytes_of types.now) ≡ true }
     requires few { length types.now < 2 ^ 32 }
     ensures { IfOk result (TellNames (objects_of kept.now) (map bytes_of types.now)) }

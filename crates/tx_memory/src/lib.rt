@@ -6,4 +6,4 @@
 mod memory;
 mod parts;
 
-pub use memory::{GLOBALS_LIMIT, Memory};
+pub use memory::Memory;

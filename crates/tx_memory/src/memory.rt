@@ -2,23 +2,12 @@
 ghost use Rattle.std.specs.Prelude.{◌≡◌, true, ◌+◌, ◌*◌, ◌/◌, ◌%◌, ◌<◌, ◌≤◌, length};
 ghost use Rattle.tx_events.specs.Memory.{is_aligned};
 ghost use Rattle.tx_events.specs.Thread.{is_size};
-ghost use Rattle.tx_events.specs.declared.TheConstants.{THREAD_LIMIT};
-ghost use Rattle.tx_memory.specs.declared.memory.TheConstants.{GLOBALS_LIMIT};
+ghost use Rattle.tx_events.specs.declared.TheConstants.{THREAD_LIMIT, GLOBALS_LIMIT};
 
 use crate::parts::{part, with_part};
 use std::alloc::{AllocError, Global};
-use tx_events::GlobalCell;
+use tx_events::{GLOBALS_LIMIT, GLOBALS_START, GlobalCell, STACK_SIZE, STACK_STRIDE, STACKS_START};
 
-/// The address of the first global.
-const GLOBALS_START: u64 = 65_536;
-/// The address of the stack of thread 0.
-const STACKS_START: u64 = 16_777_216;
-/// From one stack to the next.
-const STACK_STRIDE: u64 = 131_072;
-/// The bytes of one stack.
-const STACK_SIZE: u64 = 65_536;
-/// The most bytes of globals.
-pub const GLOBALS_LIMIT: u32 = 1_048_576;
 /// The words of one stack.
 const STACK_WORDS: usize = 8192;
 /// The bytes of one word.

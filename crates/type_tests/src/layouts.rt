@@ -6,6 +6,7 @@ ghost use Rattle.cpp_layout.specs.cpp_types.Class.{InOrder, classes_of};
 ghost use Rattle.cpp_layout.specs.Layout.{class_extent};
 ghost use Rattle.cpp_layout.specs.Measured.{IsComplete, HoldsComplete, HasMember};
 ghost use Rattle.cpp_layout.specs.Frames.{AllComplete};
+ghost use Rattle.cpp_layout.specs.declared.extents.TheConstants.{GREATEST_SIZE};
 
 use cpp_layout::below::{ClassRec, Shape, Ty, held_class, is_in_order, record_at};
 use cpp_layout::extents::SizeAlign;
@@ -63,7 +64,7 @@ fn class_type(number: u32) -> Ty
 fn is_within(classes: &[ClassRec], number: u32) -> bool
     requires in_order { InOrder (classes_of classes.now) }
     requires complete { IsComplete (classes_of classes.now) number }
-    ensures { result ≡ true → (class_extent (classes_of classes.now) number).size ≤ 1048576 }
+    ensures { result ≡ true → (class_extent (classes_of classes.now) number).size ≤ GREATEST_SIZE }
 {
     let ty = class_type(number);
     size_align(&ty, classes).is_ok()

@@ -6,6 +6,7 @@ ghost use Rattle.cpp_tree.specs.cpp_types.Class.{Class, Member, InOrder, classes
 ghost use Rattle.cpp_tree.specs.cpp_layout.Layout.{class_extent, extent_of, frame_size};
 ghost use Rattle.cpp_tree.specs.cpp_layout.Measured.{IsComplete, HoldsComplete, HasMember, Measured, member_offset as offset_of_member};
 ghost use Rattle.cpp_tree.specs.cpp_layout.Frames.{AllComplete, IsFrame, item_extents};
+ghost use Rattle.cpp_tree.specs.cpp_layout.declared.extents.TheConstants.{GREATEST_SIZE};
 
 use cpp_layout::{FrameRec, SizeAlign, frame, offset, size_align};
 use cpp_tree::below::{ClassRec, Shape, Ty, held_class, is_in_order, record_at};
@@ -70,7 +71,7 @@ fn class_type(number: u32) -> Ty
 fn is_within(classes: &[ClassRec], number: u32) -> bool
     requires in_order { InOrder (classes_of classes.now) }
     requires complete { IsComplete (classes_of classes.now) number }
-    ensures { result ≡ true → (class_extent (classes_of classes.now) number).size ≤ 1048576 }
+    ensures { result ≡ true → (class_extent (classes_of classes.now) number).size ≤ GREATEST_SIZE }
 {
     let ty = class_type(number);
     size_align(&ty, classes).is_ok()

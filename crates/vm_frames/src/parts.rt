@@ -1,13 +1,13 @@
 //! The parts of a thread: frames, open blocks and exceptions.
 ghost use Rattle.std.specs.Prelude.{◌<◌};
 
-use tx_events::BlockKind;
+use tx_events::{BlockKind, EXCEPTION_SIZE};
 
 /// An exception: the number of its type and its bytes.
 #[derive(Clone, Copy)]
 pub struct Exception {
     pub ty: u32,
-    pub bytes: [u8; 64],
+    pub bytes: [u8; EXCEPTION_SIZE],
 }
 
 /// The exception of a frame: none, one that is being built, or one in flight.

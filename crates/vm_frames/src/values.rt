@@ -6,7 +6,7 @@ ghost use Rattle.vm_frames.specs.Frames.{exception_of};
 
 use crate::parts::Exception;
 use tx_code::size;
-use tx_events::Reply;
+use tx_events::{EXCEPTION_SIZE, Reply};
 use tx_ints::{IntKind, value_of_word, word_of};
 
 /// The bytes that a reply has read, as one number.
@@ -92,7 +92,7 @@ fn get_bytes(bytes: &[u8], at: usize, count: u8) -> u64
 pub fn zeros(ty: u32) -> Exception
     ensures { exception_of result ≡ new_exception ty }
 {
-    Exception { ty, bytes: [0; 64] }
+    Exception { ty, bytes: [0; EXCEPTION_SIZE] }
 }
 
 /// An exception with the number of a kind that a word stands for.

@@ -11,6 +11,7 @@ ghost use Rattle.std.specs.Str.{bytes_eq};
 ghost use Rattle.vm_thread.specs.Lookups.{body_of, instr_of, row_of};
 
 use tx_code::{Body, Image, ImageClass, Instr, Row};
+use tx_events::{GLOBALS_START, STACK_SIZE, STACK_STRIDE, STACKS_START};
 
 /// The address of function 0; each function has 16 bytes.
 const FUNCS: u64 = 1_099_511_627_776;
@@ -209,7 +210,7 @@ pub(crate) fn func_address(func: u32) -> u64
 pub(crate) fn stack_start(thread: u8) -> u32
     ensures { result ≡ stack_start thread }
 {
-    16777216 + 131072 * u32::from(thread)
+    STACKS_START as u32 + STACK_STRIDE as u32 * u32::from(thread)
 }
 
 /// Where it ends.
@@ -217,7 +218,7 @@ pub(crate) fn stack_end(thread: u8) -> u64
     ensures is { result ≡ stack_end thread }
     ensures bound { result < 4294967296 }
 {
-    u64::from(stack_start(thread)) + 65536
+    u64::from(stack_start(thread)) + STACK_SIZE
 }
 
 /// The address of a class.
@@ -231,5 +232,5 @@ pub(crate) fn class_address(class: u32) -> u64
 pub(crate) fn global_address(offset: u32) -> u64
     ensures { result ≡ global_address offset }
 {
-    65536 + u64::from(offset)
+    GLOBALS_START + u64::from(offset)
 }
