@@ -1,4 +1,5 @@
 pub use Rattle.elab_entry.proofs.elab_types as elab_types
+pub mod ClassIndices
 pub mod CopyLists
 pub mod Deferring
 pub mod GivenParts

@@ -7,10 +7,10 @@ ghost use Rattle.elab_entry.specs.elab_ctx.Ctx.{ctx_of, func_of};
 ghost use Rattle.elab_entry.specs.elab_rules.Initialising.{func_at, same_number};
 ghost use Rattle.elab_entry.specs.elab_rules.Calls.{index_in_class as index_in_class_of};
 ghost use Rattle.elab_entry.specs.elab_rules.Implicit.{is_in_slot as is_in_slot_of};
-ghost use Rattle.elab_call.specs.Slots.{members_among as members_among_of};
 ghost use Rattle.elab_implicit.specs.Implied.{stands_in_slot as stands_in_slot_of};
+ghost use Rattle.elab_implicit.specs.Counted.{places_before};
 
-use elab_entry::below::{Env, FuncDecl, SlotRec, function_at, is_number};
+use elab_entry::below::{Env, Functions, SlotRec, function_at};
 
 // Whether one of some slots has the function with an index in a class.
 fn are_slots_of(slots: &[SlotRec], class: u32, index: usize) -> bool
@@ -42,27 +42,22 @@ fn one_if(holds: bool) -> usize
     if holds { 1 } else { 0 }
 }
 
-// How many of these are functions of a class.
-fn members_among(funcs: &[FuncDecl], class: u32) -> usize
-    ensures { result ≡ members_among_of class (map func_of funcs.now) }
+// How many of some places stand before a place.
+fn count_before(places: &[u32], place: u32) -> usize
+    ensures { result ≡ places_before place places.now }
 {
     let mut count: usize = 0;
-    for found in funcs {
-        count += one_if(is_number(class, found.class));
+    for found in places {
+        count += one_if(*found < place);
     }
     count
 }
 
 // How many functions of a class stand before a place.
-#[tactic(auto, using(elab_call::proofs::Indices::all_counted, elab_call::proofs::Indices::first_counted))]
-fn index_in_class(funcs: &[FuncDecl], class: u32, place: u32) -> usize
+fn index_in_class(funcs: &Functions, class: u32, place: u32) -> usize
     ensures { result ≡ index_in_class_of class place (map func_of funcs.now) }
 {
-    let end = place as usize;
-    if end >= funcs.len() {
-        return members_among(funcs, class);
-    }
-    members_among(&funcs[..end], class)
+    count_before(funcs.of_class(class), place)
 }
 
 // The class of which a function is a member.
@@ -78,7 +73,7 @@ pub fn stands_in_slot(env: &Env, func: u32) -> bool
 {
     match class_of(env, func) {
         Some(class) => {
-            let index = index_in_class(env.funcs.as_slice(), class, func);
+            let index = index_in_class(&env.funcs, class, func);
             is_in_slot(&env.slots, class, index)
         }
         None => false,
