@@ -12,7 +12,7 @@ use Rattle.elab_expr.specs.cpp_tree.Units.{Global}
 use Rattle.elab_expr.specs.cpp_tree.Typing.{form_in, kind_in}
 use Rattle.elab_expr.specs.elab_ctx.Ctx.{Ctx, Work}
 use Rattle.elab_expr.specs.elab_ctx.Steps.{and_then, expect, check, Operand, Made, Typed}
-use Rattle.elab_expr.specs.elab_ctx.Says.{Faults, Given, MadeAt}
+use Rattle.elab_expr.specs.elab_ctx.Says.{Faults, Given, MadeAt, Tells}
 use Rattle.elab_expr.specs.elab_ctx.declared.env.Work.{Work as WorkRec}
 use Rattle.elab_expr.specs.elab_ctx.declared.operand.Operand.{Operand as OperandRec}
 use Rattle.elab_expr.specs.cpp_tree.declared.arena.TNode.{TNode}
@@ -25,7 +25,7 @@ use Rattle.elab_expr.specs.elab_rules.Constants.{constant}
 use Rattle.elab_expr.specs.elab_rules.Operators.{value}
 use Rattle.elab_expr.specs.elab_rules.Expressions.{expression_of, chosen_operand}
 use Rattle.elab_expr.specs.elab_rules.Statements.{State, label_here, case_fits, case_label}
-use Rattle.elab_scopes.specs.Labelled.{word_of, label_word, case_word, case_of, OperandAt, Unmoved}
+use Rattle.elab_scopes.specs.Labelled.{word_of, operand_alone, initial_alone, label_word, case_word, case_of, OperandAt, Unmoved}
 use Rattle.elab_scopes.specs.declared.state.State.{State as StateRec}
 use Rattle.elab_scopes.specs.States.{state_of, made, Grown}
 use Rattle.elab_scopes.specs.Says.{Does}
@@ -87,3 +87,18 @@ unmoved_grown a w u = grown_by a (record a { work = w }) (subst (λ (v : Vec TNo
 
 pub unmoved_state : (a : StateRec) (w : WorkRec) → Unmoved a.work w → state_of (record a { work = w }) ≡ state_of a
 unmoved_state a w u = ap (λ (z : Work). record (state_of a) { work = z }) u.work
+
+-- The word of a label, where the nodes alone have grown on the way
+
+pub label_is : (c : Ctx) (a b : Work) (o p : Operand) (t u v : Tree) → initial_alone c a c.labels.typ o ≡ Ok t → u ≡ t → p ≡ o → v ≡ value p → b ≡ a → label_word c a a.globals o ≡ word_of c b.globals o.at v u
+label_is c a b o p t u v m e q h k =
+    ap (λ (z : Result Tree ElabFault). and_then z (λ (x : Tree). word_of c a.globals o.at (value o) x)) m
+    ∙ ap (λ (x : Tree). word_of c a.globals o.at (value o) x) (sym e)
+    ∙ ap (λ (z : Tree). word_of c a.globals o.at z u) (ap value (sym q) ∙ sym h)
+    ∙ ap (λ (z : Work). word_of c z.globals o.at v u) (sym k)
+
+pub case_word_is : (s : List Lexeme) (c : Ctx) (a b : Work) (e : syntax.Tree) (o : Operand) → operand_alone s c a e ≡ Ok o → b ≡ a → case_word s c a e ≡ label_word c b b.globals o
+case_word_is s c a b e o h k = ap (λ (z : Result Operand ElabFault). and_then z (λ (x : Operand). label_word c a a.globals x)) h ∙ ap (λ (z : Work). label_word c z z.globals o) (sym k)
+
+pub tells_fault : (r : Result ℕ ElabFault) (f : ElabFault) (x y : Result ℕ ElabFault) → r ≡ Err f → y ≡ x → Faults f x → Tells r y
+tells_fault r f x y h e g = subst (λ (z : Result ℕ ElabFault). Tells z y) (sym h) (faults_same f x y e g)
