@@ -1,8 +1,9 @@
 // Labels of `switch` (C++14 6.4.2; the TS, [stmt.sync], [stmt.tx]).
 
-ghost use Rattle.std.specs.Prelude.{◌≡◌, ◌<◌, ◌==◌, ◌++◌, ◌∷◌, [], ℕ, length, map, OnOk};
+ghost use Rattle.std.specs.Prelude.{◌≡◌, ◌<◌, ◌==◌, ◌++◌, ◌∷◌, [], ℕ, length, map, IfOk, OnOk};
 ghost use Rattle.std.specs.List.{list_any};
 ghost use Rattle.elab_expr.specs.cpp_lex.Tokens.{lexemes_of};
+ghost use Rattle.elab_expr.specs.cpp_types.Typ.{typ_of};
 ghost use Rattle.elab_expr.specs.cpp_tree.Units.{global_of};
 ghost use Rattle.elab_expr.specs.cpp_tree.Arena.{trees_of, tree_at};
 ghost use Rattle.elab_expr.specs.cpp_tree.declared.faults.IllRule.TheVariants.{NotConstant};
@@ -10,11 +11,11 @@ ghost use Rattle.elab_expr.specs.elab_ctx.Ctx.{ctx_of, work_of, labels_of};
 ghost use Rattle.elab_expr.specs.elab_ctx.Steps.{expect};
 ghost use Rattle.elab_expr.specs.elab_rules.Constants.{constant as constant_of};
 ghost use Rattle.elab_expr.specs.elab_ctx.Operands.{operand_in};
-ghost use Rattle.elab_expr.specs.elab_ctx.Says.{Tells};
+ghost use Rattle.elab_expr.specs.elab_ctx.Says.{Gives, Tells};
 ghost use Rattle.elab_expr.specs.elab_rules.Statements.{label_allowed as label_allowed_of, label_here as label_here_of, case_fits as case_fits_of, case_label as case_label_of, default_label as default_label_of};
 ghost use Rattle.elab_expr.specs.elab_types.Syntax.{syntax_of, tree_at as syntax_at};
 ghost use Rattle.elab_scopes.specs.States.{state_of};
-ghost use Rattle.elab_scopes.specs.Labelled.{word_of as word_of_of, label_word as label_word_of, case_word as case_word_of, case_of as case_of_of};
+ghost use Rattle.elab_scopes.specs.Labelled.{word_of as word_of_of, label_word as label_word_of, case_word as case_word_of, case_of as case_of_of, operand_alone as operand_alone_of, initial_alone as initial_alone_of, Operates, Unmoved};
 ghost use Rattle.elab_scopes.specs.Says.{Does};
 
 use crate::nodes::leaf_statement;
@@ -22,10 +23,10 @@ use crate::reading::operand;
 use crate::state::State;
 use elab_expr::below::{
     At, ElabFault, Env, IllRule, IntKind, Label, Labels, NodeId, Nodes, Operand, TGlobal, TKind,
-    TNode, TNodeId, Tokens, Work, constant, convert, ill, initial, kind_of, node_at, value,
+    TNode, TNodeId, Tokens, Ty, Work, constant, convert, ill, initial, kind_of, node_at, value,
     value_of_word,
 };
-use elab_expr::copy_work;
+use elab_growth::cut_back;
 use std::alloc::{AllocError, Global};
 use std::mem;
 
@@ -104,39 +105,75 @@ fn word_of(
     Ok(word)
 }
 
-// The word of a label, from its operand. What is made on the way is not kept.
-fn label_word(
+// What initialises an object of a type; what is made beside it is cut off again.
+fn initial_alone(
     alloc: Global,
     env: &Env,
-    globals: &Vec<TGlobal>,
-    scratch: &mut Work,
+    work: &mut Work,
+    ty: &Ty,
     o: Operand,
-) -> Result<u64, ElabFault>
-    requires { o.id.0 < length (trees_of scratch.old.nodes.items) }
-    ensures { Tells result (label_word_of (ctx_of env.now) (work_of scratch.old) (map global_of globals.now.items) (operand_in (trees_of scratch.old.nodes.items) o)) }
+) -> Result<TNodeId, ElabFault>
+    requires { o.id.0 < length (trees_of work.old.nodes.items) }
+    ensures made { Gives (trees_of work.old.nodes.items) (trees_of work.new.nodes.items) result (initial_alone_of (ctx_of env.now) (work_of work.old) (typ_of ty.now) (operand_in (trees_of work.old.nodes.items) o)) }
+    ensures kept { IfOk result (λ r. work_of work.new ≡ work_of work.old) }
 {
-    let made = initial(alloc, env, scratch, &env.labels.ty, o)?;
-    let value = value(alloc, &mut scratch.nodes, o)?;
-    word_of(env, globals, &scratch.nodes, o.at, value, made)
+    let frame = work.frame.len();
+    let globals = work.globals.len();
+    let made = initial(alloc, env, work, ty, o)?;
+    cut_back(work, frame, globals);
+    Ok(made)
 }
 
-// The word of a label, from its expression. What is made on the way is not kept.
+// An operand; what is made beside it is cut off again.
+fn operand_alone(
+    alloc: Global,
+    env: &Env,
+    tokens: &Tokens,
+    nodes: &Nodes,
+    id: NodeId,
+    work: &mut Work,
+) -> Result<Operand, ElabFault>
+    requires { id.0 < length nodes.now }
+    ensures operand { Operates (trees_of work.old.nodes.items) (trees_of work.new.nodes.items) result (operand_alone_of (lexemes_of tokens.now) (ctx_of env.now) (work_of work.old) (syntax_at (syntax_of nodes.now) id)) }
+    ensures kept { IfOk result (λ o. work_of work.new ≡ work_of work.old) }
+{
+    let frame = work.frame.len();
+    let globals = work.globals.len();
+    let o = operand(alloc, env, tokens, nodes, id, work)?;
+    cut_back(work, frame, globals);
+    Ok(o)
+}
+
+// The word of a label, from its operand. Of what is made on the way the nodes alone are kept.
+fn label_word(alloc: Global, env: &Env, work: &mut Work, o: Operand) -> Result<u64, ElabFault>
+    requires { o.id.0 < length (trees_of work.old.nodes.items) }
+    ensures word { Tells result (label_word_of (ctx_of env.now) (work_of work.old) (work_of work.old).globals (operand_in (trees_of work.old.nodes.items) o)) }
+    ensures kept { IfOk result (λ w. work_of work.new ≡ work_of work.old) }
+{
+    let made = initial_alone(alloc, env, work, &env.labels.ty, o)?;
+    let value = value(alloc, &mut work.nodes, o)?;
+    let word = word_of(env, &work.globals, &work.nodes, o.at, value, made)?;
+    Ok(word)
+}
+
+// The word of a label, from its expression. What is made on the way is cut off again.
 fn case_word(
     alloc: Global,
     env: &Env,
     tokens: &Tokens,
     nodes: &Nodes,
     id: NodeId,
-    work: &Work,
+    work: &mut Work,
 ) -> Result<u64, ElabFault>
     requires { id.0 < length nodes.now }
-    ensures { Tells result (case_word_of (lexemes_of tokens.now) (ctx_of env.now) (work_of work.now) (syntax_at (syntax_of nodes.now) id)) }
+    ensures word { Tells result (case_word_of (lexemes_of tokens.now) (ctx_of env.now) (work_of work.old) (syntax_at (syntax_of nodes.now) id)) }
+    ensures kept { IfOk result (λ w. Unmoved work.old work.new) }
 {
-    let mut scratch = copy_work(alloc, work)?;
-    let o = operand(alloc, env, tokens, nodes, id, &mut scratch)?;
-    let mut again = copy_work(alloc, work)?;
-    mem::swap(&mut again.nodes, &mut scratch.nodes);
-    label_word(alloc, env, &work.globals, &mut again, o)
+    let before = mem::replace(&mut work.nodes, Vec::new(alloc));
+    let o = operand_alone(alloc, env, tokens, nodes, id, work)?;
+    let word = label_word(alloc, env, work, o)?;
+    work.nodes = before;
+    Ok(word)
 }
 
 fn has_label(labels: &Labels, word: u64) -> bool
@@ -178,7 +215,7 @@ pub fn case_label(
     ensures { Does st.old st.new result (case_label_of (lexemes_of tokens.now) (state_of st.old) at (syntax_at (syntax_of nodes.now) id)) }
 {
     label_here(st, at)?;
-    let word = case_word(alloc, &st.env, tokens, nodes, id, &st.work)?;
+    let word = case_word(alloc, &st.env, tokens, nodes, id, &mut st.work)?;
     case_of(alloc, st, at, word)
 }
 
