@@ -9,8 +9,8 @@ pub use cpp_layout::extents::{GREATEST_SIZE, int_size};
 pub use cpp_layout::frames::GREATEST_FRAME;
 pub use cpp_layout::{SizeAlign, fn_addr, frame, has_pointer, offset, size_align, vtable_addr};
 pub use tx_events::{
-    BlockKind, EXCEPTION_SIZE, End, Event, GLOBALS_LIMIT, GLOBALS_START, GlobalCell, Reply, STACK_SIZE,
-    STACK_STRIDE, STACKS_START, THREAD_LIMIT, Trap,
+    BlockKind, EXCEPTION_SIZE, End, Event, GLOBALS_LIMIT, GLOBALS_START, GlobalCell, Reply,
+    STACK_SIZE, STACK_STRIDE, STACKS_START, THREAD_LIMIT, Trap,
 };
 pub use tx_ints::{
     ArithTrap, BinOp, IntKind, apply, convert, promote, usual, value_of_word, word_of,

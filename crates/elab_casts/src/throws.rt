@@ -16,10 +16,9 @@ ghost use Rattle.elab_forms.specs.elab_rules.Operators.{value as value_of};
 ghost use Rattle.elab_casts.specs.Rows.{value_thrown};
 
 use elab_forms::below::{
-    EXCEPTION_SIZE,
-    At, Cat, ElabFault, Env, IllRule, LimitKind, Operand, Shape, TKind, TNode, TNodeId, Ty, Work,
-    add_leaf, add_node, copy, elab_ops_ill as ill, fields, node_at, object_kids, object_of,
-    size_of, traits_at, unqualified_type, value,
+    At, Cat, EXCEPTION_SIZE, ElabFault, Env, IllRule, LimitKind, Operand, Shape, TKind, TNode,
+    TNodeId, Ty, Work, add_leaf, add_node, copy, elab_ops_ill as ill, fields, node_at, object_kids,
+    object_of, size_of, traits_at, unqualified_type, value,
 };
 use elab_forms::conditionals::void_type;
 use std::alloc::{AllocError, Global};

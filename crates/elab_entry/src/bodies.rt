@@ -26,9 +26,8 @@ use crate::parameters::with_parameters;
 use class_members::Header;
 use cpp_types::{At, Ty};
 use elab_stmt::below::{
-    GREATEST_FRAME,
-    Body, ElabFault, Env, IllRule, LimitKind, MakeLambdas, NodeId, Nodes, State, TNodeId, Tokens,
-    block, elab_types_node_at as node_at, extent, ill, is_complete_type, place,
+    Body, ElabFault, Env, GREATEST_FRAME, IllRule, LimitKind, MakeLambdas, NodeId, Nodes, State,
+    TNodeId, Tokens, block, elab_types_node_at as node_at, extent, ill, is_complete_type, place,
 };
 use elab_stmt::statements;
 use std::alloc::{AllocError, Global};

@@ -13,9 +13,8 @@ ghost use Rattle.elab_types.specs.Shown.{Says};
 ghost use Rattle.elab_casts.specs.cpp_layout.declared.extents.TheConstants.{GREATEST_SIZE};
 
 use elab_casts::below::{
-    GREATEST_SIZE,
-    At, ElabFault, Env, IllRule, IntKind, LimitKind, Operand, Shape, TNode, Ty, Work, arithmetic,
-    copy, node_at, size_of, value_of_word, valued,
+    At, ElabFault, Env, GREATEST_SIZE, IllRule, IntKind, LimitKind, Operand, Shape, TNode, Ty,
+    Work, arithmetic, copy, node_at, size_of, value_of_word, valued,
 };
 use elab_consts::constant;
 use elab_types::declarators::past;

@@ -8,7 +8,12 @@ use crate::words::size_of_kind;
 use cpp_tree::below::{EXCEPTION_SIZE, IntKind};
 
 /// The bytes with those of a number of a kind from an offset on, the least significant first.
-pub fn with_bytes(bytes: [u8; EXCEPTION_SIZE], offset: u32, kind: IntKind, word: u64) -> [u8; EXCEPTION_SIZE]
+pub fn with_bytes(
+    bytes: [u8; EXCEPTION_SIZE],
+    offset: u32,
+    kind: IntKind,
+    word: u64,
+) -> [u8; EXCEPTION_SIZE]
     ensures { result ≡ bytes_put offset (bytes_of (kind_size kind) word) bytes }
 {
     let mut out = bytes;

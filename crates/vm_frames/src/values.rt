@@ -92,7 +92,10 @@ fn get_bytes(bytes: &[u8], at: usize, count: u8) -> u64
 pub fn zeros(ty: u32) -> Exception
     ensures { exception_of result ≡ new_exception ty }
 {
-    Exception { ty, bytes: [0; EXCEPTION_SIZE] }
+    Exception {
+        ty,
+        bytes: [0; EXCEPTION_SIZE],
+    }
 }
 
 /// An exception with the number of a kind that a word stands for.
