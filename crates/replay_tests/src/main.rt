@@ -1,5 +1,6 @@
-//! Programs by themselves, in which threads take turns. A case is a line of the input, a word that says what is asked and what it is asked of: `events` and a name for all that
-//! the program in the file of that name does, of which the answer is several lines, or `stops`, a number of steps and a program for how it stops within them.
+//! Programs by themselves, in which threads take turns. A case is a line of the input, a word that says what is asked and what it is asked of: `events` and
+//! a name for all that the program in the file of that name does, of which the answer is several lines; `runs` and a name for what it writes and how it ends;
+//! `turns` and a program for the threads of its entries; `stops`, a number of steps and a program for how it stops within them.
 #![tactic(auto)]
 
 mod lines;
@@ -8,13 +9,23 @@ mod programs;
 use case_texts::is_case;
 use std::{fs, io};
 
+// The text of the program of this name.
+fn text_of(rt: &HostRuntime, name: &str) -> io::Result<Vec<u8>> {
+    let file = format!(in rt.alloc(); "{name}.cc")?;
+    fs::read(rt, file.as_str())
+}
+
 // Adds the answer to a case.
 fn add_answer(rt: &HostRuntime, lines: &mut String, case: &str) -> io::Result<()> {
     let (word, rest) = case.split_once(' ').unwrap_or((case, ""));
     if word == "events" {
-        let name = format!(in rt.alloc(); "{rest}.cc")?;
-        let text = fs::read(rt, name.as_str())?;
+        let text = text_of(rt, rest)?;
         lines.push_str(&programs::events(rt.alloc(), rest, text)?)?;
+    } else if word == "runs" {
+        let text = text_of(rt, rest)?;
+        lines.push_str(&programs::runs(rt.alloc(), rest, text)?)?;
+    } else if word == "turns" {
+        lines.push_str(&programs::turns(rt.alloc(), rest)?)?;
     } else {
         lines.push_str(&programs::stops(rt.alloc(), rest)?)?;
     }

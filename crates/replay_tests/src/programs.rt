@@ -1,7 +1,7 @@
 // What a program does by itself.
 
 use crate::lines::{event_line, stopped};
-use case_texts::bytes_of;
+use case_texts::{add_word, bytes_of};
 use source_verdict::{Verdict, verdict_of};
 use src_bind::bind;
 use src_link::{can_bind, choices};
@@ -37,14 +37,19 @@ fn run_of_text(alloc: Global, text: Vec<u8>, most: u32) -> Result<Option<AloneRu
     }
 }
 
-// Its events, its output and how it stopped, a line each.
-fn run_lines(alloc: Global, run: &AloneRun) -> Result<String, AllocError> {
+// Its events, a line each.
+fn event_lines(alloc: Global, run: &AloneRun) -> Result<String, AllocError> {
     let mut lines = String::new(alloc);
     for event in &run.events {
         lines.push_str(&event_line(alloc, *event)?)?;
         lines.push_str("\n")?;
     }
-    lines.push_str("out ")?;
+    Ok(lines)
+}
+
+// Its output and how it stopped, a line each.
+fn end_lines(alloc: Global, run: &AloneRun) -> Result<String, AllocError> {
+    let mut lines = String::from_str(alloc, "out ")?;
     for byte in &run.out {
         lines.push_str(&format!(in alloc; "{byte:02x}")?)?;
     }
@@ -57,10 +62,39 @@ fn run_lines(alloc: Global, run: &AloneRun) -> Result<String, AllocError> {
 pub fn events(alloc: Global, name: &str, text: Vec<u8>) -> Result<String, AllocError> {
     let mut lines = format!(in alloc; "# {name}\n")?;
     match run_of_text(alloc, text, ENOUGH)? {
-        Some(run) => lines.push_str(&run_lines(alloc, &run)?)?,
+        Some(run) => {
+            lines.push_str(&event_lines(alloc, &run)?)?;
+            lines.push_str(&end_lines(alloc, &run)?)?;
+        }
         None => lines.push_str("refused\n")?,
     }
     Ok(lines)
+}
+
+/// What a program writes and how it ends, behind its name.
+pub fn runs(alloc: Global, name: &str, text: Vec<u8>) -> Result<String, AllocError> {
+    let mut lines = format!(in alloc; "# {name}\n")?;
+    match run_of_text(alloc, text, ENOUGH)? {
+        Some(run) => lines.push_str(&end_lines(alloc, &run)?)?,
+        None => lines.push_str("refused\n")?,
+    }
+    Ok(lines)
+}
+
+/// The threads of a program's entries, and how it stopped.
+pub fn turns(alloc: Global, text: &str) -> Result<String, AllocError> {
+    let text = bytes_of(alloc, text)?;
+    match run_of_text(alloc, text, ENOUGH)? {
+        Some(run) => {
+            let mut line = String::new(alloc);
+            for t in &run.order {
+                add_word(&mut line, &format!(in alloc; "{t}")?)?;
+            }
+            let end = stopped(alloc, run.stopped)?;
+            format!(in alloc; "{line}: {end}\n")
+        }
+        None => format!(in alloc; "refused\n"),
+    }
 }
 
 /// How a program stops within some steps: how many it takes, and how many events there are.
