@@ -1,4 +1,5 @@
 pub mod Texts
+mod Alike
 mod Meant
 mod OneProgram
 mod OneVerdict

@@ -4,3 +4,4 @@ pub mod Names
 pub mod Verdict
 pub mod Elaborated
 pub mod Nested
+pub mod Alike

@@ -1,9 +1,10 @@
 //! What holds of the programs that are accepted. A function here does nothing: its clauses are the laws.
 ghost use Rattle.std.specs.Prelude.{◌≡◌, ℕ, List, Option};
 ghost use Rattle.cpp_tree.specs.declared.program.Program.{Program};
-ghost use Rattle.cpp_tree.specs.Units.{SlotFunc, program_of};
+ghost use Rattle.cpp_tree.specs.Units.{SlotFunc, TypedProgram, program_of};
 ghost use Rattle.safe_blocks.specs.UnsafeFree.{safely_linked, LinksSafely, HidesBlocks, EntersSafe};
-ghost use Rattle.source_verdict.specs.Elaborated.{HasFault};
+ghost use Rattle.source_verdict.specs.Alike.{AgreeInTokens};
+ghost use Rattle.source_verdict.specs.Elaborated.{HasFault, HasProgram};
 ghost use Rattle.source_verdict.specs.Nested.{HasNested};
 ghost use Rattle.source_verdict.specs.Verdict.{Accepts, RefusesFault, RefusesTexts};
 ghost use Rattle.command_io.specs.Writes.{Written};
@@ -28,4 +29,12 @@ pub fn one_program()
 /// a parser that has no room left answers that whether or not the text is a unit.
 pub fn one_verdict()
     ensures { (names texts : List (List ℕ)) (p : Program) (a : Answer) (writes : List Written) → Accepts texts p → RefusesTexts names texts a writes → HasNested texts }
+{}
+
+/// The tokens of texts decide what they mean, with their places: texts that agree in them have the same program or the same
+/// fault, whatever stands between the tokens and behind the last (C++14 2.1, 2.2).
+pub fn tokens_decide()
+    ensures program { (texts others : List (List ℕ)) (p : TypedProgram) → AgreeInTokens texts others → HasProgram texts p → HasProgram others p }
+    ensures fault { (texts others : List (List ℕ)) (e : ElabFault) → AgreeInTokens texts others → HasFault texts e → HasFault others e }
+    ensures accepted { (texts others : List (List ℕ)) (p q : Program) → AgreeInTokens texts others → Accepts texts p → Accepts others q → program_of p ≡ program_of q }
 {}
