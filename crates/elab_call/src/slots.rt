@@ -8,11 +8,12 @@ ghost use Rattle.elab_make.specs.cpp_layout.Layout.{next_multiple};
 ghost use Rattle.elab_make.specs.elab_ctx.Ctx.{ctx_of, func_of};
 ghost use Rattle.elab_make.specs.elab_rules.Initialising.{func_at};
 ghost use Rattle.elab_make.specs.elab_rules.Calls.{index_in_class as index_in_class_of, slot_from, slot_of_function as slot_of_function_of, own_pointer_offset as own_pointer_offset_of, pointer_along, pointer_offset as pointer_offset_of, member_kind as member_kind_of};
-ghost use Rattle.elab_call.specs.Slots.{members_among as members_among_of, slots_in, end_of_base, virtual_kind};
+ghost use Rattle.elab_call.specs.Slots.{places_before, slots_in, end_of_base, virtual_kind};
 
 use cpp_types::Shape;
-use elab_make::below::{Env, FuncDecl, SlotRec, TKind, class_at, completion, has_pointer, size_of};
-use elab_names::functions::is_number;
+use elab_make::below::{
+    Env, Functions, SlotRec, TKind, class_at, completion, has_pointer, size_of,
+};
 use elab_names::members::base_of_complete;
 use elab_names::parts::plain_type;
 use std::alloc::AllocError;
@@ -23,27 +24,22 @@ fn one_if(holds: bool) -> usize
     if holds { 1 } else { 0 }
 }
 
-// How many of these are functions of a class.
-fn members_among(funcs: &[FuncDecl], class: u32) -> usize
-    ensures { result ≡ members_among_of class (map func_of funcs.now) }
+// How many of some places stand before a place.
+fn count_before(places: &[u32], place: u32) -> usize
+    ensures { result ≡ places_before place places.now }
 {
     let mut count: usize = 0;
-    for found in funcs {
-        count += one_if(is_number(class, found.class));
+    for found in places {
+        count += one_if(*found < place);
     }
     count
 }
 
-// How many functions of a class stand before a place.
-#[tactic(auto, using(crate::proofs::Indices::all_counted, crate::proofs::Indices::first_counted))]
-fn index_in_class(funcs: &[FuncDecl], class: u32, place: u32) -> usize
+/// How many functions of a class stand before a place.
+pub fn index_in_class(funcs: &Functions, class: u32, place: u32) -> usize
     ensures { result ≡ index_in_class_of class place (map func_of funcs.now) }
 {
-    let end = place as usize;
-    if end >= funcs.len() {
-        return members_among(funcs, class);
-    }
-    members_among(&funcs[..end], class)
+    count_before(funcs.of_class(class), place)
 }
 
 // The slot of the function with an index in a class.
@@ -75,7 +71,7 @@ fn slots_at(env: &Env, class: u32) -> &[SlotRec]
 pub fn slot_of_function(env: &Env, class: u32, func: u32) -> Result<u32, AllocError>
     ensures { IfOk result (λ s. s ≡ slot_of_function_of (ctx_of env.now) class func) }
 {
-    let index = index_in_class(env.funcs.as_slice(), class, func);
+    let index = index_in_class(&env.funcs, class, func);
     match slot_at(slots_at(env, class), class, index)? {
         Some(slot) => Ok(slot),
         None => Ok(0),

@@ -1,5 +1,4 @@
 pub use Rattle.elab_entry.proofs.elab_types as elab_types
-pub mod ClassIndices
 pub mod CopyLists
 pub mod Deferring
 pub mod GivenParts

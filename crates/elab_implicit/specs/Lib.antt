@@ -3,7 +3,6 @@ pub use Rattle.elab_entry.specs.elab_ctx as elab_ctx
 pub use Rattle.elab_entry.specs.elab_scopes as elab_scopes
 pub mod Building
 pub mod Copying
-pub mod Counted
 pub mod Ending
 pub mod Implied
 pub mod Marks

@@ -1,16 +1,15 @@
 // Functions that stand in slots of classes (C++14 10.3).
 
-ghost use Rattle.std.specs.Prelude.{◌≡◌, ◌==◌, ◌&&◌, Some, map, if◌then◌else◌};
+ghost use Rattle.std.specs.Prelude.{◌≡◌, ◌==◌, ◌&&◌, Some, map};
 ghost use Rattle.std.specs.List.{list_any};
 ghost use Rattle.elab_entry.specs.cpp_tree.Units.{SlotFunc, slot_of};
-ghost use Rattle.elab_entry.specs.elab_ctx.Ctx.{ctx_of, func_of};
+ghost use Rattle.elab_entry.specs.elab_ctx.Ctx.{ctx_of};
 ghost use Rattle.elab_entry.specs.elab_rules.Initialising.{func_at, same_number};
-ghost use Rattle.elab_entry.specs.elab_rules.Calls.{index_in_class as index_in_class_of};
 ghost use Rattle.elab_entry.specs.elab_rules.Implicit.{is_in_slot as is_in_slot_of};
 ghost use Rattle.elab_implicit.specs.Implied.{stands_in_slot as stands_in_slot_of};
-ghost use Rattle.elab_implicit.specs.Counted.{places_before};
 
-use elab_entry::below::{Env, Functions, SlotRec, function_at};
+use elab_call::slots::index_in_class;
+use elab_entry::below::{Env, SlotRec, function_at};
 
 // Whether one of some slots has the function with an index in a class.
 fn are_slots_of(slots: &[SlotRec], class: u32, index: usize) -> bool
@@ -34,30 +33,6 @@ fn is_in_slot(slots: &[Vec<SlotRec>], class: u32, index: usize) -> bool
         }
     }
     false
-}
-
-fn one_if(holds: bool) -> usize
-    ensures { result ≡ (if holds then 1 else 0) }
-{
-    if holds { 1 } else { 0 }
-}
-
-// How many of some places stand before a place.
-fn count_before(places: &[u32], place: u32) -> usize
-    ensures { result ≡ places_before place places.now }
-{
-    let mut count: usize = 0;
-    for found in places {
-        count += one_if(*found < place);
-    }
-    count
-}
-
-// How many functions of a class stand before a place.
-fn index_in_class(funcs: &Functions, class: u32, place: u32) -> usize
-    ensures { result ≡ index_in_class_of class place (map func_of funcs.now) }
-{
-    count_before(funcs.of_class(class), place)
 }
 
 // The class of which a function is a member.

@@ -1,6 +1,6 @@
 use Rattle.std.proofs.Common.{◌≡◌, ◌≤◌, ◌+◌, drop}
-use Rattle.elab_implicit.specs.Counted.{places_before}
-use Rattle.elab_implicit.proofs.slots.count_before.Given as goal
+use Rattle.elab_call.specs.Slots.{places_before}
+use Rattle.elab_call.proofs.slots.count_before.Given as goal
 
 abbrev pub invariant-loop-found : goal.invariant-loop-found
 invariant-loop-found l = record {
