@@ -12,8 +12,8 @@ ghost use Rattle.class_members.specs.Shown.{header_of};
 
 use crate::records::Header;
 use cpp_types::{At, ClassRec};
-use elab_init::below::{ElabFault, Env};
-use elab_sizes::rooms::{LONGEST, if_set, left, owner_room, parameters_room};
+use elab_init::below::{ElabFault, Env, GREATEST_SIZE};
+use elab_sizes::rooms::{if_set, left, owner_room, parameters_room};
 use elab_sizes::{function_sized, too_long};
 
 // The room behind the symbol of a function.
@@ -31,7 +31,7 @@ pub fn header_sized(env: &Env, header: &Header) -> Result<bool, ElabFault>
     ensures { Tells result (header_sized_of (ctx_of env.now) (header_of header.now)) }
 {
     function_sized(env, header.at, &header.ty)?;
-    match symbol_room(LONGEST, header, &env.classes) {
+    match symbol_room(GREATEST_SIZE, header, &env.classes) {
         Some(_) => Ok(true),
         None => Err(too_long(header.at)),
     }
@@ -41,7 +41,7 @@ pub fn header_sized(env: &Env, header: &Header) -> Result<bool, ElabFault>
 pub fn text_sized(at: At, text: &[u8]) -> Result<bool, ElabFault>
     ensures { Tells result (text_sized_of at text.now) }
 {
-    if text.len() > LONGEST as usize {
+    if text.len() > GREATEST_SIZE as usize {
         return Err(too_long(at));
     }
     Ok(true)
