@@ -6,7 +6,7 @@
 ghost use Rattle.std.specs.Prelude.{◌≡◌, ◌≤◌, length, map, IfOk};
 ghost use Rattle.cpp_lex.specs.Tokens.{lexeme_of, lexemes_of};
 ghost use Rattle.cpp_nests.specs.Nests.{FirstNested, role_in};
-ghost use Rattle.cpp_nests.specs.declared.TheConstants.{MAX_TOKENS};
+ghost use Rattle.cpp_lex.specs.declared.TheConstants.{GREATEST_TEXT};
 
 mod nest;
 mod roles;
@@ -16,16 +16,14 @@ use nest::Nest;
 use roles::{Role, role_of};
 use std::alloc::{AllocError, Global};
 
-/// The most tokens that are looked at: each has a byte at least, and a text has at most so many.
-pub const MAX_TOKENS: u64 = 1_048_576;
-
 /// The first token at which more constructs are open than a limit, the one that it opens among them; none where no token has so many.
+/// A token has a byte at least, so there are at most as many as a text has bytes.
 ///
 /// A bracket is open up to the one that closes it, an operator up to the end of its operand, `=`, `? :` and `throw` up to the end of
 /// their last operand, and `if`, `else`, `while`, `for`, `do`, `case` and `default` up to the end of their statement. Where that end is
 /// not seen by tokens alone, the construct is taken to end earlier, so a text has a tree as deep at least, if it has one.
 pub fn first_nested(alloc: Global, tokens: &Tokens, limit: u32) -> Result<Option<u32>, AllocError>
-    requires { length tokens.now.items.items ≤ MAX_TOKENS }
+    requires { length tokens.now.items.items ≤ GREATEST_TEXT }
     ensures { IfOk result (λ found. FirstNested limit (lexemes_of tokens.now) found) }
 {
     let items = tokens.items.as_slice();

@@ -6,6 +6,7 @@ use Rattle.own_table.specs.declared.TheConstants.{STRIPES}
 use Rattle.own_table.specs.declared.hold.HoldRec.{HoldRec}
 use Rattle.own_table.specs.declared.hold.Mode.{Mode}
 use Rattle.own_table.specs.declared.hold.Mode.TheVariants.{Read, Write}
+use Rattle.tx_events.specs.declared.TheConstants.{THREAD_LIMIT}
 
 abbrev pub is_write : Mode → Bool
 is_write Read = false
@@ -36,7 +37,7 @@ is_free r = r.readers == 0
 
 abbrev pub is_reader : ℕ → Option ℕ → Bool
 is_reader readers None = true
-is_reader readers (Some u) = nat_lt u 64 && has_bit readers u
+is_reader readers (Some u) = nat_lt u THREAD_LIMIT && has_bit readers u
 
 -- the writer, if there is one, is a thread and among the readers
 abbrev pub writer_reads : HoldRec → Bool
