@@ -16,8 +16,7 @@ use Rattle.vm_thread.specs.Threads.{Running, running, at_main}
 use Rattle.vm_thread.specs.declared.thread.Here.{Here}
 
 -- What a run of the image comes to is what a run of the source does, in the order that the run answers: the same output and the same end. So it is of each run
--- whose order replays, of the record of a run under a picker and a
--- policy that have names, and of the answer that has that record.
+-- whose order replays, of the record of a run under a picker and a policy that have names, and of the answer that has that record.
 pub record RunsAsSource (g : Given) (i : ImageView) : Type 0 where
   pub replayed : (input : List ℕ) (outcome : Outcome Running) → Replayed running (layout_of_image i) (first_world (first_words i) input (at_main i)) outcome
       → RunsTo g input outcome.order outcome.out outcome.end
