@@ -41,6 +41,18 @@ and_false : (a : Bool) → (a && false) ≡ false
 and_false true = refl
 and_false false = refl
 
+zero_more : (n : ℕ) → 0 + n ≡ n
+zero_more n = omega arith
+
+same_test : (a b c d : ℕ) (x y : Bool) → (a == b) ≡ x → (c == d) ≡ y → (a ≡ b → c ≡ d) → (c ≡ d → a ≡ b) → x ≡ y
+same_test a b c d true true e g f h = refl
+same_test a b c d true false e g f h = sym (eq-eqb c d (f (eqb-true a b e))) ∙ g
+same_test a b c d false true e g f h = sym e ∙ eq-eqb a b (h (eqb-true c d g))
+same_test a b c d false false e g f h = refl
+
+one_later : (j c d : ℕ) → d ≡ suc c → (j == c) ≡ (suc j == d)
+one_later j c d h = same_test j c (suc j) d (j == c) (suc j == d) refl refl (λ e. omega (arith, e, h)) (λ e. omega (arith, e, h))
+
 -- the place of the function with an index among those of a class
 abbrev has_index : ℕ → ℕ → ℕ → List Func → Bool
 has_index n j k fs = same_number n (func_at fs k).class && j == count_before (is_of_class n) k fs
@@ -52,14 +64,17 @@ mutual
   at_place n i (suc k) p j (f ∷ fs) e = ap (λ (b : Bool). is_number p (slice_get (if b then i ∷ places_where (is_member_of n) (suc i) fs else places_where (is_member_of n) (suc i) fs) j)) (number_is n f.class) ∙ next_place n i k p j fs (same_number n f.class) (omega (arith, e))
 
   first_place : (n i p j : ℕ) (fs : List FuncDecl) (b : Bool) → p ≡ i → is_number p (slice_get (if b then i ∷ places_where (is_member_of n) (suc i) fs else places_where (is_member_of n) (suc i) fs) j) ≡ (b && j == 0)
-  first_place n i p zero fs true e = eq-eqb i p (sym e)
-  first_place n i p (suc j) fs true e = late n (suc i) p j fs (omega (arith, e))
+  first_place n i p zero fs true e = eq-eqb i p (sym e) ∙ sym (eq-eqb 0 0 refl)
+  first_place n i p (suc j) fs true e = late n (suc i) p j fs (omega (arith, e)) ∙ sym (lower (suc j) 0 (omega arith))
   first_place n i p j fs false e = late n (suc i) p j fs (omega (arith, e))
 
   next_place : (n i k p j : ℕ) (fs : List FuncDecl) (b : Bool) → p ≡ suc i + k → is_number p (slice_get (if b then i ∷ places_where (is_member_of n) (suc i) fs else places_where (is_member_of n) (suc i) fs) j) ≡ (same_number n (func_at (map func_of fs) k).class && j == (if b then 1 else 0) + count_before (is_of_class n) k (map func_of fs))
-  next_place n i k p zero fs true e = upper i p (omega (arith, e)) ∙ sym (and_false (same_number n (func_at (map func_of fs) k).class))
-  next_place n i k p (suc j) fs true e = at_place n (suc i) k p j fs e
-  next_place n i k p j fs false e = at_place n (suc i) k p j fs e
+  next_place n i k p zero fs true e =
+      let own : Bool = same_number n (func_at (map func_of fs) k).class in
+      let past : (0 == 1 + count_before (is_of_class n) k (map func_of fs)) ≡ false = upper 0 (1 + count_before (is_of_class n) k (map func_of fs)) (omega arith) in
+      upper i p (omega (arith, e)) ∙ sym (ap (λ (z : Bool). own && z) past ∙ and_false own)
+  next_place n i k p (suc j) fs true e = at_place n (suc i) k p j fs e ∙ ap (λ (z : Bool). same_number n (func_at (map func_of fs) k).class && z) (one_later j (count_before (is_of_class n) k (map func_of fs)) (1 + count_before (is_of_class n) k (map func_of fs)) (omega arith))
+  next_place n i k p j fs false e = at_place n (suc i) k p j fs e ∙ ap (λ (z : ℕ). same_number n (func_at (map func_of fs) k).class && j == z) (sym (zero_more (count_before (is_of_class n) k (map func_of fs))))
 
 -- One slot
 
