@@ -113,14 +113,16 @@ table_kept a d e ms next at k tree frame m b n o =
     let body : Body = record { func = k; tree = tree; frame = frame } in
     let after : standing (state_of e) ≡ with_body body (standing (state_of a)) = kept_standing (within_frame (state_of d).ctx at frame) (record (state_of d) { bodies = (state_of d).bodies ++ body ∷ [] }) (state_of e) o.is ∙ ap (with_body body) b in
     let size : length next ≡ length ms = ap length n ∙ marks_length tree ms in
-    record { says = λ j h.
-        let there : j < length ms = omega (arith, h, size) in
-        ap (λ (z : List Bool). get_or z j false) n
-        ∙ marks_say tree ms j there
-        ∙ ap (λ (z : Bool). z || refers j tree) (m.says j there ∙ referred_is (state_of a) j)
-        ∙ sym (referred_more (standing (state_of a)) body j)
-        ∙ ap (λ (z : Standing). referred_in z j) (sym after)
-        ∙ sym (referred_is (state_of e) j) }
+    record {
+      says = λ j h.
+          let there : j < length ms = omega (arith, h, size) in
+          ap (λ (z : List Bool). get_or z j false) n
+          ∙ marks_say tree ms j there
+          ∙ ap (λ (z : Bool). z || refers j tree) (m.says j there ∙ referred_is (state_of a) j)
+          ∙ sym (referred_more (standing (state_of a)) body j)
+          ∙ ap (λ (z : Standing). referred_in z j) (sym after)
+          ∙ sym (referred_is (state_of e) j);
+    }
 
 pub table_after : (a b c d e : StateRec) (ms next : List Bool) (at : At) (k n : ℕ) (kind : FuncKind) (p : Option Typ) (around : Round) (id : TNodeId) (tree : Tree) (frame : List Typ) (r : Result (Unit {0}) ElabFault) → IsTable ms a → state_of b ≡ in_object (state_of a) n → OneDone b c id (inside_implied (state_of b) at n kind p) → state_of d ≡ left_by around (state_of c) → next ≡ marked tree ms → Changes d e r (body_kept (state_of d) at k tree frame) → OnOk r (IsTable next e)
 table_after a b c d e ms next at k n kind p around id tree frame (Ok u) m i o l f g =
@@ -137,12 +139,14 @@ pub table_first : (ms bs : List Bool) (st : StateRec) (count : ℕ) → bs ≡ t
 table_first ms bs st count e f =
     let size : length bs ≡ count = ap length e ∙ table_length count (state_of st).bodies in
     let same : length ms ≡ length bs = ap length f ∙ slots_length st.env.funcs (ctx_of st.env).slots bs in
-    record { says = λ k h.
-        let there : k < length bs = omega (arith, h, same) in
-        let counted : k < count = omega (arith, h, same, size) in
-        ap (λ (z : List Bool). get_or z k false) f
-        ∙ slots_stand (ctx_of st.env) st.env.funcs bs k refl there
-        ∙ ap (λ (z : Bool). z || stands_in_slot (ctx_of st.env) k) (ap (λ (z : List Bool). get_or z k false) e ∙ table_says count k (state_of st).bodies counted) }
+    record {
+      says = λ k h.
+          let there : k < length bs = omega (arith, h, same) in
+          let counted : k < count = omega (arith, h, same, size) in
+          ap (λ (z : List Bool). get_or z k false) f
+          ∙ slots_stand (ctx_of st.env) st.env.funcs bs k refl there
+          ∙ ap (λ (z : Bool). z || stands_in_slot (ctx_of st.env) k) (ap (λ (z : List Bool). get_or z k false) e ∙ table_says count k (state_of st).bodies counted);
+    }
 
 pub table_size : (ms bs : List Bool) (st : StateRec) (count : ℕ) → bs ≡ table_of count (state_of st).bodies → ms ≡ all_slots_marked st.env.funcs bs (ctx_of st.env).slots → length ms ≡ count
 table_size ms bs st count e f = ap length f ∙ slots_length st.env.funcs (ctx_of st.env).slots bs ∙ ap length e ∙ table_length count (state_of st).bodies

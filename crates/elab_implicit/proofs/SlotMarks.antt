@@ -26,16 +26,15 @@ lower i k h = differs i k (i == k) refl (λ e. absurd (omega (arith, h, e)))
 upper : (i k : ℕ) → i < k → (i == k) ≡ false
 upper i k h = differs i k (i == k) refl (λ e. absurd (omega (arith, h, e)))
 
--- places stand at the beginning of their list or behind it
-mutual
-  late : (n i k j : ℕ) (fs : List FuncDecl) → k < i → is_number k (slice_get (places_where (is_member_of n) i fs) j) ≡ false
-  late n i k j [] h = refl
-  late n i k j (f ∷ fs) h = late_step n i k j fs (is_number n f.class) h
+late_step : (i k j : ℕ) (rest : List ℕ) (b : Bool) → k < i → ((m : ℕ) → is_number k (slice_get rest m) ≡ false) → is_number k (slice_get (if b then i ∷ rest else rest) j) ≡ false
+late_step i k zero rest true h e = lower i k h
+late_step i k (suc j) rest true h e = e j
+late_step i k j rest false h e = e j
 
-  late_step : (n i k j : ℕ) (fs : List FuncDecl) (b : Bool) → k < i → is_number k (slice_get (if b then i ∷ places_where (is_member_of n) (suc i) fs else places_where (is_member_of n) (suc i) fs) j) ≡ false
-  late_step n i k zero fs true h = lower i k h
-  late_step n i k (suc j) fs true h = late n (suc i) k j fs (omega (arith, h))
-  late_step n i k j fs false h = late n (suc i) k j fs (omega (arith, h))
+-- places stand at the beginning of their list or behind it
+late : (n i k j : ℕ) (fs : List FuncDecl) → k < i → is_number k (slice_get (places_where (is_member_of n) i fs) j) ≡ false
+late n i k j [] h = refl
+late n i k j (f ∷ fs) h = late_step i k j (places_where (is_member_of n) (suc i) fs) (is_number n f.class) h (λ m. late n (suc i) k m fs (omega (arith, h)))
 
 and_false : (a : Bool) → (a && false) ≡ false
 and_false true = refl
@@ -57,24 +56,22 @@ one_later j c d h = same_test j c (suc j) d (j == c) (suc j == d) refl refl (λ 
 abbrev has_index : ℕ → ℕ → ℕ → List Func → Bool
 has_index n j k fs = same_number n (func_at fs k).class && j == count_before (is_of_class n) k fs
 
-mutual
-  at_place : (n i k p j : ℕ) (fs : List FuncDecl) → p ≡ i + k → is_number p (slice_get (places_where (is_member_of n) i fs) j) ≡ has_index n j k (map func_of fs)
-  at_place n i k p j [] e = refl
-  at_place n i zero p j (f ∷ fs) e = ap (λ (b : Bool). is_number p (slice_get (if b then i ∷ places_where (is_member_of n) (suc i) fs else places_where (is_member_of n) (suc i) fs) j)) (number_is n f.class) ∙ first_place n i p j fs (same_number n f.class) (omega (arith, e))
-  at_place n i (suc k) p j (f ∷ fs) e = ap (λ (b : Bool). is_number p (slice_get (if b then i ∷ places_where (is_member_of n) (suc i) fs else places_where (is_member_of n) (suc i) fs) j)) (number_is n f.class) ∙ next_place n i k p j fs (same_number n f.class) (omega (arith, e))
+first_place : (n i p j : ℕ) (fs : List FuncDecl) (b : Bool) → p ≡ i → is_number p (slice_get (if b then i ∷ places_where (is_member_of n) (suc i) fs else places_where (is_member_of n) (suc i) fs) j) ≡ (b && j == 0)
+first_place n i p zero fs true e = eq-eqb i p (sym e) ∙ sym (eq-eqb 0 0 refl)
+first_place n i p (suc j) fs true e = late n (suc i) p j fs (omega (arith, e)) ∙ sym (lower (suc j) 0 (omega arith))
+first_place n i p j fs false e = late n (suc i) p j fs (omega (arith, e))
 
-  first_place : (n i p j : ℕ) (fs : List FuncDecl) (b : Bool) → p ≡ i → is_number p (slice_get (if b then i ∷ places_where (is_member_of n) (suc i) fs else places_where (is_member_of n) (suc i) fs) j) ≡ (b && j == 0)
-  first_place n i p zero fs true e = eq-eqb i p (sym e) ∙ sym (eq-eqb 0 0 refl)
-  first_place n i p (suc j) fs true e = late n (suc i) p j fs (omega (arith, e)) ∙ sym (lower (suc j) 0 (omega arith))
-  first_place n i p j fs false e = late n (suc i) p j fs (omega (arith, e))
+next_place : (i p j c : ℕ) (rest : List ℕ) (own b : Bool) → i < p → ((m : ℕ) → is_number p (slice_get rest m) ≡ (own && m == c)) → is_number p (slice_get (if b then i ∷ rest else rest) j) ≡ (own && j == (if b then 1 else 0) + c)
+next_place i p zero c rest own true h e =
+    let past : (0 == 1 + c) ≡ false = upper 0 (1 + c) (omega arith) in
+    upper i p h ∙ sym (ap (λ (z : Bool). own && z) past ∙ and_false own)
+next_place i p (suc j) c rest own true h e = e j ∙ ap (λ (z : Bool). own && z) (one_later j c (1 + c) (omega arith))
+next_place i p j c rest own false h e = e j ∙ ap (λ (z : ℕ). own && j == z) (sym (zero_more c))
 
-  next_place : (n i k p j : ℕ) (fs : List FuncDecl) (b : Bool) → p ≡ suc i + k → is_number p (slice_get (if b then i ∷ places_where (is_member_of n) (suc i) fs else places_where (is_member_of n) (suc i) fs) j) ≡ (same_number n (func_at (map func_of fs) k).class && j == (if b then 1 else 0) + count_before (is_of_class n) k (map func_of fs))
-  next_place n i k p zero fs true e =
-      let own : Bool = same_number n (func_at (map func_of fs) k).class in
-      let past : (0 == 1 + count_before (is_of_class n) k (map func_of fs)) ≡ false = upper 0 (1 + count_before (is_of_class n) k (map func_of fs)) (omega arith) in
-      upper i p (omega (arith, e)) ∙ sym (ap (λ (z : Bool). own && z) past ∙ and_false own)
-  next_place n i k p (suc j) fs true e = at_place n (suc i) k p j fs e ∙ ap (λ (z : Bool). same_number n (func_at (map func_of fs) k).class && z) (one_later j (count_before (is_of_class n) k (map func_of fs)) (1 + count_before (is_of_class n) k (map func_of fs)) (omega arith))
-  next_place n i k p j fs false e = at_place n (suc i) k p j fs e ∙ ap (λ (z : ℕ). same_number n (func_at (map func_of fs) k).class && j == z) (sym (zero_more (count_before (is_of_class n) k (map func_of fs))))
+at_place : (n i k p j : ℕ) (fs : List FuncDecl) → p ≡ i + k → is_number p (slice_get (places_where (is_member_of n) i fs) j) ≡ has_index n j k (map func_of fs)
+at_place n i k p j [] e = refl
+at_place n i zero p j (f ∷ fs) e = ap (λ (b : Bool). is_number p (slice_get (if b then i ∷ places_where (is_member_of n) (suc i) fs else places_where (is_member_of n) (suc i) fs) j)) (number_is n f.class) ∙ first_place n i p j fs (same_number n f.class) (omega (arith, e))
+at_place n i (suc k) p j (f ∷ fs) e = ap (λ (b : Bool). is_number p (slice_get (if b then i ∷ places_where (is_member_of n) (suc i) fs else places_where (is_member_of n) (suc i) fs) j)) (number_is n f.class) ∙ next_place i p j (count_before (is_of_class n) k (map func_of fs)) (places_where (is_member_of n) (suc i) fs) (same_number n (func_at (map func_of fs) k).class) (same_number n f.class) (omega (arith, e)) (λ m. at_place n (suc i) k p m fs (omega (arith, e)))
 
 -- One slot
 
