@@ -1,14 +1,14 @@
 -- Bodies of implicit members, step by step.
-use Rattle.std.proofs.Common.{◌≡◌, ◌<◌, ◌≤◌, ◌∙◌, ℕ, zero, suc, Bool, true, false, ◌&&◌, ◌||◌, ◌==◌, List, [], ◌∷◌, ◌++◌, length, get_or, slice_get, unwrap_or, Option, Some, None, Result, Ok, Err, OnOk, if◌then◌else◌, refl, sym, ap, subst, arith}
+use Rattle.std.proofs.Common.{◌≡◌, ◌<◌, ◌∙◌, ℕ, suc, Bool, true, false, ◌||◌, List, [], ◌∷◌, ◌++◌, length, get_or, slice_get, unwrap_or, Option, Some, None, Result, Ok, Err, OnOk, refl, sym, ap, subst, arith}
 use Rattle.std.specs.List.{list_any}
 use Rattle.cpp_types.specs.Typ.{Typ}
 use Rattle.cpp_types.specs.declared.classes.At.{At}
 use Rattle.elab_entry.specs.cpp_tree.declared.program.FuncKind.{FuncKind}
 use Rattle.elab_entry.specs.cpp_tree.declared.faults.ElabFault.{ElabFault}
 use Rattle.elab_entry.specs.cpp_tree.declared.arena.TNodeId.{TNodeId}
-use Rattle.elab_entry.specs.cpp_tree.Trees.{Tree, Trees, none, one}
+use Rattle.elab_entry.specs.cpp_tree.Trees.{Tree, none, one}
 use Rattle.elab_entry.specs.cpp_tree.Arena.{tree_at, trees_at, Grows, Adds}
-use Rattle.elab_entry.specs.elab_ctx.Ctx.{Ctx, Func, ctx_of}
+use Rattle.elab_entry.specs.elab_ctx.Ctx.{Func, ctx_of}
 use Rattle.elab_entry.specs.elab_ctx.Steps.{and_then}
 use Rattle.elab_entry.specs.elab_ctx.Says.{Faults}
 use Rattle.elab_entry.proofs.elab_ctx.Looks.{grows_refl}

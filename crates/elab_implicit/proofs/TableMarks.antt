@@ -1,14 +1,13 @@
 -- A table of the functions that trees name says of each function whether they name it.
-use Rattle.std.proofs.Common.{◌≡◌, ◌<◌, ◌∙◌, ◌==◌, ℕ, zero, suc, Bool, true, false, ◌||◌, List, [], ◌∷◌, length, get_or, slice_set, replicate, fold, refl, sym, ap, arith}
+use Rattle.std.proofs.Common.{◌≡◌, ◌<◌, ◌∙◌, ◌==◌, ℕ, zero, suc, Bool, true, false, ◌||◌, List, [], ◌∷◌, length, get_or, slice_set, replicate, refl, sym, ap, arith}
 use Rattle.std.proofs.lemmas.Bool.{eqb-true, eq-eqb}
 use Rattle.std.specs.List.{list_any}
-use Rattle.cpp_types.specs.Typ.{Typ}
 use Rattle.elab_entry.specs.cpp_tree.declared.kinds.TKind.{TKind}
 use Rattle.elab_entry.specs.cpp_tree.declared.kinds.TKind.TheVariants as forms
 use Rattle.elab_entry.specs.cpp_tree.Trees.{Tree, node, Trees, none, more}
 use Rattle.elab_entry.specs.elab_rules.Statements.{Body}
 use Rattle.elab_entry.specs.elab_rules.Implicit.{names_function, refers, any_refers}
-use Rattle.elab_implicit.specs.Marks.{marked_kind, marked, all_marked, with_marks, body_marks, table_of}
+use Rattle.elab_implicit.specs.Marks.{marked_kind, marked, all_marked, body_marks, table_of}
 
 pub or_false : (a : Bool) → (a || false) ≡ a
 or_false true = refl
