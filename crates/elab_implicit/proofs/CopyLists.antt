@@ -1,5 +1,5 @@
 -- Parts of an object from those of another, one after the other.
-use Rattle.std.proofs.Common.{◌≡◌, ◌<◌, ◌≤◌, ◌+◌, ◌∙◌, ℕ, suc, Bool, true, List, [], ◌∷◌, ◌++◌, length, drop, get_or, slice_get, Vec, Global, Option, Some, None, false, if◌then◌else◌, Result, Ok, Err, IfOk, refl, sym, ap, subst, add-one}
+use Rattle.std.proofs.Common.{◌≡◌, ◌<◌, ◌≤◌, ◌+◌, ◌∙◌, ℕ, suc, Bool, true, List, [], ◌∷◌, ◌++◌, length, drop, get_or, slice_get, Vec, Global, Some, false, if◌then◌else◌, Result, Ok, Err, IfOk, refl, sym, ap, subst, add-one}
 use Rattle.std.specs.declared.alloc.AllocError.{AllocError}
 use Rattle.cpp_types.specs.Typ.{Typ, typ, void, int, enum, null, ptr, ref, array, func, class, closure, tx_ex}
 use Rattle.cpp_types.specs.Class.{Class, Member, classes_of}
@@ -15,7 +15,7 @@ use Rattle.elab_entry.specs.cpp_tree.Notation.{plain}
 use Rattle.elab_entry.specs.cpp_tree.Typing.{is_class_typ, qualified}
 use Rattle.elab_entry.specs.elab_ctx.Ctx.{Ctx, Work, Closure, ctx_of, work_of}
 use Rattle.elab_entry.specs.elab_ctx.Steps.{and_then, Made, Operand}
-use Rattle.elab_entry.specs.elab_ctx.Says.{Faults, MadeAt, Makes, are_within}
+use Rattle.elab_entry.specs.elab_ctx.Says.{Faults, MadeAt, Makes}
 use Rattle.elab_entry.proofs.elab_ctx.Looks.{at_grown, grows_refl, grows_trans}
 use Rattle.elab_entry.proofs.elab_ctx.Making.{faults_in, faults_same, last_adds}
 use Rattle.elab_entry.proofs.elab_init.Listing.{followed_twice, drop_step, drop_past, within_one}
@@ -26,7 +26,7 @@ use Rattle.elab_entry.specs.elab_rules.Calls.{pointer_offset, base_of_class}
 use Rattle.elab_entry.specs.elab_rules.Statements.{State, Done, done, joined, with_work}
 use Rattle.elab_entry.specs.elab_rules.Initialising.{class_from, closure_part}
 use Rattle.elab_entry.specs.elab_rules.Members.{as_base_of, member_type, pointer_stored}
-use Rattle.elab_entry.specs.elab_rules.Implicit.{source_object, source_const, own_operand, part_copied, part_of_source, members_copied, base_copied, parts_copied}
+use Rattle.elab_entry.specs.elab_rules.Implicit.{source_object, own_operand, part_copied, part_of_source, members_copied, base_copied, parts_copied}
 use Rattle.elab_entry.specs.elab_scopes.declared.state.State.{State as StateRec}
 use Rattle.elab_entry.specs.elab_scopes.States.{state_of, made}
 use Rattle.elab_entry.specs.elab_scopes.Says.{OneDone, AllDone, behind}

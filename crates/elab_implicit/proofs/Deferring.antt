@@ -1,19 +1,19 @@
 -- What a destructor does, in several steps.
-use Rattle.std.proofs.Common.{◌≡◌, ◌<◌, ◌≤◌, ◌+◌, ◌∙◌, ℕ, zero, suc, ◌==◌, vec_len, rules, List, [], ◌∷◌, ◌++◌, length, drop, get_or, slice_get, Vec, Global, Result, Ok, Err, IfOk, Some, false, true, refl, sym, ap, subst, arith, add-one}
+use Rattle.std.proofs.Common.{◌≡◌, ◌<◌, ◌≤◌, ◌+◌, ◌∙◌, ℕ, zero, suc, ◌==◌, vec_len, rules, List, [], ◌∷◌, ◌++◌, length, drop, slice_get, Vec, Global, Result, Ok, Err, IfOk, false, true, refl, sym, ap, subst, arith, add-one}
 use Rattle.std.specs.declared.alloc.AllocError.{AllocError}
 use Rattle.cpp_types.specs.Typ.{Typ, class}
 use Rattle.cpp_types.specs.Class.{Member}
 use Rattle.cpp_types.specs.declared.classes.At.{At}
 use Rattle.elab_entry.specs.cpp_tree.declared.arena.TNodeId.{TNodeId}
 use Rattle.elab_entry.specs.cpp_tree.declared.kinds.TKind.TheVariants.{Defer, Block}
-use Rattle.elab_entry.specs.cpp_tree.Trees.{Tree, Trees, none, more, one}
+use Rattle.elab_entry.specs.cpp_tree.Trees.{Tree, Trees, none, one}
 use Rattle.elab_entry.specs.cpp_tree.Arena.{tree_at, trees_at, Adds}
 use Rattle.elab_entry.specs.cpp_tree.Notation.{plain}
 use Rattle.elab_entry.specs.elab_ctx.Ctx.{Ctx}
 use Rattle.elab_entry.specs.elab_ctx.Says.{AddsAll, are_within}
-use Rattle.elab_entry.proofs.elab_ctx.Looks.{at_grown, grows_trans}
+use Rattle.elab_entry.proofs.elab_ctx.Looks.{grows_trans}
 use Rattle.elab_entry.proofs.elab_ctx.Making.{last_adds}
-use Rattle.elab_entry.proofs.elab_init.Listing.{Adding, adding_all, adding_done, adds_more, trees_append, trees_grown, all_within_grown, followed_twice, drop_step, drop_past}
+use Rattle.elab_entry.proofs.elab_init.Listing.{Adding, adding_all, adding_done, adds_more, trees_append, trees_grown, followed_twice, drop_step, drop_past}
 use Rattle.elab_entry.specs.elab_rules.Objects.{followed_by, destroys}
 use Rattle.elab_entry.specs.elab_rules.Calls.{pointer_offset, base_of_class}
 use Rattle.elab_entry.specs.elab_rules.Names.{members_in, offset_at}

@@ -1,5 +1,5 @@
 -- What is written for parts, as trees of nodes that grow; a class that is marked and marked back.
-use Rattle.std.proofs.Common.{◌≡◌, ◌<◌, ◌∙◌, ℕ, zero, suc, Bool, true, false, nat_lt, ◌&&◌, List, [], ◌∷◌, length, map, Option, Some, None, option_map, if◌then◌else◌, slice_get, slice_set, refl, sym, ap}
+use Rattle.std.proofs.Common.{◌≡◌, ◌∙◌, ℕ, zero, suc, Bool, true, false, nat_lt, ◌&&◌, List, [], ◌∷◌, length, map, Option, Some, None, option_map, if◌then◌else◌, refl, sym, ap}
 use Rattle.std.proofs.lemmas.Bool.{and_parts, ltb-true}
 use Rattle.elab_entry.specs.cpp_tree.Trees.{Tree}
 use Rattle.elab_entry.specs.cpp_tree.Arena.{tree_at, Grows}

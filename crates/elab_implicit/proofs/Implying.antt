@@ -1,25 +1,23 @@
 -- Bodies of implicit members, step by step.
-use Rattle.std.proofs.Common.{◌≡◌, ◌<◌, ◌≤◌, ◌∙◌, ℕ, zero, suc, Bool, true, false, ◌&&◌, ◌||◌, ◌==◌, List, [], ◌∷◌, ◌++◌, length, get_or, slice_get, unwrap_or, Option, Some, None, Result, Ok, Err, OnOk, if◌then◌else◌, refl, sym, ap, subst, arith}
+use Rattle.std.proofs.Common.{◌≡◌, ◌<◌, ◌∙◌, ℕ, suc, Bool, true, false, ◌||◌, List, [], ◌∷◌, ◌++◌, length, get_or, slice_get, unwrap_or, Option, Some, None, Result, Ok, Err, OnOk, refl, sym, ap, subst, arith}
 use Rattle.std.specs.List.{list_any}
 use Rattle.cpp_types.specs.Typ.{Typ}
 use Rattle.cpp_types.specs.declared.classes.At.{At}
 use Rattle.elab_entry.specs.cpp_tree.declared.program.FuncKind.{FuncKind}
 use Rattle.elab_entry.specs.cpp_tree.declared.faults.ElabFault.{ElabFault}
 use Rattle.elab_entry.specs.cpp_tree.declared.arena.TNodeId.{TNodeId}
-use Rattle.elab_entry.specs.cpp_tree.Trees.{Tree, Trees, none, one}
-use Rattle.elab_entry.specs.cpp_tree.Units.{SlotFunc}
+use Rattle.elab_entry.specs.cpp_tree.Trees.{Tree, none, one}
 use Rattle.elab_entry.specs.cpp_tree.Arena.{tree_at, trees_at, Grows, Adds}
-use Rattle.elab_entry.specs.elab_ctx.Ctx.{Ctx, Func, ctx_of}
+use Rattle.elab_entry.specs.elab_ctx.Ctx.{Func, ctx_of}
 use Rattle.elab_entry.specs.elab_ctx.Steps.{and_then}
 use Rattle.elab_entry.specs.elab_ctx.Says.{Faults}
 use Rattle.elab_entry.proofs.elab_ctx.Looks.{grows_refl}
 use Rattle.elab_entry.proofs.elab_ctx.Making.{faults_in, faults_same}
-use Rattle.elab_entry.specs.elab_rules.Initialising.{func_at, no_function, same_number, signature_parameters}
+use Rattle.elab_entry.specs.elab_rules.Initialising.{func_at, no_function, signature_parameters}
 use Rattle.elab_entry.specs.elab_rules.Functions.{within_frame}
 use Rattle.elab_entry.specs.elab_rules.Statements.{Body, State, Done, done, the_tree}
 use Rattle.elab_entry.specs.elab_rules.Members.{constructor_tree}
-use Rattle.elab_entry.specs.elab_rules.Implicit.{is_in_slot, index_of, is_referred, refers}
-use Rattle.elab_entry.specs.elab_rules.Calls.{index_in_class}
+use Rattle.elab_entry.specs.elab_rules.Implicit.{is_in_slot, is_referred, refers}
 use Rattle.elab_entry.specs.elab_scopes.declared.state.State.{State as StateRec}
 use Rattle.elab_entry.specs.elab_scopes.States.{state_of, made, Grown}
 use Rattle.elab_entry.specs.elab_scopes.Says.{Changed, Changes, OneDone}
@@ -28,25 +26,11 @@ use Rattle.elab_entry.specs.Round.{Round, round_function, left_by}
 use Rattle.elab_entry.specs.Bodies.{body_kept, body_made}
 use Rattle.elab_entry.specs.Says.{Listed}
 use Rattle.elab_entry.proofs.OneByOne.{Steps, steps_next, steps_fault, steps_done}
-use Rattle.elab_implicit.specs.Marks.{marked, table_of}
+use Rattle.elab_implicit.specs.Marks.{marked, table_of, all_slots_marked}
 use Rattle.elab_implicit.specs.Implied.{IsTable, stands_in_slot, first_of, body_of_function, body_at, in_object, constructor_parts, constructor_inside, inside_implied, body_implied, wanted, implied_for, implied, implied_below}
-use Rattle.elab_implicit.proofs.Keeping.{bodies_inside}
-use Rattle.elab_implicit.proofs.TableMarks.{table_length, table_says, table_append, marks_length}
-
--- no slot is of no class
-pub in_no_slot_list : (i : ℕ) (xs : List SlotFunc) → list_any (λ (x : SlotFunc). same_number x.class None && x.func == i) xs ≡ false
-in_no_slot_list i [] = refl
-in_no_slot_list i (x ∷ xs) = in_no_slot_list i xs
-
-pub in_no_slot : (i : ℕ) (slots : List (List SlotFunc)) → is_in_slot None i slots ≡ false
-in_no_slot i [] = refl
-in_no_slot i (xs ∷ slots) = rw (in_no_slot_list i xs) (in_no_slot i slots)
-
-pub slot_none : (c : Ctx) (k : ℕ) → (func_at c.funcs k).class ≡ None → false ≡ stands_in_slot c k
-slot_none c k e = sym (ap (λ (z : Option ℕ). is_in_slot z (index_of c k z) c.slots) e ∙ in_no_slot (index_of c k None) c.slots)
-
-pub slot_some : (c : Ctx) (k n i : ℕ) (b : Bool) → (func_at c.funcs k).class ≡ Some n → i ≡ index_in_class n k c.funcs → b ≡ is_in_slot (Some n) i c.slots → b ≡ stands_in_slot c k
-slot_some c k n i b e f g = g ∙ ap (λ (z : ℕ). is_in_slot (Some n) z c.slots) f ∙ sym (ap (λ (z : Option ℕ). is_in_slot z (index_of c k z) c.slots) e)
+use Rattle.elab_implicit.proofs.Keeping.{Standing, standing, inside_same}
+use Rattle.elab_implicit.proofs.SlotMarks.{index_of_class, index_is, slots_stand, slots_length}
+use Rattle.elab_implicit.proofs.TableMarks.{or_false, or_twice, table_length, table_says, marks_length, marks_say}
 
 -- A constructor
 
@@ -88,39 +72,84 @@ body_done a b c d e at k n kind p around id tree frame r i ro m l t q f o =
 
 -- The table
 
--- the bodies behind a body that is kept
-kept_bodies : (w : Result Bool ElabFault) (s t : State) → and_then w (λ (y : Bool). Ok s) ≡ Ok t → t.bodies ≡ s.bodies
-kept_bodies (Ok y) s t h =
-    let same : s ≡ t = cc in
-    ap (λ (z : State). z.bodies) (sym same)
-kept_bodies (Err e) s t h = absurd cc
+-- what the unit refers to, by what stands in a state
+abbrev referred_in : Standing → ℕ → Bool
+referred_in s k = list_any (λ (b : Body). refers k b.tree) s.bodies || is_in_slot (func_at s.funcs k).class (index_of_class k (func_at s.funcs k).class s.funcs) s.slots
 
-pub table_kept : (a d e : StateRec) (ms next : List Bool) (at : At) (k : ℕ) (tree : Tree) (frame : List Typ) → IsTable ms a → (state_of d).bodies ≡ (state_of a).bodies → next ≡ marked tree ms → Changed d e (body_kept (state_of d) at k tree frame) → IsTable next e
+abbrev with_body : Body → Standing → Standing
+with_body b s = record s { bodies = s.bodies ++ b ∷ [] }
+
+referred_is : (st : State) (k : ℕ) → is_referred st k ≡ referred_in (standing st) k
+referred_is st k = sym (ap (λ (z : ℕ). list_any (λ (b : Body). refers k b.tree) st.bodies || is_in_slot (func_at st.ctx.funcs k).class z st.ctx.slots) (index_is st.ctx k (func_at st.ctx.funcs k).class))
+
+or_swapped : (a b : Bool) → (a || b) ≡ (b || a)
+or_swapped true true = refl
+or_swapped true false = refl
+or_swapped false true = refl
+or_swapped false false = refl
+
+or_later : (a b c : Bool) → ((a || b) || c) ≡ ((a || c) || b)
+or_later true b c = refl
+or_later false b c = or_swapped b c
+
+any_append : (p : Body → Bool) (bs : List Body) (b : Body) → list_any p (bs ++ b ∷ []) ≡ (list_any p bs || p b)
+any_append p [] b = or_false (p b)
+any_append p (c ∷ bs) b = ap (λ (z : Bool). p c || z) (any_append p bs b) ∙ sym (or_twice (p c) (list_any p bs) (p b))
+
+referred_more : (s : Standing) (b : Body) (k : ℕ) → referred_in (with_body b s) k ≡ (referred_in s k || refers k b.tree)
+referred_more s b k =
+    let in_slot : Bool = is_in_slot (func_at s.funcs k).class (index_of_class k (func_at s.funcs k).class s.funcs) s.slots in
+    ap (λ (z : Bool). z || in_slot) (any_append (λ (x : Body). refers k x.tree) s.bodies b) ∙ or_later (list_any (λ (x : Body). refers k x.tree) s.bodies) (refers k b.tree) in_slot
+
+-- what stands behind a body that is kept
+kept_standing : (w : Result Bool ElabFault) (s t : State) → and_then w (λ (y : Bool). Ok s) ≡ Ok t → standing t ≡ standing s
+kept_standing (Ok y) s t h =
+    let same : s ≡ t = cc in
+    ap standing (sym same)
+kept_standing (Err e) s t h = absurd cc
+
+pub table_kept : (a d e : StateRec) (ms next : List Bool) (at : At) (k : ℕ) (tree : Tree) (frame : List Typ) → IsTable ms a → standing (state_of d) ≡ standing (state_of a) → next ≡ marked tree ms → Changed d e (body_kept (state_of d) at k tree frame) → IsTable next e
 table_kept a d e ms next at k tree frame m b n o =
     let body : Body = record { func = k; tree = tree; frame = frame } in
-    let after : (state_of e).bodies ≡ (state_of a).bodies ++ body ∷ [] = kept_bodies (within_frame (state_of d).ctx at frame) (record (state_of d) { bodies = (state_of d).bodies ++ body ∷ [] }) (state_of e) o.is ∙ ap (λ (z : List Body). z ++ body ∷ []) b in
+    let after : standing (state_of e) ≡ with_body body (standing (state_of a)) = kept_standing (within_frame (state_of d).ctx at frame) (record (state_of d) { bodies = (state_of d).bodies ++ body ∷ [] }) (state_of e) o.is ∙ ap (with_body body) b in
     let size : length next ≡ length ms = ap length n ∙ marks_length tree ms in
-    record { is = n ∙ ap (marked tree) m.is ∙ sym (table_append (length ms) (state_of a).bodies body) ∙ ap (table_of (length ms)) (sym after) ∙ ap (λ (z : ℕ). table_of z (state_of e).bodies) (sym size) }
+    record {
+      says = λ j h.
+          let there : j < length ms = omega (arith, h, size) in
+          ap (λ (z : List Bool). get_or z j false) n
+          ∙ marks_say tree ms j there
+          ∙ ap (λ (z : Bool). z || refers j tree) (m.says j there ∙ referred_is (state_of a) j)
+          ∙ sym (referred_more (standing (state_of a)) body j)
+          ∙ ap (λ (z : Standing). referred_in z j) (sym after)
+          ∙ sym (referred_is (state_of e) j);
+    }
 
 pub table_after : (a b c d e : StateRec) (ms next : List Bool) (at : At) (k n : ℕ) (kind : FuncKind) (p : Option Typ) (around : Round) (id : TNodeId) (tree : Tree) (frame : List Typ) (r : Result (Unit {0}) ElabFault) → IsTable ms a → state_of b ≡ in_object (state_of a) n → OneDone b c id (inside_implied (state_of b) at n kind p) → state_of d ≡ left_by around (state_of c) → next ≡ marked tree ms → Changes d e r (body_kept (state_of d) at k tree frame) → OnOk r (IsTable next e)
 table_after a b c d e ms next at k n kind p around id tree frame (Ok u) m i o l f g =
-    let bodies : (state_of d).bodies ≡ (state_of a).bodies = ap (λ (z : State). z.bodies) l ∙ bodies_inside (state_of b) (state_of c) at n kind p (tree_at (made c) id) o.is ∙ ap (λ (z : State). z.bodies) i in
-    table_kept a d e ms next at k tree frame m bodies f g
+    let same : standing (state_of d) ≡ standing (state_of a) = ap standing l ∙ inside_same (state_of b) (state_of c) at n kind p (tree_at (made c) id) o.is ∙ ap standing i in
+    table_kept a d e ms next at k tree frame m same f g
 table_after a b c d e ms next at k n kind p around id tree frame (Err x) m i o l f g = tt
 
 pub size_after : (ms next : List Bool) (tree : Tree) (r : Result (Unit {0}) ElabFault) → next ≡ marked tree ms → OnOk r (length next ≡ length ms)
 size_after ms next tree (Ok u) f = ap length f ∙ marks_length tree ms
 size_after ms next tree (Err x) f = tt
 
--- the first table
-pub table_first : (ms : List Bool) (st : StateRec) (count : ℕ) → ms ≡ table_of count (state_of st).bodies → IsTable ms st
-table_first ms st count e = record { is = e ∙ ap (λ (z : ℕ). table_of z (state_of st).bodies) (sym (ap length e ∙ table_length count (state_of st).bodies)) }
+-- the first table: bodies, then slots
+pub table_first : (ms bs : List Bool) (st : StateRec) (count : ℕ) → bs ≡ table_of count (state_of st).bodies → ms ≡ all_slots_marked st.env.funcs bs (ctx_of st.env).slots → IsTable ms st
+table_first ms bs st count e f =
+    let size : length bs ≡ count = ap length e ∙ table_length count (state_of st).bodies in
+    let same : length ms ≡ length bs = ap length f ∙ slots_length st.env.funcs (ctx_of st.env).slots bs in
+    record {
+      says = λ k h.
+          let there : k < length bs = omega (arith, h, same) in
+          let counted : k < count = omega (arith, h, same, size) in
+          ap (λ (z : List Bool). get_or z k false) f
+          ∙ slots_stand (ctx_of st.env) st.env.funcs bs k refl there
+          ∙ ap (λ (z : Bool). z || stands_in_slot (ctx_of st.env) k) (ap (λ (z : List Bool). get_or z k false) e ∙ table_says count k (state_of st).bodies counted);
+    }
 
-pub table_size : (ms : List Bool) (st : StateRec) (count : ℕ) → ms ≡ table_of count (state_of st).bodies → length ms ≡ count
-table_size ms st count e = ap length e ∙ table_length count (state_of st).bodies
-
-pub mark_is : (ms : List Bool) (st : StateRec) (k : ℕ) → IsTable ms st → k < length ms → get_or ms k false ≡ list_any (λ (b : Body). refers k b.tree) (state_of st).bodies
-mark_is ms st k m h = ap (λ (z : List Bool). get_or z k false) m.is ∙ table_says (length ms) k (state_of st).bodies h
+pub table_size : (ms bs : List Bool) (st : StateRec) (count : ℕ) → bs ≡ table_of count (state_of st).bodies → ms ≡ all_slots_marked st.env.funcs bs (ctx_of st.env).slots → length ms ≡ count
+table_size ms bs st count e f = ap length f ∙ slots_length st.env.funcs (ctx_of st.env).slots bs ∙ ap length e ∙ table_length count (state_of st).bodies
 
 -- One function after the other
 
@@ -144,18 +173,6 @@ changes_fail a c r f x e h = subst (λ (z : Result (Unit {0}) ElabFault). Change
 
 pub changes_same : (a c : StateRec) (r : Result (Unit {0}) ElabFault) (x y : Result State ElabFault) → y ≡ x → Changes a c r x → Changes a c r y
 changes_same a c r x y e h = subst (λ (z : Result State ElabFault). Changes a c r z) (sym e) h
-
--- Whether something refers to a function
-
-pub marked_referred : (ms : List Bool) (st : StateRec) (k : ℕ) (m : Bool) → IsTable ms st → k < length ms → m ≡ get_or ms k false → m ≡ true → true ≡ is_referred (state_of st) k
-marked_referred ms st k m t h e f =
-    let says : list_any (λ (b : Body). refers k b.tree) (state_of st).bodies ≡ true = sym (mark_is ms st k t h) ∙ sym e ∙ f in
-    ap (λ (z : Bool). z || stands_in_slot (ctx_of st.env) k) (sym says)
-
-pub unmarked_referred : (ms : List Bool) (st : StateRec) (k : ℕ) (m b : Bool) → IsTable ms st → k < length ms → m ≡ get_or ms k false → m ≡ false → b ≡ stands_in_slot (ctx_of st.env) k → b ≡ is_referred (state_of st) k
-unmarked_referred ms st k m b t h e f g =
-    let says : list_any (λ (b : Body). refers k b.tree) (state_of st).bodies ≡ false = sym (mark_is ms st k t h) ∙ sym e ∙ f in
-    g ∙ ap (λ (z : Bool). z || stands_in_slot (ctx_of st.env) k) (sym says)
 
 pub body_at_same : (a c : StateRec) (r : Result (Unit {0}) ElabFault) (k n : ℕ) (f : Func) (p : Option Typ) → slice_get (ctx_of a.env).funcs k ≡ Some f → p ≡ first_of (signature_parameters f.declared.signature) → Changes a c r (body_implied (state_of a) f.declared.at k n f.kind p) → Changes a c r (body_at (state_of a) k n)
 body_at_same a c r k n f p e g m = changes_same a c r (body_implied (state_of a) f.declared.at k n f.kind p) (body_at (state_of a) k n) (ap (λ (z : Option Func). body_of_function (state_of a) k n (unwrap_or z no_function)) e ∙ ap (body_implied (state_of a) f.declared.at k n f.kind) (sym g)) m

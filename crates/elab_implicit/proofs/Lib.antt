@@ -7,4 +7,5 @@ pub mod Keeping
 pub mod MemberSteps
 pub mod ObjectParts
 pub mod PartLists
+pub mod SlotMarks
 pub mod TableMarks

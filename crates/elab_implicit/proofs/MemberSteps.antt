@@ -1,6 +1,5 @@
 -- Members of a class, one after the other.
 use Rattle.std.proofs.Common.{◌≡◌, ◌<◌, ◌≤◌, ◌∙◌, Bool, slice_set, ℕ, zero, suc, List, [], ◌∷◌, length, map, get_or, slice_get, refl, sym, ap, arith}
-use Rattle.cpp_types.specs.Typ.{Typ}
 use Rattle.cpp_types.specs.Class.{Member}
 use Rattle.elab_entry.specs.elab_ctx.Ctx.{Traits, traits_of}
 use Rattle.elab_entry.specs.elab_ctx.declared.env.Traits.{Traits as TraitsRec}

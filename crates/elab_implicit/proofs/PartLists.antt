@@ -1,5 +1,5 @@
 -- Parts of an object, one after the other, with the state behind them.
-use Rattle.std.proofs.Common.{◌≡◌, ◌<◌, ◌≤◌, ◌+◌, ◌∙◌, ℕ, suc, Bool, true, false, ◌==◌, ◌&&◌, if◌then◌else◌, List, [], ◌∷◌, ◌++◌, length, drop, get_or, slice_get, map, Option, Some, None, option_map, Vec, Global, Result, Ok, Err, IfOk, refl, sym, ap, subst, add-one}
+use Rattle.std.proofs.Common.{◌≡◌, ◌<◌, ◌≤◌, ◌+◌, ◌∙◌, ℕ, suc, Bool, true, false, ◌==◌, ◌&&◌, if◌then◌else◌, List, [], ◌∷◌, ◌++◌, length, drop, slice_get, map, Option, Some, None, option_map, Vec, Global, Result, Ok, Err, IfOk, refl, sym, ap, subst, add-one}
 use Rattle.std.proofs.lemmas.Bool.{and_parts, eqb-true}
 use Rattle.std.specs.declared.alloc.AllocError.{AllocError}
 use Rattle.cpp_types.specs.Typ.{Typ, class}
@@ -12,7 +12,7 @@ use Rattle.elab_entry.specs.cpp_tree.Arena.{tree_at, trees_at, Adds, Grows}
 use Rattle.elab_entry.specs.cpp_tree.Notation.{plain}
 use Rattle.elab_entry.specs.elab_ctx.Ctx.{Ctx, Work, Default, ctx_of, work_of}
 use Rattle.elab_entry.specs.elab_ctx.Steps.{and_then, Made}
-use Rattle.elab_entry.specs.elab_ctx.Says.{Faults, Given as GivenTree, Gives, AddsAll, MadeAt, are_within}
+use Rattle.elab_entry.specs.elab_ctx.Says.{Faults, Given as GivenTree, Gives, AddsAll, MadeAt}
 use Rattle.elab_entry.proofs.elab_ctx.Looks.{grows_refl, grows_trans}
 use Rattle.elab_entry.proofs.elab_ctx.Making.{faults_in, faults_same}
 use Rattle.elab_entry.proofs.elab_init.Listing.{adds_more, followed_twice, drop_step, drop_past, trees_append, trees_grown, all_within_grown, within_both, within_one}
@@ -21,10 +21,9 @@ use Rattle.elab_entry.specs.elab_rules.Names.{this_pointer, members_in}
 use Rattle.elab_entry.specs.elab_rules.Calls.{pointer_offset, base_of_class}
 use Rattle.elab_entry.specs.elab_rules.Braces.{default_at, default_whole}
 use Rattle.elab_entry.specs.elab_rules.Statements.{State, Done, done, joined, with_work, default_object}
-use Rattle.elab_entry.specs.elab_rules.Members.{Given, as_base_of, own_this, part_init, own_base, given_for, member_type, default_built, base_built, member_built, members_built, parts_built, pointer_stored}
-use Rattle.elab_entry.specs.elab_rules.Implicit.{part_copied, part_of_source, members_copied, base_copied, parts_copied}
+use Rattle.elab_entry.specs.elab_rules.Members.{Given, as_base_of, own_this, given_for, member_type, default_built, base_built, member_built, members_built, parts_built, pointer_stored}
 use Rattle.elab_entry.specs.elab_scopes.declared.state.State.{State as StateRec}
-use Rattle.elab_entry.specs.elab_scopes.States.{state_of, made, Grown}
+use Rattle.elab_entry.specs.elab_scopes.States.{state_of, made}
 use Rattle.elab_entry.specs.elab_scopes.Says.{OneDone, AllDone, DoesAll, behind}
 use Rattle.elab_entry.proofs.elab_scopes.Standing.{grown_trans, grown_by}
 use Rattle.elab_entry.proofs.elab_scopes.Behind.{SoFar, so_far_more, so_far_done, so_far_fault, all_one, behind_fault}
@@ -32,8 +31,7 @@ use Rattle.elab_entry.specs.Says.{Listed, Lists}
 use Rattle.elab_implicit.specs.declared.given.Given.{Given as GivenRec}
 use Rattle.elab_implicit.specs.Says.{AllGiven}
 use Rattle.elab_implicit.specs.Written.{given_in, found_for, are_there}
-use Rattle.elab_implicit.specs.Building.{base_init, base_default, base_tree, base_trees, first_trees, default_tree, member_default, member_init}
-use Rattle.elab_implicit.specs.Copying.{member_done, first_copied}
+use Rattle.elab_implicit.specs.Building.{base_init, base_default, base_trees, first_trees, default_tree, member_default, member_init}
 use Rattle.elab_implicit.proofs.GivenParts.{given_is, given_grown, found_is}
 use Rattle.elab_implicit.proofs.MemberSteps.{type_of_member}
 

@@ -1,16 +1,15 @@
 -- A table of the functions that trees name says of each function whether they name it.
-use Rattle.std.proofs.Common.{◌≡◌, ◌<◌, ◌∙◌, ◌==◌, ℕ, zero, suc, Bool, true, false, ◌||◌, List, [], ◌∷◌, ◌++◌, length, get_or, slice_set, replicate, fold, refl, sym, ap, arith}
+use Rattle.std.proofs.Common.{◌≡◌, ◌<◌, ◌∙◌, ◌==◌, ℕ, zero, suc, Bool, true, false, ◌||◌, List, [], ◌∷◌, length, get_or, slice_set, replicate, refl, sym, ap, arith}
 use Rattle.std.proofs.lemmas.Bool.{eqb-true, eq-eqb}
 use Rattle.std.specs.List.{list_any}
-use Rattle.cpp_types.specs.Typ.{Typ}
 use Rattle.elab_entry.specs.cpp_tree.declared.kinds.TKind.{TKind}
 use Rattle.elab_entry.specs.cpp_tree.declared.kinds.TKind.TheVariants as forms
 use Rattle.elab_entry.specs.cpp_tree.Trees.{Tree, node, Trees, none, more}
 use Rattle.elab_entry.specs.elab_rules.Statements.{Body}
 use Rattle.elab_entry.specs.elab_rules.Implicit.{names_function, refers, any_refers}
-use Rattle.elab_implicit.specs.Marks.{marked_kind, marked, all_marked, with_marks, body_marks, table_of}
+use Rattle.elab_implicit.specs.Marks.{marked_kind, marked, all_marked, body_marks, table_of}
 
-or_false : (a : Bool) → (a || false) ≡ a
+pub or_false : (a : Bool) → (a || false) ≡ a
 or_false true = refl
 or_false false = refl
 
@@ -18,13 +17,13 @@ or_true : (a : Bool) → (a || true) ≡ true
 or_true true = refl
 or_true false = refl
 
-or_twice : (a b c : Bool) → ((a || b) || c) ≡ (a || (b || c))
+pub or_twice : (a b c : Bool) → ((a || b) || c) ≡ (a || (b || c))
 or_twice true b c = refl
 or_twice false b c = refl
 
 -- One function
 
-set_length : (ms : List Bool) (f : ℕ) → length (slice_set ms f true) ≡ length ms
+pub set_length : (ms : List Bool) (f : ℕ) → length (slice_set ms f true) ≡ length ms
 set_length [] f = refl
 set_length (m ∷ ms) zero = refl
 set_length (m ∷ ms) (suc f) = ap suc (set_length ms f)
@@ -47,7 +46,7 @@ set_by : (ms : List Bool) (f k : ℕ) (b : Bool) → (f == k) ≡ b → k < leng
 set_by ms f k true e h = set_same ms f k h (eqb-true f k e) ∙ sym (or_true (get_or ms k false))
 set_by ms f k false e h = set_other ms f k (λ q. sym (eq-eqb f k q) ∙ e) ∙ sym (or_false (get_or ms k false))
 
-set_says : (ms : List Bool) (f k : ℕ) → k < length ms → get_or (slice_set ms f true) k false ≡ (get_or ms k false || (f == k))
+pub set_says : (ms : List Bool) (f k : ℕ) → k < length ms → get_or (slice_set ms f true) k false ≡ (get_or ms k false || (f == k))
 set_says ms f k h = set_by ms f k (f == k) refl h
 
 kind_length : (kind : TKind) (ms : List Bool) → length (marked_kind kind ms) ≡ length ms
@@ -123,9 +122,5 @@ table_says n k bs h =
 pub marks_length : (t : Tree) (ms : List Bool) → length (marked t ms) ≡ length ms
 marks_length t ms = tree_length t ms
 
-marks_append : (bs : List Body) (b : Body) (ms : List Bool) → body_marks (bs ++ b ∷ []) ms ≡ marked b.tree (body_marks bs ms)
-marks_append [] b ms = refl
-marks_append (c ∷ bs) b ms = marks_append bs b (marked c.tree ms)
-
-pub table_append : (n : ℕ) (bs : List Body) (b : Body) → table_of n (bs ++ b ∷ []) ≡ marked b.tree (table_of n bs)
-table_append n bs b = marks_append bs b (replicate n false)
+pub marks_say : (t : Tree) (ms : List Bool) (k : ℕ) → k < length ms → get_or (marked t ms) k false ≡ (get_or ms k false || refers k t)
+marks_say t ms k h = tree_says t ms k h

@@ -1,12 +1,11 @@
 -- What an implicit copy constructor does, part by part, over what is known and what is made.
-use Rattle.std.specs.Prelude.{ℕ, Bool, Option, Some, None, Result, Ok, if◌then◌else◌, slice_get}
+use Rattle.std.specs.Prelude.{ℕ, Bool, Result, Ok, if◌then◌else◌, slice_get}
 use Rattle.cpp_types.specs.Typ.{Typ, class}
-use Rattle.cpp_types.specs.Class.{Member}
 use Rattle.cpp_types.specs.declared.classes.At.{At}
 use Rattle.cpp_types.specs.declared.ranks.Cat.TheVariants.{Prvalue}
 use Rattle.elab_entry.specs.cpp_tree.declared.faults.ElabFault.{ElabFault}
 use Rattle.elab_entry.specs.cpp_tree.declared.kinds.TKind.TheVariants as forms
-use Rattle.elab_entry.specs.cpp_tree.Trees.{Tree, node, Trees, none, one, two}
+use Rattle.elab_entry.specs.cpp_tree.Trees.{Tree, node, one, two}
 use Rattle.elab_entry.specs.cpp_tree.Notation.{plain}
 use Rattle.elab_entry.specs.cpp_tree.Typing.{is_class_typ}
 use Rattle.elab_entry.specs.elab_ctx.Ctx.{Ctx, Work}

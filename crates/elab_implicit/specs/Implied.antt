@@ -1,5 +1,5 @@
 -- The bodies of implicit members, with what stands round a function put back as the code does it.
-use Rattle.std.specs.Prelude.{◌≡◌, ℕ, zero, suc, Bool, ◌&&◌, List, [], length, Option, Some, None, Result, Ok, if◌then◌else◌}
+use Rattle.std.specs.Prelude.{◌≡◌, ◌<◌, ℕ, zero, suc, Bool, false, ◌&&◌, List, [], length, get_or, Option, Some, None, Result, Ok, if◌then◌else◌}
 use Rattle.cpp_types.specs.Typ.{Typ, void, class, Typs, none as no_typs, more as and_typ}
 use Rattle.cpp_types.specs.declared.classes.At.{At}
 use Rattle.elab_entry.specs.cpp_tree.declared.program.FuncKind.{FuncKind}
@@ -17,14 +17,13 @@ use Rattle.elab_entry.specs.elab_scopes.declared.state.State.{State as StateRec}
 use Rattle.elab_entry.specs.elab_scopes.States.{state_of}
 use Rattle.elab_entry.specs.Round.{round_function}
 use Rattle.elab_entry.specs.Bodies.{entered, body_made}
-use Rattle.elab_implicit.specs.Marks.{table_of}
 
 abbrev pub stands_in_slot : Ctx → ℕ → Bool
 stands_in_slot c k = is_in_slot (func_at c.funcs k).class (index_of c k (func_at c.funcs k).class) c.slots
 
--- the table says of each of its functions whether a body names it
+-- the table says of each of its functions whether the unit refers to it
 pub record IsTable (ms : List Bool) (st : StateRec) : Type 0 where
-  pub is : ms ≡ table_of (length ms) (state_of st).bodies
+  pub says : (k : ℕ) → k < length ms → get_or ms k false ≡ is_referred (state_of st) k
 
 -- into a function of an object
 abbrev pub in_object : State → ℕ → State

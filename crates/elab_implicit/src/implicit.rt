@@ -16,7 +16,7 @@ use crate::copying::parts_copied;
 use crate::ending::destructor_tree;
 use crate::marks::{mark_names, table};
 use crate::object::enter_object;
-use crate::slots::stands_in_slot;
+use crate::slots::mark_slots;
 use cpp_types::{At, Ty, copy};
 use elab_entry::below::{ElabFault, FuncDecl, FuncKind, State, TNodeId, function_at};
 use elab_entry::{body_made, leave_function};
@@ -162,16 +162,13 @@ fn is_marked(marks: &[bool], func: u32) -> bool
     }
 }
 
-// Whether the unit refers to a function.
-fn is_referred(st: &State, marks: &[bool], func: u32) -> bool
-    requires table { IsTable marks.now st.now }
+// Whether the unit refers to a function: the table of its state says so.
+fn is_referred(_st: &State, marks: &[bool], func: u32) -> bool
+    requires table { IsTable marks.now _st.now }
     requires below { func < length marks.now }
-    ensures { result ≡ is_referred_of (state_of st.now) func }
+    ensures { result ≡ is_referred_of (state_of _st.now) func }
 {
-    if is_marked(marks, func) {
-        return true;
-    }
-    stands_in_slot(&st.env, func)
+    is_marked(marks, func)
 }
 
 // The class of a function, if that is implicit and something refers to it.
@@ -224,7 +221,7 @@ fn implied_below(
 }
 
 /// The bodies of implicit members, from the last function back: one refers only to functions before it and to itself.
-/// What bodies name is marked in a table, so each body is gone through once.
+/// What bodies name and what stands in slots is marked in a table, so each body and each slot is gone through once.
 pub fn with_implied(alloc: Global, st: &mut State) -> Result<(), ElabFault>
     ensures { Changes st.old st.new result (with_implied_of (state_of st.old)) }
 {
@@ -232,5 +229,6 @@ pub fn with_implied(alloc: Global, st: &mut State) -> Result<(), ElabFault>
         return Err(ElabFault::Memory);
     };
     let mut marks = table(alloc, &st.bodies, count)?;
+    mark_slots(&st.env, &mut marks);
     implied_below(alloc, st, &mut marks, count)
 }

@@ -10,7 +10,8 @@ use crate::places::stands;
 use elab_entry::below::{Body, TKind, TNode, TNodeId, kids_at, node_at};
 use std::alloc::{AllocError, Global};
 
-fn mark(marks: &mut Vec<bool>, func: u32)
+/// A function is marked.
+pub fn mark(marks: &mut Vec<bool>, func: u32)
     ensures { marks.new.items ≡ slice_set marks.old.items func true }
 {
     if let Some(found) = marks.get_mut(func as usize) {

@@ -1,6 +1,5 @@
 use Rattle.std.proofs.Common.{◌≡◌, Err, ap, rules}
 use Rattle.elab_entry.specs.elab_ctx.Ctx.{Ctx}
-use Rattle.elab_entry.specs.elab_rules.Statements.{State}
 use Rattle.elab_entry.specs.elab_scopes.States.{state_of}
 use Rattle.elab_implicit.proofs.GivenParts.{there_grown}
 use Rattle.elab_implicit.proofs.PartLists.{parts_done, parts_fail, parts_refused, lists_fail}

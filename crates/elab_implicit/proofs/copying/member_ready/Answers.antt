@@ -1,7 +1,7 @@
 use Rattle.std.proofs.Common.{◌≡◌, Err, refl, ap, map, rules}
 use Rattle.cpp_types.specs.Typ.{typ_of}
 use Rattle.elab_entry.specs.elab_rules.Implicit.{source_object, source_const}
-use Rattle.elab_entry.specs.elab_ctx.Ctx.{work_of, closure_of}
+use Rattle.elab_entry.specs.elab_ctx.Ctx.{closure_of}
 use Rattle.elab_entry.specs.elab_scopes.States.{state_of}
 use Rattle.elab_entry.proofs.elab_scopes.Choices.{does_fail}
 use Rattle.elab_implicit.proofs.CopyLists.{member_listed, member_faults, cleared_is}

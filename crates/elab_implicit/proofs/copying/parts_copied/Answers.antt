@@ -1,9 +1,8 @@
-use Rattle.std.proofs.Common.{◌≡◌, ◌∙◌, ap, sym, refl, subst}
-use Rattle.cpp_types.specs.Typ.{Typ, typ_of}
+use Rattle.std.proofs.Common.{◌≡◌, ◌∙◌, ap, sym, refl}
+use Rattle.cpp_types.specs.Typ.{typ_of}
 use Rattle.elab_entry.specs.cpp_tree.Arena.{trees_of}
 use Rattle.elab_entry.specs.elab_ctx.Ctx.{Work, work_of, with_item}
 use Rattle.elab_entry.specs.elab_rules.Implicit.{parts_copied, source_object, source_const}
-use Rattle.elab_entry.specs.elab_rules.Statements.{State}
 use Rattle.elab_entry.specs.elab_scopes.States.{state_of}
 use Rattle.elab_implicit.proofs.CopyLists.{lists_same, same_nodes}
 use Rattle.elab_implicit.proofs.copying.parts_copied.Goals as goal

@@ -1,4 +1,4 @@
-use Rattle.std.proofs.Common.{◌≡◌, ◌≤◌, ◌<◌, ◌∙◌, suc, Err, arith, length, refl, rules}
+use Rattle.std.proofs.Common.{◌≡◌, ◌∙◌, Err, arith, rules}
 use Rattle.elab_implicit.proofs.Implying.{implied_next, implied_fails, implied_done, changes_fail}
 use Rattle.elab_implicit.proofs.implicit.implied_below.Goals as goal
 
